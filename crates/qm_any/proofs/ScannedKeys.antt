@@ -10,7 +10,7 @@ use Rattle.qm_model.specs.Ranges.{Limit, is_after, is_before, keys_in, pairs_in}
 use Rattle.qm_model.proofs.KeyOrder.{Has, Has-first, Has-later, and-true, contains-filter}
 use Rattle.qm_model.proofs.OrderedLists.{live-contains}
 use Rattle.qm_model.proofs.OrderedMoves.{contains-by_key}
-use Rattle.qm_scan.specs.Scans.{valued}
+use Rattle.qm_batch.specs.Scans.{valued}
 
 abbrev firsts : List (Bytes × Bytes) → List Bytes
 firsts ps = map (λ p. p.0) ps

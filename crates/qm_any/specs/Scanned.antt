@@ -2,7 +2,7 @@
 use Rattle.std.specs.Prelude.{ℕ, List, map}
 use Rattle.std.specs.Borrow.{MutBor}
 use Rattle.qm_model.specs.Operations.{Bytes, Operation}
-use Rattle.qm_scan.specs.Scans.{left_of}
+use Rattle.qm_batch.specs.Scans.{left_of}
 use Rattle.qm_any.specs.Databases.{Database}
 use Rattle.qm_any.specs.declared.scan.RangeScan as ranges
 use Rattle.qm_any.specs.declared.scan.KeyScan as keys

@@ -1,8 +1,8 @@
 -- The own operations of a step: those of its writes, and those of what was decided behind them.
-use Rattle.std.proofs.Common.{◌≡◌, ℕ, Bool, true, ◌+◌, ◌-◌, cond, List, [], ◌∷◌, ◌++◌, length, length-append, map, drop, count_by, refl, ap, ap₂, sym, ◌∙◌, subst, Option, None, Some, arith, append_assoc}
+use Rattle.std.proofs.Common.{◌≡◌, ℕ, Bool, true, ◌+◌, ◌-◌, cond, List, [], ◌∷◌, ◌++◌, length, length-append, map, count_by, refl, ap, ap₂, sym, ◌∙◌, subst, Option, None, Some, arith, append_assoc}
 use Rattle.std.specs.Prelude.{bytes_eq, is_none, is_some, option_map, All}
 use Rattle.std.specs.List.{IsDistinct}
-use Rattle.std.proofs.lemmas.List.{drop_at, map-append, length-map}
+use Rattle.std.proofs.lemmas.List.{map-append, length-map}
 use Rattle.std.proofs.lemmas.List.Sums.{sum_by-cons}
 use Rattle.std.proofs.lemmas.List.Elements.{All-append, All-from_recursion, All-weaker, recursion_from_All}
 use Rattle.qm_operations.specs.Parts.{is_update}
@@ -14,11 +14,12 @@ use Rattle.qm_model.specs.Step.{Kind, committed}
 use Rattle.qm_model.specs.Walk.{Limits, Rules, Walked, walk}
 use Rattle.qm_model.proofs.Decisions.{decided-live, decided-once}
 use Rattle.qm_model.proofs.OrderedLists.{some-map}
+use Rattle.qm_step.specs.Bases.{Base, IsBase}
 use Rattle.qm_step.specs.Changes.{stands_at}
 use Rattle.qm_step.specs.Going.{Decided, write_for, AreDecided}
 use Rattle.qm_step.specs.Kinds.{AreWritten, CountsMoves}
 use Rattle.qm_step.specs.PlanViews.{decided_view, decided_views}
-use Rattle.qm_batch.specs.PlanPaths.{Path, AreOwn, IsPath}
+use Rattle.qm_batch.specs.PlanPaths.{AreBehind, AreOwn}
 use Rattle.qm_step.specs.declared.decided.Decided as declared
 use Rattle.qm_step.specs.Rings.{touch_in}
 use Rattle.qm_step.specs.Touches.{Touch, IsFrom, IsKeyed, Once, operations_of}
@@ -100,17 +101,16 @@ pub decided-apart : {P : Type 0} (rules : Rules P) (base list : List Operation) 
 decided-apart {P} rules base list from limits policy next ds end are =
     subst (λ (us : List Write). IsDistinct bytes_eq (map (λ (d : Write). d.key) us)) (sym (ap (λ (x : Walked P). x.decisions) are.makes)) (decided-once rules list from limits policy)
 
--- what a path goes over are the operations of writes, where these make its list
-pub path-written : (kind : Kind) (path : Path) (lent base : List Operation) (ws : List Write) → IsPath path lent base (base ++ kind.writes base ws) → AreWritten kind base ws path.made
-path-written kind path lent base ws on =
-    let made = operations_of path.made in
-    let writes = kind.writes base ws in
-    record {
-      operations = sym (drop_at base made (length base) refl) ∙ ap (drop (length base)) on.makes ∙ drop_at base writes (length base) refl;
-      from = on.from;
-      keyed = on.keyed;
-      once = on.once;
-    }
+-- the operations of writes stand behind a base list and make the one with them
+pub written-behind : (kind : Kind) (known : Base) (made : List Touch) (lent base : List Operation) (ws : List Write) → IsBase known lent base → AreWritten kind base ws made → AreBehind known made lent base (base ++ kind.writes base ws)
+written-behind kind known made lent base ws is written replaced are = record {
+  known = is;
+  makes = ap (λ ops. base ++ ops) written.operations;
+  from = written.from;
+  keyed = written.keyed;
+  once = written.once;
+  replaced = are;
+}
 
 -- how many of the decided keys go
 pub evicted-shown : {K V : Type 0} (key : K → Bytes) (value : V → Bytes) (ds : List (declared.Decided K V)) → count_by (λ d. is_none d.value) (decided_views key value ds) ≡ count_by (λ d. is_none d.value) ds

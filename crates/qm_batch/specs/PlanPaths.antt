@@ -28,6 +28,11 @@ pub record IsPath (path : Path) (lent base list : List Operation) : Type 0 where
   pub once : Once (operations_of path.made)
   pub replaced : AreReplaced path.replaced path.made
 
+-- these operations stand behind a base list of which this is known, and make this list: with the locations that they replace
+-- they are what a walk goes over
+abbrev pub AreBehind : Base → List Touch → (lent base list : List Operation) → Type 0
+AreBehind known made lent base list = (replaced : BTreeSet ℕ) → AreReplaced replaced made → IsPath (record { base = known; made = made; replaced = replaced }) lent base list
+
 -- a live update, with where its key stands in the base list
 abbrev pub found_view : {U : Type 0} → (U → Operation) → found.Found U → Touch
 found_view update_view f = record { operation = update_view f.update; before = f.before }
@@ -43,4 +48,4 @@ pub record AreOwn {P : Type 0} (kind : Kind) (rules : Rules P) (policy next : P)
 module _ {U K V : Type 0} (update_view : U → Operation) (key : K → Bytes) (value : V → Bytes) where
   -- what a walk goes over
   abbrev pub path_view : {F I : Type 0} → path.Path F I U K V → Path
-  path_view p = record { base = base_view p.base; made = touch_views update_view key value p.made.items; replaced = p.replaced }
+  path_view p = record { base = base_view p.base.now; made = touch_views update_view key value p.made.now; replaced = p.replaced }

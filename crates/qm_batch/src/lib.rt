@@ -5,6 +5,7 @@ pub mod apply;
 pub mod neighbours;
 pub mod plan;
 pub mod read;
+mod scan;
 pub mod writes;
 
 pub use apply::apply_diffs;
@@ -13,4 +14,5 @@ pub use plan::{Plan, plain, staged};
 pub use qm_base::Write;
 pub use qm_step::{Base, Layer, Read, Wanted, is_before, is_below};
 pub use read::{read_key, read_keys};
+pub use scan::Scan;
 pub use writes::Writes;

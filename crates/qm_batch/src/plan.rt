@@ -1,7 +1,8 @@
 //! What a batch makes of its base list.
 
 ghost use Rattle.std.specs.List.{IsDistinct};
-ghost use Rattle.std.specs.Prelude.{bytes_eq, ◌≡◌, ◌≢◌, ◌≤◌, ◌^◌, ◌++◌, ◌+◌, ◌-◌, ◌==◌, ℕ, List, length, map, count_by, option_map, is_none, is_some, All, IfSome, IfOk, IfErr, OnOk, if◌then◌else◌};
+ghost use Rattle.std.specs.Vec.{vec_capacity};
+ghost use Rattle.std.specs.Prelude.{bytes_eq, ◌≡◌, ◌≢◌, ◌<◌, ◌≤◌, ◌^◌, ◌++◌, ◌+◌, ◌-◌, ◌==◌, ℕ, List, length, map, count_by, option_map, is_none, is_some, All, IfSome, IfOk, IfErr, OnOk, if◌then◌else◌};
 ghost use Rattle.qm_operations.specs.Parts as parts;
 ghost use Rattle.qm_operations.specs.Views.{operation_view};
 ghost use Rattle.qm_model.specs.Bits.{bits};
@@ -11,11 +12,11 @@ ghost use Rattle.qm_model.specs.Step.{committed, policy_after, step};
 ghost use Rattle.qm_model.specs.Writes as writes;
 ghost use Rattle.qm_step.specs.Bases.{base_view, IsBase};
 ghost use Rattle.qm_step.specs.Going.{write_for, IsDecided};
-ghost use Rattle.qm_step.specs.Kinds.{kind_of, CountsMoves, HasRing};
+ghost use Rattle.qm_step.specs.Kinds.{kind_of, AreWritten, CountsMoves, HasRing};
 ghost use Rattle.qm_base.specs.Reads.{IsRead, IsReadError};
 ghost use Rattle.qm_step.specs.Lent.{IsLent, NoneBelow};
 ghost use Rattle.qm_step.specs.PlanViews.{decided_views, touch_views};
-ghost use Rattle.qm_batch.specs.PlanPaths.{AreOwn, IsPath, path_view};
+ghost use Rattle.qm_batch.specs.PlanPaths.{AreOwn};
 ghost use Rattle.qm_step.specs.Rings.{touch_in};
 ghost use Rattle.qm_step.specs.Touches.{IsFrom, operations_of};
 ghost use Rattle.qm_step.specs.Views.{write_view, wanted_view, AreReads, IsPlan};
@@ -27,7 +28,7 @@ mod walk;
 
 use self::ordered::befores_of;
 use self::over::written_over;
-use self::walk::{Path, Walked, walk_from};
+use self::walk::{Walked, walk_from};
 use qm_base::{Error, Items, JournalError, Location, Write};
 use qm_bits::Candidates;
 use qm_chain::{Diff, Policy};
@@ -35,7 +36,7 @@ use qm_operations::{Operation, Update};
 use qm_step::decided::evicted;
 use qm_step::diff::diff_of_touches;
 use qm_step::kind::Steps;
-use qm_step::touch::{Touch, replaced_by};
+use qm_step::touch::Touch;
 use qm_step::writes::last_writes;
 use qm_step::{Base, Wanted};
 use std::alloc::{AllocError, Global};
@@ -116,40 +117,36 @@ fn made_inactive<F, U: Update>(touches: &[Touch<F, U>], live: u64, behind: u64) 
     (touches.len() as u64 + live).saturating_sub(behind)
 }
 
-// The own operations of a step whose walk went along a path: those of the writes, and what was decided, with so many keys
-// live behind the writes.
+// The own operations of a step whose walk is over: those of the writes, and what was decided, with so many keys live behind
+// the writes.
 fn own_of<F, I: qm_index::Unordered<Value = Location<F>>, L: Items, U: Steps<F, I>>(
     alloc: Global,
-    path: Path<'_, '_, F, I, U>,
+    index: &I,
     log: &mut L,
+    base: &Base<'_, F, U>,
+    made: Vec<Touch<F, U>>,
     walked: Walked<U::Key, U::Value>,
     behind: u64,
 ) -> Result<Own<F, U>, Error>
-    requires { path.base.size ≤ 2 ^ 62 }
-    ensures touches { (lent list : List model.Operation) (ws : List writes.Write) → IsLent L.reads U.form I.index_key (I.entries path.entry.index.now) log.old lent
-        → IsPath (path_view U.view U.Key.bytes U.Value.bytes path.entry) lent list (list ++ (kind_of U.form).writes list ws) → HasRing U.form lent → HasRing U.form list
+    requires { base.now.size ≤ 2 ^ 62 }
+    ensures touches { (lent list : List model.Operation) (ws : List writes.Write) → IsLent L.reads U.form I.index_key (I.entries index.now) log.old lent
+        → IsBase (base_view base.now) lent list → AreWritten (kind_of U.form) list ws (touch_views U.view U.Key.bytes U.Value.bytes made.items) → HasRing U.form lent → HasRing U.form list
         → All (IsDecided list (list ++ (kind_of U.form).writes list ws)) (decided_views U.Key.bytes U.Value.bytes walked.decided.items)
         → IsDistinct bytes_eq (map (λ d. d.key) (map write_for (decided_views U.Key.bytes U.Value.bytes walked.decided.items)))
-        → IfSome (L.reads.told log.old) (λ _. IfOk result (λ own. touch_views U.view U.Key.bytes U.Value.bytes own.touches.items ≡ touch_views U.view U.Key.bytes U.Value.bytes path.entry.made.items
+        → IfSome (L.reads.told log.old) (λ _. IfOk result (λ own. touch_views U.view U.Key.bytes U.Value.bytes own.touches.items ≡ touch_views U.view U.Key.bytes U.Value.bytes made.items
         ++ map (touch_in list) ((kind_of U.form).moves (list ++ (kind_of U.form).writes list ws) (map write_for (decided_views U.Key.bytes U.Value.bytes walked.decided.items))))) }
     ensures moves { IfOk result (λ _. CountsMoves (kind_of U.form).moves) }
     ensures live { IfOk result (λ own. own.live ≡ behind - count_by (λ d. is_none d.value) walked.decided.items) }
     ensures floor { IfOk result (λ own. own.floor ≡ walked.floor) }
-    ensures count { IfOk result (λ own. length path.entry.made.items ≤ length own.touches.items) }
+    ensures count { IfOk result (λ own. length made.items ≤ length own.touches.items) }
     ensures read { IsRead L.reads log.old log.new }
     ensures error { IfErr result (IsReadError L.reads log.old log.new) }
-    ensures whole { (lent : List model.Operation) → IsLent L.reads U.form I.index_key (I.entries path.entry.index.now) log.old lent → NoneBelow (L.reads.start log.old) lent
+    ensures whole { (lent : List model.Operation) → IsLent L.reads U.form I.index_key (I.entries index.now) log.old lent → NoneBelow (L.reads.start log.old) lent
         → IfErr result (λ e. (n : ℕ) → e ≢ Error.Journal (JournalError.ItemPruned n)) }
 {
-    let Path {
-        index,
-        base,
-        made,
-        ..
-    } = path;
     let Walked { decided, floor } = walked;
     let live = behind.saturating_sub(evicted(&decided) as u64);
-    let found = befores_of(alloc, index, log, &base, &made, &decided)?;
+    let found = befores_of(alloc, index, log, base, &made, &decided)?;
     let touches = U::moved(alloc, base.size, made, decided, &found)?;
     Ok(Own {
         touches,
@@ -158,7 +155,7 @@ fn own_of<F, I: qm_index::Unordered<Value = Location<F>>, L: Items, U: Steps<F, 
     })
 }
 
-// The own operations of a step whose walk goes along a path: those of the writes, and what the policy decides.
+// The own operations of a step: those of its writes, which are given, and what the policy decides.
 fn own_along<
     F,
     I: qm_index::Unordered<Value = Location<F>>,
@@ -168,26 +165,28 @@ fn own_along<
     P: Policy<F, U::Key, U::Value>,
 >(
     alloc: Global,
-    activity: &B,
-    path: Path<'_, '_, F, I, U>,
+    index: &I,
+    candidates: &B,
     log: &mut L,
+    base: &Base<'_, F, U>,
+    made: Vec<Touch<F, U>>,
     policy: &mut P,
 ) -> Result<Own<F, U>, Error>
-    requires size { path.base.size ≤ 2 ^ 62 }
-    requires live { path.base.live ≤ path.base.size }
-    ensures own { (lent list : List model.Operation) (ws : List writes.Write) → IsLent L.reads U.form I.index_key (I.entries path.entry.index.now) log.old lent → B.activity activity.now ≡ bits lent
-        → IsPath (path_view U.view U.Key.bytes U.Value.bytes path.entry) lent list (list ++ (kind_of U.form).writes list ws) → HasRing U.form lent → HasRing U.form list
+    requires size { base.now.size ≤ 2 ^ 62 }
+    requires live { base.now.live ≤ base.now.size }
+    ensures own { (lent list : List model.Operation) (ws : List writes.Write) → IsLent L.reads U.form I.index_key (I.entries index.now) log.old lent → B.activity candidates.now ≡ bits lent
+        → IsBase (base_view base.now) lent list → AreWritten (kind_of U.form) list ws (touch_views U.view U.Key.bytes U.Value.bytes made.items) → HasRing U.form lent → HasRing U.form list
         → IfSome (L.reads.told log.old) (λ _. IfOk result (λ own. AreOwn (kind_of U.form) P.rules policy.old policy.new (touch_views U.view U.Key.bytes U.Value.bytes own.touches.items) own.live own.floor list ws)) }
-    ensures count { IfOk result (λ own. own.live ≤ path.entry.base.size + length own.touches.items) }
+    ensures count { IfOk result (λ own. own.live ≤ base.now.size + length own.touches.items) }
     ensures read { IsRead L.reads log.old log.new }
     ensures error { IfErr result (IsReadError L.reads log.old log.new) }
-    ensures whole { (lent : List model.Operation) → IsLent L.reads U.form I.index_key (I.entries path.entry.index.now) log.old lent → NoneBelow (L.reads.start log.old) lent
-        → L.reads.start log.old ≤ path.entry.base.floor → IfErr result (λ e. (n : ℕ) → e ≢ Error.Journal (JournalError.ItemPruned n)) }
+    ensures whole { (lent : List model.Operation) → IsLent L.reads U.form I.index_key (I.entries index.now) log.old lent → NoneBelow (L.reads.start log.old) lent
+        → L.reads.start log.old ≤ base.now.floor → IfErr result (λ e. (n : ℕ) → e ≢ Error.Journal (JournalError.ItemPruned n)) }
 {
-    let behind = live_behind(&path.made, path.base.live);
-    let limits = policy.limits(made_inactive(&path.made, path.base.live, behind));
-    let walked = walk_from(alloc, activity, &path, log, policy, limits)?;
-    own_of(alloc, path, log, walked, behind)
+    let behind = live_behind(&made, base.live);
+    let limits = policy.limits(made_inactive(&made, base.live, behind));
+    let walked = walk_from(alloc, index, candidates, log, base, &made, policy, limits)?;
+    own_of(alloc, index, log, base, made, walked, behind)
 }
 
 // The own operations of a step, found over its base list: those of the writes, and what the policy decides.
@@ -222,14 +221,7 @@ fn own_operations<
         let last = last_writes(alloc, wanted)?;
         written_over(alloc, index, log, base.layers, wanted.reads, &last)?
     };
-    let replaced = replaced_by(alloc, &made)?;
-    let path = Path {
-        index,
-        base: base.lent(),
-        made,
-        replaced,
-    };
-    own_along(alloc, candidates, path, log, policy)
+    own_along(alloc, index, candidates, log, base, made, policy)
 }
 
 // The floor of a commit at this location: where the walk ended, or the location where no key is live.
@@ -239,16 +231,17 @@ fn commit_floor(live: u64, at: u64, end: u64) -> u64
     if live == 0 { at } else { end }
 }
 
-// The operations alone.
+// The operations alone, with room for one more.
 fn operations_in<F, U: Update>(
     alloc: Global,
     touches: Vec<Touch<F, U>>,
 ) -> Result<Vec<Operation<F, U>>, AllocError>
-    ensures { IfOk result (λ operations. operations.items ≡ map (λ t. t.operation) touches.items) }
+    ensures operations { IfOk result (λ operations. operations.items ≡ map (λ t. t.operation) touches.items) }
+    ensures room { IfOk result (λ operations. length operations.items < vec_capacity operations) }
 {
-    let mut operations = Vec::new(alloc);
+    let mut operations = Vec::with_capacity(alloc, touches.len() + 1)?;
     for touch in touches {
-        operations.push(touch.operation)?;
+        operations.push_reserved(touch.operation);
     }
     Ok(operations)
 }
@@ -271,7 +264,7 @@ fn planned<F, U: Update>(
     let diff = diff_of_touches(alloc, size, &own.touches)?;
     let floor = commit_floor(own.live, size + own.touches.len() as u64, own.floor);
     let mut operations = operations_in(alloc, own.touches)?;
-    operations.push(Operation::CommitFloor(metadata, Location::new(floor)))?;
+    operations.push_reserved(Operation::CommitFloor(metadata, Location::new(floor)));
     Ok(Plan {
         operations,
         diff,

@@ -6,13 +6,13 @@ ghost use Rattle.qm_any.specs.Databases.{IsDatabase, IsLeft};
 ghost use Rattle.qm_store.specs.Reads.{IsReadError};
 ghost use Rattle.qm_step.specs.Lent.{NoneBelow};
 ghost use Rattle.qm_base.specs.Views.{limit_of, pair_view};
-ghost use Rattle.qm_scan.specs.Scans.{left_of};
+ghost use Rattle.qm_batch.specs.Scans.{left_of};
 
 use qm_any::db::{Db, LaidOut};
 use qm_base::{ByteString, Error, Hasher, JournalError, Location};
+use qm_batch::Scan;
 use qm_merkle::Family;
 use qm_operations::Update;
-use qm_scan::Scan;
 use qm_step::kind::Steps;
 use qm_store::Store;
 use std::alloc::{AllocError, Global};

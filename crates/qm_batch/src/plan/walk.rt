@@ -19,7 +19,7 @@ ghost use Rattle.qm_index.specs.Indexed.{IsIndexed};
 ghost use Rattle.qm_base.specs.Reads.{IsRead, IsReadError};
 ghost use Rattle.qm_step.specs.Lent.{IsLent};
 ghost use Rattle.qm_step.specs.PlanViews.{decided_views, touch_views};
-ghost use Rattle.qm_batch.specs.PlanPaths.{found_view, path_view, IsPath};
+ghost use Rattle.qm_batch.specs.PlanPaths.{found_view, path_view, AreBehind, IsPath};
 ghost use Rattle.qm_step.specs.Touches.{is_there, moved_touch, operations_of, AreReplaced, IsFrom, IsKeyed, IsMoveAt, Once, Touch as Made};
 ghost use Rattle.qm_step.specs.Views.{change_view};
 
@@ -29,8 +29,8 @@ use qm_bits::Candidates;
 use qm_chain::{Action, DiffEntry, Entry, Limits, Policy, Walk};
 use qm_operations::{Operation, Update};
 use qm_step::decided::Decided;
-use qm_step::found::{twin_next, update_in};
-use qm_step::touch::Touch;
+use qm_step::found::update_in;
+use qm_step::touch::{Touch, replaced_by};
 use qm_step::{Base, Layer};
 use std::alloc::{AllocError, Global};
 use std::collections::BTreeSet;
@@ -42,11 +42,11 @@ const ROUND: u64 = 1_024;
 // What a walk goes over: a base list, the operations that are put behind it, and the locations of the base list whose live
 // updates these replace. The index is lent for the base list or one on the way to it.
 #[derive(Drop)]
-pub(crate) struct Path<'i, 'b, F, I, U: Update> {
-    pub(crate) index: &'i I,
-    pub(crate) base: Base<'b, F, U>,
-    pub(crate) made: Vec<Touch<F, U>>,
-    pub(crate) replaced: BTreeSet<u64>,
+struct Path<'i, 'b, F, I, U: Update> {
+    index: &'i I,
+    base: &'i Base<'b, F, U>,
+    made: &'i [Touch<F, U>],
+    replaced: BTreeSet<u64>,
 }
 
 /// What a walk decided, and where it ended.
@@ -61,13 +61,6 @@ pub(crate) struct Walked<K, V> {
 struct Going<F, K, V> {
     walk: Walk<F>,
     decided: Vec<Decided<K, V>>,
-}
-
-/// Candidates in order, and where the next ones begin.
-#[derive(Drop)]
-struct Round<F> {
-    locations: Vec<Location<F>>,
-    next: Location<F>,
 }
 
 /// A live update, and where its key's live update stands in the base list.
@@ -201,21 +194,6 @@ fn unreplaced_at<F, I: qm_index::Unordered<Value = Location<F>>, L: Items, U: Up
     }
 }
 
-// The update that an operation behind the base list is.
-fn again<F, U: Update>(alloc: Global, touch: &Touch<F, U>) -> Result<Option<Found<U>>, Error>
-    ensures operation { IfOk result (λ found. option_map (λ f. U.view f.update) found ≡ said_by (operation_view U.view U.Key.bytes U.Value.bytes touch.now.operation)) }
-    ensures before { IfOk result (λ found. IfSome found (λ f. f.before ≡ touch.now.before)) }
-    ensures memory { IfErr result (λ e. e ≡ Error.Memory) }
-{
-    match twin_update(alloc, &touch.operation)? {
-        Some(update) => Ok(Some(Found {
-            update,
-            before: touch.before,
-        })),
-        None => Ok(None),
-    }
-}
-
 // The live update at a place among the operations behind the base list.
 fn made_at<F, U: Update>(
     alloc: Global,
@@ -226,8 +204,14 @@ fn made_at<F, U: Update>(
         → All (IsFrom base) (touch_views U.view U.Key.bytes U.Value.bytes made.now) → length base ≤ at → place ≡ at - length base → IfOk result (λ found. IsMoveAt (option_map (found_view U.view) found) base list at) }
     ensures memory { IfErr result (λ e. e ≡ Error.Memory) }
 {
-    match made.get(place as usize) {
-        Some(touch) => again(alloc, touch),
+    let Some(touch) = made.get(place as usize) else {
+        return Ok(None);
+    };
+    match twin_update(alloc, &touch.operation)? {
+        Some(update) => Ok(Some(Found {
+            update,
+            before: touch.before,
+        })),
         None => Ok(None),
     }
 }
@@ -257,25 +241,10 @@ fn live_at<F, I: qm_index::Unordered<Value = Location<F>>, L: Items, U: Update>(
     ensures pruned { L.reads.start log.old ≤ at → IfErr result (λ e. (n : ℕ) → e ≢ Error.Journal (JournalError.ItemPruned n)) }
 {
     if path.base.size <= at {
-        return made_at(alloc, &path.made, at - path.base.size);
+        return made_at(alloc, path.made, at - path.base.size);
     }
     let update = unreplaced_at(alloc, path.index, log, path.base.layers, &path.replaced, at)?;
     Ok(standing(update, at))
-}
-
-// What the policy says of the live update at a location.
-fn ask<F, K: ByteString, V: ByteString, P: Policy<F, K, V>>(
-    alloc: Global,
-    policy: &mut P,
-    at: Location<F>,
-    key: &K,
-    value: V,
-) -> Result<Action<V>, AllocError>
-    ensures action { IfOk result (λ action. action_view V.bytes action ≡ (P.rules.decide policy.old at (K.bytes key.now) (V.bytes value)).0) }
-    ensures next { IfOk result (λ _. policy.new ≡ (P.rules.decide policy.old at (K.bytes key.now) (V.bytes value)).1) }
-{
-    let decision = policy.decide(alloc, Entry::new(at, key, value))?;
-    Ok(decision.into_action())
 }
 
 // What is to be noted of a key: its new value, or none where it goes; nothing where the walk ends.
@@ -336,10 +305,10 @@ fn decide<F, U: Update, P: Policy<F, U::Key, U::Value>>(
     ensures memory { IfErr result (λ e. e ≡ Error.Memory) }
 {
     let Found { update, before } = found;
-    let key = update.key().twin(alloc)?;
-    let next = twin_next(alloc, &update)?;
+    let (key, value, next) = update.into_parts();
     let at = Location::new(going.walk.floor.get());
-    let action = ask(alloc, policy, at, &key, update.into_value())?;
+    let decision = policy.decide(alloc, Entry::new(at, &key, value))?;
+    let action = decision.into_action();
     note(going, key, next, before, action)
 }
 
@@ -442,24 +411,6 @@ fn round_of(entries: u64) -> usize
     entries.clamp(1, ROUND) as usize
 }
 
-// A round of candidates from a location on, where it ends before that one, with so many live updates left to be decided.
-fn round_from<F, B: Candidates<F>>(
-    alloc: Global,
-    activity: &B,
-    from: Location<F>,
-    end: Location<F>,
-    entries: u64,
-) -> Result<Round<F>, AllocError>
-    requires { from < end }
-    ensures found { IfOk result (λ round. candidates (B.activity activity.now) from round.next ≡ round.locations.items) }
-    ensures spaced { IfOk result (λ round. IsSpaced from round.locations.items round.next) }
-    ensures next { IfOk result (λ round. (from < round.next) × (round.next ≤ end)) }
-{
-    let mut locations = Vec::new(alloc);
-    let next = activity.fill(from, end, round_of(entries), &mut locations)?;
-    Ok(Round { locations, next })
-}
-
 // Visits a round of candidates, those from a location on, and tells where the next one begins, if the walk goes on.
 fn walk_round<
     F,
@@ -493,9 +444,9 @@ fn walk_round<
     ensures pruned { L.reads.start log.old ≤ going.old.walk.floor → IfErr result (λ e. (n : ℕ) → e ≢ Error.Journal (JournalError.ItemPruned n)) }
 {
     let end = Location::new(going.walk.end.get());
-    let round = round_from(alloc, activity, from, end, going.walk.entries)?;
-    let next = Location::new(round.next.get());
-    visit_all(alloc, path, log, policy, going, &round.locations, next)
+    let mut round = Vec::new(alloc);
+    let next = activity.fill(from, end, round_of(going.walk.entries), &mut round)?;
+    visit_all(alloc, path, log, policy, going, &round, next)
 }
 
 // Passes what is left where no live update is, if the walk may still decide one.
@@ -566,23 +517,32 @@ pub(crate) fn walk_from<
     P: Policy<F, U::Key, U::Value>,
 >(
     alloc: Global,
+    index: &I,
     activity: &B,
-    path: &Path<'_, '_, F, I, U>,
     log: &mut L,
+    base: &Base<'_, F, U>,
+    made: &[Touch<F, U>],
     policy: &mut P,
     limits: Limits,
 ) -> Result<Walked<U::Key, U::Value>, Error>
-    requires { path.now.base.size ≤ 2 ^ 62 }
-    ensures value { (lent base list : List model.Operation) → IsLent L.reads U.form I.index_key (I.entries path.now.index.now) log.old lent → B.activity activity.now ≡ bits lent
-        → IsPath (path_view U.view U.Key.bytes U.Value.bytes path.now) lent base list
-        → IfSome (L.reads.told log.old) (λ _. IfOk result (λ walked. AreDecided base list (decided_views U.Key.bytes U.Value.bytes walked.decided.items) walked.floor policy.new
-        (walks.walk P.rules list (floor base) (record { entries = limits.entries; skips = limits.skips }) policy.old))) }
+    requires { base.now.size ≤ 2 ^ 62 }
+    ensures value { (lent front list : List model.Operation) → IsLent L.reads U.form I.index_key (I.entries index.now) log.old lent → B.activity activity.now ≡ bits lent
+        → AreBehind (base_view base.now) (touch_views U.view U.Key.bytes U.Value.bytes made.now) lent front list
+        → IfSome (L.reads.told log.old) (λ _. IfOk result (λ walked. AreDecided front list (decided_views U.Key.bytes U.Value.bytes walked.decided.items) walked.floor policy.new
+        (walks.walk P.rules list (floor front) (record { entries = limits.entries; skips = limits.skips }) policy.old))) }
     ensures read { IsRead L.reads log.old log.new }
     ensures error { IfErr result (IsReadError L.reads log.old log.new) }
-    ensures pruned { L.reads.start log.old ≤ path.now.base.floor → IfErr result (λ e. (n : ℕ) → e ≢ Error.Journal (JournalError.ItemPruned n)) }
+    ensures pruned { L.reads.start log.old ≤ base.now.floor → IfErr result (λ e. (n : ℕ) → e ≢ Error.Journal (JournalError.ItemPruned n)) }
 {
-    let floor = path.base.floor.get();
-    let tip = floor.max(path.base.size + path.made.len() as u64);
+    let replaced = replaced_by(alloc, made)?;
+    let path = Path {
+        index,
+        base,
+        made,
+        replaced,
+    };
+    let floor = base.floor.get();
+    let tip = floor.max(base.size + made.len() as u64);
     let walk = Walk::new(
         Location::new(floor),
         Location::new(tip),
@@ -593,7 +553,7 @@ pub(crate) fn walk_from<
         walk,
         decided: Vec::new(alloc),
     };
-    walk_on(alloc, activity, path, log, policy, &mut going)?;
+    walk_on(alloc, activity, &path, log, policy, &mut going)?;
     Ok(Walked {
         decided: going.decided,
         floor: going.walk.floor.get(),

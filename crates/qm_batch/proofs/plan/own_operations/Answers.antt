@@ -1,9 +1,6 @@
-use Rattle.std.proofs.Common.{◌++◌, ◌≤◌, ◌^◌, ap, sym, arith, subst, inl, refl}
-use Rattle.qm_model.proofs.Results.{err-then, told-then, told-err, ok-then}
-use Rattle.qm_step.specs.Bases.{Base, IsBase}
+use Rattle.std.proofs.Common.{sym, arith, subst, inl, refl}
+use Rattle.qm_model.proofs.Results.{err-then, told-then, told-err}
 use Rattle.qm_step.specs.Lent.{NoneBelow}
-use Rattle.qm_step.specs.PlanViews.{touch_views}
-use Rattle.qm_step.specs.Touches.{AreReplaced}
 use Rattle.qm_step.specs.Views.{wanted_view}
 use Rattle.qm_base.proofs.Reading.{read-then, error-then, read-none}
 use Rattle.qm_step.proofs.Reading.{lent-then, told}
@@ -16,31 +13,20 @@ returns g c = record {
   own = λ lent base is active from lent_ring ring reads.
       let key = g.U.Key.ByteString.bytes in
       let value = g.U.Value.ByteString.bytes in
-      let views = touch_views g.U.Update.view key value in
       let ws = wanted_view key value c.args.wanted.now in
       let items = g.L.Items.reads.told c.args.log.now in
       let read = c.written_over.ensures.read in
       let mid = lent-then g.L.Items.reads _ g.I.Unordered.index_key (g.I.Unordered.entries c.args.index.now) c.args.log.now c.written_over.new.log lent read is in
       told-then _ _ items (c.in_ok-made.ensures.value lent base ws is from.leads lent_ring ring reads c.in_ok-last.ensures) (λ made.
-      told _ _ _ read.told (c.own_along.ensures.own lent base ws mid active (record {
-        known = subst (λ b. IsBase b lent base) (sym c.lent.ensures) from;
-        makes = ap (λ ops. base ++ ops) made.operations;
-        from = made.from;
-        keyed = made.keyed;
-        once = made.once;
-        replaced = subst (λ ts. AreReplaced c.in_ok-replaced.replaced (views ts)) c.deref.ensures.value c.in_ok-replaced.ensures;
-      }) lent_ring ring));
-  count =
-      let size = ap (λ (b : Base). b.size) c.lent.ensures in
-      ok-then c.own_along.result c.own_along.ensures.count (λ own live. omega (arith, size, live));
+      told _ _ _ read.told (c.own_along.ensures.own lent base ws mid active from made lent_ring ring));
+  count = c.own_along.ensures.count;
   read = read-then g.L.Items.reads g.met.L.Items.read_again c.args.log.now c.written_over.new.log c.own_along.new.log c.written_over.ensures.read c.own_along.ensures.read;
   error = err-then c.own_along.result c.own_along.ensures.error (λ e was. error-then g.L.Items.reads g.met.L.Items.failed_later c.args.log.now c.written_over.new.log c.own_along.new.log e c.written_over.ensures.read was);
   whole = λ lent is none above.
       let read = c.written_over.ensures.read in
       let same = read.start in
-      let low = ap (λ (b : Base). b.floor) c.lent.ensures in
       let mid = lent-then g.L.Items.reads _ g.I.Unordered.index_key (g.I.Unordered.entries c.args.index.now) c.args.log.now c.written_over.new.log lent read is in
-      c.own_along.ensures.whole lent mid (subst (λ n. NoneBelow n lent) (sym same) none) (omega (arith, same, low, above));
+      c.own_along.ensures.whole lent mid (subst (λ n. NoneBelow n lent) (sym same) none) (omega (arith, same, above));
 }
 
 pub returns-in_err-last : goal.returns-in_err-last
@@ -64,20 +50,3 @@ returns-in_err-made g c =
       error = rw (exit.1, exit.2) c.in_err-made.ensures.error;
       whole = λ lent is none above. rw (exit.1, exit.2) (c.in_err-made.ensures.whole lent is none);
     }
-
-pub returns-in_err-replaced : goal.returns-in_err-replaced
-returns-in_err-replaced g c =
-    let exit = err_from_is_err_and c.from_residual-in_err-replaced.result c.from_residual-in_err-replaced.ensures.1 in
-    record {
-      own = λ lent base is active from lent_ring ring reads. told-err _ (g.L.Items.reads.told c.args.log.now) c.from_residual-in_err-replaced.result exit.0 exit.1;
-      count = rw exit.1 tt;
-      read = c.written_over.ensures.read;
-      error = rw (exit.1, exit.2) (inl refl);
-      whole = λ lent is none above. rw (exit.1, exit.2) no-item;
-    }
-
-pub own_along-requires-clause-size : goal.own_along-requires-clause-size
-own_along-requires-clause-size g c = subst (λ (b : Base). b.size ≤ 2 ^ 62) (sym c.lent.ensures) c.requires.size
-
-pub own_along-requires-clause-live : goal.own_along-requires-clause-live
-own_along-requires-clause-live g c = subst (λ (b : Base). b.live ≤ b.size) (sym c.lent.ensures) c.requires.live

@@ -16,10 +16,10 @@ pub returns : goal.returns
 returns g c = record {
   count =
       let touches = c.args.own.touches.items in
-      length-map c.push.new.self.items (operation_view g.U.Update.view g.U.Key.ByteString.bytes g.U.Value.ByteString.bytes)
-      ∙ ap length c.in_ok-push.ensures.items
+      length-map c.push_reserved.new.self.items (operation_view g.U.Update.view g.U.Key.ByteString.bytes g.U.Value.ByteString.bytes)
+      ∙ ap length c.push_reserved.ensures.items
       ∙ length-append c.in_ok-operations.operations.items (_ ∷ [])
-      ∙ ap (λ n. n + 1) (ap length c.in_ok-operations.ensures ∙ length-map touches (λ t. t.operation));
+      ∙ ap (λ n. n + 1) (ap length c.in_ok-operations.ensures.operations ∙ length-map touches (λ t. t.operation));
   live = refl;
   plan = λ base size from count.
       let key = g.U.Key.ByteString.bytes in
@@ -33,10 +33,10 @@ returns g c = record {
       let long : c.args.size + c.len.result ≡ length (base ++ own) = omega (arith, c.len.ensures, c.args.own.touches.ok.0, own-length view base touches c.args.size size) in
       let at : place ≡ (if c.args.own.live == 0 then length (base ++ own) else c.args.own.floor) =
       c.commit_floor-floor.ensures ∙ ap (λ n. if c.args.own.live == 0 then n else c.args.own.floor) long in
-      let operations : map (operation_view g.U.Update.view key value) c.push.new.self.items ≡ own ++ commit meta place ∷ [] =
-      operations-push (operation_view g.U.Update.view key value) view (λ t. t.operation) (λ t. refl) touches c.in_ok-operations.operations.items c.push.new.self.items _ (commit meta place) c.in_ok-operations.ensures c.in_ok-push.ensures.items (ap (commit meta) c.new.ensures) in
+      let operations : map (operation_view g.U.Update.view key value) c.push_reserved.new.self.items ≡ own ++ commit meta place ∷ [] =
+      operations-push (operation_view g.U.Update.view key value) view (λ t. t.operation) (λ t. refl) touches c.in_ok-operations.operations.items c.push_reserved.new.self.items _ (commit meta place) c.in_ok-operations.ensures.operations c.push_reserved.ensures.items (ap (commit meta) c.new.ensures) in
       let are = rw c.deref.ensures.value at (c.in_ok-diff.ensures base size) in
-      subst (λ (n : ℕ). IsPlan (record { operations = map (operation_view g.U.Update.view key value) c.push.new.self.items; changes = changes; floor = n; live = c.args.own.live }) base (committed (base ++ own) c.args.own.floor meta)) (sym c.new-2.ensures)
+      subst (λ (n : ℕ). IsPlan (record { operations = map (operation_view g.U.Update.view key value) c.push_reserved.new.self.items; changes = changes; floor = n; live = c.args.own.live }) base (committed (base ++ own) c.args.own.floor meta)) (sym c.new-2.ensures)
       (subst (λ (ops : List Operation). IsPlan (record { operations = ops; changes = changes; floor = place; live = c.args.own.live }) base (committed (base ++ own) c.args.own.floor meta)) (sym operations)
       (own-plan base own changes c.args.own.live place c.args.own.floor meta count at (are from)));
   memory = tt;
@@ -62,15 +62,8 @@ returns-in_err-operations g c =
       memory = rw exit.1 exit.2;
     }
 
-pub returns-in_err-push : goal.returns-in_err-push
-returns-in_err-push g c =
-    let exit = err_from_is_err_and c.from_residual-in_err-push.result c.from_residual-in_err-push.ensures.1 in
-    record {
-      count = rw exit.1 tt;
-      live = rw exit.1 tt;
-      plan = rw exit.1 tt;
-      memory = rw exit.1 exit.2;
-    }
-
 pub overflow_add-size : goal.overflow_add-size
 overflow_add-size g c = omega (arith, c.len.ensures, c.args.own.touches.ok.0, c.requires)
+
+pub push_reserved-requires : goal.push_reserved-requires
+push_reserved-requires g c = omega (arith, c.in_ok-operations.ensures.room, c.in_ok-operations.operations.ok.0)

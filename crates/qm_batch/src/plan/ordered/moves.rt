@@ -1,6 +1,6 @@
 //! The live updates before the keys that go from an ordered list.
 
-ghost use Rattle.std.specs.Prelude.{◌≡◌, ◌≢◌, ◌≤◌, ◌^◌, ◌++◌, ℕ, List, map, filter_map, true, option_map, All, IfSome, IfOk, IfErr};
+ghost use Rattle.std.specs.Prelude.{◌≡◌, ◌≢◌, ◌≤◌, ◌^◌, ◌++◌, ℕ, List, map, filter_map, true, All, IfSome, IfOk, IfErr};
 ghost use Rattle.qm_model.specs.Operations as model;
 ghost use Rattle.qm_model.specs.Ordered.{IsRing};
 ghost use Rattle.qm_step.specs.Bases.{base_view, IsBase};
@@ -8,7 +8,7 @@ ghost use Rattle.qm_step.specs.Layers.{LeadOver};
 ghost use Rattle.qm_base.specs.Reads.{IsRead, IsReadError};
 ghost use Rattle.qm_step.specs.Lent.{IsLent, NoneBelow};
 ghost use Rattle.qm_step.specs.Moves.{before_evicted};
-ghost use Rattle.qm_step.specs.PlanViews.{decided_view, decided_views, touch_views};
+ghost use Rattle.qm_step.specs.PlanViews.{decided_views, touch_views};
 ghost use Rattle.qm_step.specs.Touches.{IsFrom, operations_of};
 ghost use Rattle.qm_step.specs.Views.{read_view};
 
@@ -22,28 +22,6 @@ use qm_step::writes::push_some;
 use qm_step::{Base, Layer};
 use std::alloc::Global;
 use std::rc::Rc;
-
-// The live update before a key that goes.
-fn before_gone<F, I: qm_index::Unordered<Value = Location<F>>, L: Items, U: Steps<F, I>>(
-    alloc: Global,
-    index: &I,
-    log: &mut L,
-    layers: &[Rc<Layer<F, U>>],
-    one: &Decided<U::Key, U::Value>,
-) -> Result<Option<(Location<F>, U)>, Error>
-    requires { U.form.ordered ≡ true }
-    ensures value { (lent list : List model.Operation) → IsLent L.reads U.form I.index_key (I.entries index.now) log.old lent → LeadOver (map (λ l. l.value) layers.now) lent list
-        → IsRing lent → IsRing list → IfSome (L.reads.told log.old) (λ _. IfOk result (λ found. option_map (read_view U.view) found ≡ before_evicted list (decided_view U.Key.bytes U.Value.bytes one.now))) }
-    ensures read { IsRead L.reads log.old log.new }
-    ensures error { IfErr result (IsReadError L.reads log.old log.new) }
-    ensures whole { (lent : List model.Operation) → IsLent L.reads U.form I.index_key (I.entries index.now) log.old lent → NoneBelow (L.reads.start log.old) lent
-        → IfErr result (λ e. (n : ℕ) → e ≢ Error.Journal (JournalError.ItemPruned n)) }
-{
-    match &one.value {
-        Some(_) => Ok(None),
-        None => previous(alloc, index, log, layers, &one.key),
-    }
-}
 
 // The live updates before the keys that go.
 fn find_before<F, I: qm_index::Unordered<Value = Location<F>>, L: Items, U: Steps<F, I>>(
@@ -63,8 +41,10 @@ fn find_before<F, I: qm_index::Unordered<Value = Location<F>>, L: Items, U: Step
 {
     let mut all = Vec::new(alloc);
     for one in decided {
-        let found = before_gone(alloc, index, log, layers, one)?;
-        push_some(&mut all, found)?;
+        if one.value.is_none() {
+            let found = previous(alloc, index, log, layers, &one.key)?;
+            push_some(&mut all, found)?;
+        }
     }
     Ok(all)
 }

@@ -1,6 +1,6 @@
 //! What stands in an ordered base list before the keys that are created or deleted.
 
-ghost use Rattle.std.specs.Prelude.{◌≡◌, ◌≢◌, true, ℕ, List, map, filter_map, option_map, IfSome, IfOk, IfErr};
+ghost use Rattle.std.specs.Prelude.{◌≡◌, ◌≢◌, true, ℕ, List, map, filter_map, IfSome, IfOk, IfErr};
 ghost use Rattle.qm_model.specs.Operations as operations;
 ghost use Rattle.qm_model.specs.Ordered.{IsRing};
 ghost use Rattle.qm_model.specs.Writes as model;
@@ -17,36 +17,8 @@ use qm_step::Layer;
 use qm_step::kind::Steps;
 use qm_step::neighbour::{Neighbour, is_changed};
 use qm_step::site::Site;
-use qm_step::writes::push_some;
 use std::alloc::Global;
 use std::rc::Rc;
-
-// What stands in the base list before the key of a write that creates or deletes it.
-fn find_neighbour<'a, F, I: qm_index::Unordered<Value = Location<F>>, L: Items, U: Steps<F, I>>(
-    alloc: Global,
-    index: &I,
-    log: &mut L,
-    layers: &[Rc<Layer<F, U>>],
-    site: &Site<'a, U::Key, U::Value>,
-) -> Result<Option<Neighbour<'a, F, U>>, Error>
-    requires { U.form.ordered ≡ true }
-    ensures value { (lent base : List operations.Operation) (w : model.Write) → IsLent L.reads U.form I.index_key (I.entries index.now) log.old lent → LeadOver (map (λ l. l.value) layers.now) lent base
-        → IsRing lent → IsRing base → linked_view U.Key.bytes U.Value.bytes site.now ≡ linked_in base w
-        → IfSome (L.reads.told log.old) (λ _. IfOk result (λ neighbour. option_map (neighbour_view U.view U.Key.bytes) neighbour ≡ neighbour_in base w)) }
-    ensures read { IsRead L.reads log.old log.new }
-    ensures error { IfErr result (IsReadError L.reads log.old log.new) }
-    ensures whole { (lent : List operations.Operation) → IsLent L.reads U.form I.index_key (I.entries index.now) log.old lent → NoneBelow (L.reads.start log.old) lent
-        → IfErr result (λ e. (n : ℕ) → e ≢ Error.Journal (JournalError.ItemPruned n)) }
-{
-    if !is_changed(site) {
-        return Ok(None);
-    }
-    let before = previous(alloc, index, log, layers, site.write.key)?;
-    Ok(Some(Neighbour {
-        key: site.write.key,
-        before,
-    }))
-}
 
 /// What stands in an ordered base list before each key that a write creates or deletes, in the order of the writes. In an
 /// unordered database nothing is looked for.
@@ -76,8 +48,11 @@ pub(crate) fn neighbours_of<
         return Ok(neighbours);
     }
     for site in sites {
-        let neighbour = find_neighbour(alloc, index, log, layers, site)?;
-        push_some(&mut neighbours, neighbour)?;
+        if is_changed(site) {
+            let key = site.write.key;
+            let before = previous(alloc, index, log, layers, key)?;
+            neighbours.push(Neighbour { key, before })?;
+        }
     }
     Ok(neighbours)
 }

@@ -9,7 +9,7 @@ use Rattle.qm_step.specs.Lent.{NoneBelow}
 use Rattle.qm_base.specs.declared.error.Error.TheVariants.{Journal}
 use Rattle.qm_base.specs.declared.error.JournalError.TheVariants.{ItemPruned}
 use Rattle.qm_base.specs.Views.{pair_view}
-use Rattle.qm_scan.specs.Scans.{IsStep, left_of}
+use Rattle.qm_batch.specs.Scans.{IsStep, left_of}
 use Rattle.qm_run.proofs.Collected.{one-more}
 use Rattle.qm_run.proofs.ranges.collected.Goals as goal
 

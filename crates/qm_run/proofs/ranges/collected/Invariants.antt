@@ -3,7 +3,7 @@ use Rattle.qm_model.specs.Operations.{Operation}
 use Rattle.qm_any.specs.Databases.{IsDatabase, IsLeft}
 use Rattle.qm_any.proofs.OrderedReads.{laid_out}
 use Rattle.qm_base.specs.Views.{pair_view}
-use Rattle.qm_scan.specs.Scans.{left_of}
+use Rattle.qm_batch.specs.Scans.{left_of}
 use Rattle.qm_run.proofs.ranges.collected.Given as goal
 
 abbrev pub invariant-loop : goal.invariant-loop

@@ -2,7 +2,7 @@ use Rattle.std.proofs.Common.{◌≡◌, ◌≤◌, ◌∙◌, ap, ap₂, map, l
 use Rattle.std.specs.Prelude.{IfOk}
 use Rattle.qm_model.specs.Ranges.{pairs_in}
 use Rattle.qm_base.specs.Views.{limit_of, pair_view}
-use Rattle.qm_scan.specs.Scans.{left_of}
+use Rattle.qm_batch.specs.Scans.{left_of}
 use Rattle.qm_run.proofs.Collected.{few-pairs}
 use Rattle.qm_run.proofs.ranges.pairs_of.Goals as goal
 

@@ -1,5 +1,5 @@
 use Rattle.std.proofs.Common.{ap}
-use Rattle.qm_scan.specs.Scans.{left_of}
+use Rattle.qm_batch.specs.Scans.{left_of}
 use Rattle.qm_any.proofs.db.Db.stream_range.Goals as goal
 
 pub returns-clause-value : goal.returns-clause-value

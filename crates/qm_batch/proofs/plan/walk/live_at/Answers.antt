@@ -1,9 +1,8 @@
-use Rattle.std.proofs.Common.{◌≡◌, ◌++◌, ◌-◌, ap, arith, subst, sym}
-use Rattle.std.specs.Prelude.{All, option_map}
+use Rattle.std.proofs.Common.{◌-◌, ap, arith, subst, sym}
+use Rattle.std.specs.Prelude.{option_map}
 use Rattle.std.proofs.lemmas.Result.{err_from_is_err_and}
 use Rattle.qm_model.proofs.Results.{told-any, told-err, told-one}
-use Rattle.qm_step.specs.Touches.{IsMoveAt, Once, IsFrom, moved_touch, operations_of}
-use Rattle.qm_step.specs.PlanViews.{touch_views}
+use Rattle.qm_step.specs.Touches.{IsMoveAt, moved_touch}
 use Rattle.qm_base.proofs.Reading.{read-none}
 use Rattle.qm_batch.proofs.Memory.{memory-error, memory-whole}
 use Rattle.qm_batch.proofs.plan.walk.live_at.Goals as goal
@@ -12,10 +11,8 @@ pub returns-then-path-at : goal.returns-then-path-at
 returns-then-path-at g c = record {
   value = λ lent base list is on.
       let size = (on.known).size in
-      let views = touch_views g.U.Update.view g.U.Key.ByteString.bytes g.U.Value.ByteString.bytes in
-      let same = sym (ap views c.deref.ensures.value) in
       told-any _ (g.L.Items.reads.told c.args.log.now)
-      (c.made_at.ensures.value base list c.args.at (subst (λ ts. base ++ operations_of ts ≡ list) same on.makes) (subst (λ ts. Once (operations_of ts)) same on.once) (subst (All (IsFrom base)) same on.from)
+      (c.made_at.ensures.value base list c.args.at on.makes on.once on.from
       (omega (arith, size, c.if-path-at.true)) (ap (λ n. c.args.at - n) size));
   read = read-none g.L.Items.reads g.met.L.Items.unread c.args.log.now;
   error = memory-error c.made_at.result c.made_at.ensures.memory g.L.Items.reads c.args.log.now c.args.log.now;

@@ -1,9 +1,11 @@
-use Rattle.std.proofs.Common.{◌≡◌, ◌∙◌, ◌+◌, length, map, max, min, ap, sym, subst, arith, ℕ}
+use Rattle.std.proofs.Common.{◌≡◌, ◌∙◌, ◌+◌, length, map, max, min, ap, sym, subst, arith, ℕ, inl, refl}
 use Rattle.qm_model.proofs.Results.{told-one, told-err}
 use Rattle.qm_model.specs.Live.{floor}
 use Rattle.qm_model.specs.Walk.{walk}
 use Rattle.qm_step.specs.Going.{AreDecided}
 use Rattle.qm_step.specs.PlanViews.{decided_view, decided_views, touch_view}
+use Rattle.qm_base.proofs.Reading.{read-none}
+use Rattle.qm_batch.proofs.Memory.{no-item}
 use Rattle.qm_batch.proofs.PlanGoing.{going-begins}
 use Rattle.qm_batch.proofs.PlanMoves.{made-long}
 use Rattle.std.proofs.lemmas.Result.{err_from_is_err_and}
@@ -12,10 +14,11 @@ use Rattle.qm_batch.proofs.plan.walk.walk_from.Goals as goal
 
 pub returns : goal.returns
 returns g c = record {
-  value = λ lent base list is active on.
+  value = λ lent base list is active behind.
       let key = g.U.Key.ByteString.bytes in
       let value = g.U.Value.ByteString.bytes in
-      let made = c.args.path.now.made.items in
+      let made = c.args.made.now in
+      let on = behind c.in_ok-replaced.replaced c.in_ok-replaced.ensures in
       let long = made-long (touch_view g.U.Update.view key value) base list made on.makes in
       let size = (on.known).size in
       let low = (on.known).floor in
@@ -34,12 +37,22 @@ returns g c = record {
 
 pub returns-in_err-walk_on : goal.returns-in_err-walk_on
 returns-in_err-walk_on g c =
-    let exit = err_from_is_err_and c.from_residual.result c.from_residual.ensures.1 in
+    let exit = err_from_is_err_and c.from_residual-in_err-walk_on.result c.from_residual-in_err-walk_on.ensures.1 in
     record {
-      value = λ lent base list is active on. told-err _ (g.L.Items.reads.told c.args.log.now) c.from_residual.result exit.0 exit.1;
+      value = λ lent base list is active behind. told-err _ (g.L.Items.reads.told c.args.log.now) c.from_residual-in_err-walk_on.result exit.0 exit.1;
       read = c.walk_on.ensures.read;
       error = rw (exit.1, exit.2) c.in_err-walk_on.ensures.error;
       pruned = λ above.
           let floor = ap (λ (w : Walk _). w.floor) c.new-walk.ensures in
           rw (exit.1, exit.2) (c.in_err-walk_on.ensures.pruned (omega (arith, above, floor, c.new.ensures, c.get-floor.ensures)));
+    }
+
+pub returns-in_err-replaced : goal.returns-in_err-replaced
+returns-in_err-replaced g c =
+    let exit = err_from_is_err_and c.from_residual.result c.from_residual.ensures.1 in
+    record {
+      value = λ lent base list is active behind. told-err _ (g.L.Items.reads.told c.args.log.now) c.from_residual.result exit.0 exit.1;
+      read = read-none g.L.Items.reads g.met.L.Items.unread c.args.log.now;
+      error = rw (exit.1, exit.2) (inl refl);
+      pruned = λ above. rw (exit.1, exit.2) no-item;
     }

@@ -1,17 +1,30 @@
-use Rattle.std.proofs.Common.{◌∙◌, ap, sym, map, subst, inl, refl, true≢false}
-use Rattle.std.specs.Prelude.{filter_map}
+use Rattle.std.proofs.Common.{◌≡◌, ◌∙◌, ap, ap₂, append-nil, sym, map, subst, inl, refl, true, false, true≢false, List, Option, Some, None, ℕ}
+use Rattle.std.specs.Prelude.{filter_map, if◌then◌else◌}
 use Rattle.std.proofs.lemmas.Result.{err_from_is_err_and}
 use Rattle.qm_model.proofs.Results.{told-any, told-both, told-err, told-one}
+use Rattle.qm_model.specs.Live.{live}
+use Rattle.qm_model.specs.Operations.{Bytes, Operation}
+use Rattle.qm_model.specs.Writes.{Write}
+use Rattle.qm_base.specs.Reads.{IsRead}
 use Rattle.qm_step.specs.Lent.{NoneBelow}
 use Rattle.qm_step.specs.OrderedViews.{neighbour_view}
 use Rattle.qm_step.specs.PlanViews.{linked_view}
-use Rattle.qm_step.specs.Rings.{linked_in, neighbour_in}
+use Rattle.qm_step.specs.Rings.{is_changed, linked_in, neighbour_in, previous_of}
 use Rattle.qm_step.proofs.PlanLoops.{made-more, taken-all, write-here}
 use Rattle.qm_step.proofs.PlanSites.{pushed-shown}
 use Rattle.qm_base.proofs.Reading.{read-none, read-then, error-then}
 use Rattle.qm_step.proofs.Reading.{lent-then, told}
 use Rattle.qm_batch.proofs.Memory.{no-item}
 use Rattle.qm_batch.proofs.plan.ordered.neighbours.neighbours_of.Goals as goal
+use Rattle.qm_batch.proofs.plan.ordered.neighbours.neighbours_of.Goals.{then-is_changed+in_ok-before+in_ok-push, else-is_changed}
+
+-- what stands before the key of a write that changes it, and of one that does not
+changed-before : (base : List Operation) (w : Write) (k : Bytes) (b : Option (ℕ × Operation)) → true ≡ is_changed (live base) w → k ≡ w.key → b ≡ previous_of base k → Some (k, b) ≡ neighbour_in base w
+changed-before base w k b changes keyed found =
+    ap₂ (λ k b. Some (k, b)) keyed (found ∙ ap (previous_of base) keyed) ∙ ap (λ t. if t then Some (w.key, previous_of base w.key) else None) changes
+
+unchanged-before : (base : List Operation) (w : Write) → false ≡ is_changed (live base) w → None ≡ neighbour_in base w
+unchanged-before base w stays = ap (λ t. if t then Some (w.key, previous_of base w.key) else None) stays
 
 pub loop-site-init : goal.loop-site-init
 loop-site-init g c = record {
@@ -20,49 +33,65 @@ loop-site-init g c = record {
       told-any _ (g.L.Items.reads.told c.args.log.now) (ap (map (neighbour_view g.U.Update.view g.U.Key.ByteString.bytes)) c.new-neighbours.ensures.items);
 }
 
-pub returns-in_err-neighbour : goal.returns-in_err-neighbour
-returns-in_err-neighbour g c =
+pub returns-in_err-before : goal.returns-in_err-before
+returns-in_err-before g c =
     let exit = err_from_is_err_and c.from_residual.result c.from_residual.ensures.1 in
     record {
       value = λ lent base ws ordered is from ring base_ring are. told-err _ (g.L.Items.reads.told c.args.log.now) c.from_residual.result exit.0 exit.1;
-      read = read-then g.L.Items.reads g.met.L.Items.read_again c.args.log.now c.loop-site.log c.find_neighbour.new.log c.loop-site.invariant.read c.find_neighbour.ensures.read;
-      error = rw (exit.1, exit.2) (error-then g.L.Items.reads g.met.L.Items.failed_later c.args.log.now c.loop-site.log c.find_neighbour.new.log _ c.loop-site.invariant.read c.in_err-neighbour.ensures.error);
+      read = read-then g.L.Items.reads g.met.L.Items.read_again c.args.log.now c.loop-site.log c.previous.new.log c.loop-site.invariant.read c.previous.ensures.read;
+      error = rw (exit.1, exit.2) (error-then g.L.Items.reads g.met.L.Items.failed_later c.args.log.now c.loop-site.log c.previous.new.log _ c.loop-site.invariant.read c.in_err-before.ensures.error);
       whole = λ lent is none.
           let entries = g.I.Unordered.entries c.args.index.now in
           let read = c.loop-site.invariant.read in
           let form = g.U.Update.form in
           let mid = lent-then g.L.Items.reads form g.I.Unordered.index_key entries c.args.log.now c.loop-site.log lent read is in
-          rw (exit.1, exit.2) (c.in_err-neighbour.ensures.whole lent mid (subst (λ t. NoneBelow t lent) (sym read.start) none));
+          rw (exit.1, exit.2) (c.in_err-before.ensures.whole lent mid (subst (λ t. NoneBelow t lent) (sym read.start) none));
     }
 
-pub returns-in_err-push_some : goal.returns-in_err-push_some
-returns-in_err-push_some g c =
-    let exit = err_from_is_err_and c.from_residual-in_err-push_some.result c.from_residual-in_err-push_some.ensures.1 in
+pub returns-in_err-push : goal.returns-in_err-push
+returns-in_err-push g c =
+    let exit = err_from_is_err_and c.from_residual-in_err-push.result c.from_residual-in_err-push.ensures.1 in
     record {
-      value = λ lent base ws ordered is from ring base_ring are. told-err _ (g.L.Items.reads.told c.args.log.now) c.from_residual-in_err-push_some.result exit.0 exit.1;
-      read = read-then g.L.Items.reads g.met.L.Items.read_again c.args.log.now c.loop-site.log c.find_neighbour.new.log c.loop-site.invariant.read c.find_neighbour.ensures.read;
+      value = λ lent base ws ordered is from ring base_ring are. told-err _ (g.L.Items.reads.told c.args.log.now) c.from_residual-in_err-push.result exit.0 exit.1;
+      read = read-then g.L.Items.reads g.met.L.Items.read_again c.args.log.now c.loop-site.log c.previous.new.log c.loop-site.invariant.read c.previous.ensures.read;
       error = rw (exit.1, exit.2) (inl refl);
       whole = λ lent is none. rw (exit.1, exit.2) no-item;
     }
 
 pub loop-site-preserved : goal.loop-site-preserved
 loop-site-preserved g c =
-    let read = c.loop-site.invariant.read in
     let key = g.U.Key.ByteString.bytes in
     let value = g.U.Value.ByteString.bytes in
-    let form = g.U.Update.form in
+    let items = g.L.Items.reads.told c.args.log.now in
+    let read = c.loop-site.invariant.read in
     let view = neighbour_view g.U.Update.view key in
-    record {
-      read = read-then g.L.Items.reads g.met.L.Items.read_again c.args.log.now c.loop-site.log c.find_neighbour.new.log read c.find_neighbour.ensures.read;
-      value = λ lent base ws is from ring base_ring are.
-          let mid = lent-then g.L.Items.reads form g.I.Unordered.index_key (g.I.Unordered.entries c.args.index.now) c.args.log.now c.loop-site.log lent read is in
-          let here = write-here (linked_view key value) (linked_in base) ws c.args.sites.now are c.loop-site.site-index c.site-item.result c.loop-site-test.true c.site-item.is in
-          told-both _ _ _ (g.L.Items.reads.told c.args.log.now) (c.loop-site.invariant.value lent base ws is from ring base_ring are)
-          (told _ _ _ read.told (c.in_ok-neighbour.ensures.value lent base here.0 mid from ring base_ring (sym here.2))) (λ before found.
-          made-more (linked_view key value) (linked_in base) ws c.args.sites.now are c.loop-site.site-index c.site-item.result c.loop-site-test.true c.site-item.is
-          (neighbour_in base) (map view c.loop-site.neighbours.items) (map view c.push_some.new.things.items) _ found
-          (pushed-shown view c.push_some.new.things.items c.loop-site.neighbours.items _ c.in_ok-push_some.ensures) before);
-    }
+    let made = map view c.loop-site.neighbours.items in
+    let show = linked_view key value in
+    let sites = c.args.sites.now in
+    let i = c.loop-site.site-index in
+    let site = c.site-item.result in
+    elim c.if-is_changed.branch [
+      | then-is_changed+in_ok-before+in_ok-push w ↦ record {
+        read = subst (λ log. IsRead g.L.Items.reads c.args.log.now log) (sym w.log-is) (read-then g.L.Items.reads g.met.L.Items.read_again c.args.log.now c.loop-site.log w.previous.new.log read w.previous.ensures.read);
+        value = λ lent base ws is from ring base_ring are.
+            let mid = lent-then g.L.Items.reads g.U.Update.form g.I.Unordered.index_key (g.I.Unordered.entries c.args.index.now) c.args.log.now c.loop-site.log lent read is in
+            let here = write-here show (linked_in base) ws sites are i site c.loop-site-test.true c.site-item.is in
+            let changes = w.if-is_changed.ensures key value base here.0 (sym here.2) in
+            told-both _ _ _ items (c.loop-site.invariant.value lent base ws is from ring base_ring are) (told _ _ _ read.told (w.in_ok-before.ensures.value lent base mid from ring base_ring)) (λ before found.
+            made-more show (linked_in base) ws sites are i site c.loop-site-test.true c.site-item.is (neighbour_in base) made (map view c.if-is_changed.neighbours.items) _
+            (changed-before base here.0 _ _ changes (ap (λ p. p.0.key) (sym here.2)) found)
+            (ap (λ v. map view v.items) w.neighbours-is ∙ pushed-shown view w.push.new.self.items c.loop-site.neighbours.items (Some _) w.in_ok-push.ensures.items) before);
+      }
+      | else-is_changed w ↦ record {
+        read = subst (λ log. IsRead g.L.Items.reads c.args.log.now log) (sym w.log-is) read;
+        value = λ lent base ws is from ring base_ring are.
+            let here = write-here show (linked_in base) ws sites are i site c.loop-site-test.true c.site-item.is in
+            let stays = w.if-is_changed.ensures key value base here.0 (sym here.2) in
+            told-one _ _ items (c.loop-site.invariant.value lent base ws is from ring base_ring are) (λ before.
+            made-more show (linked_in base) ws sites are i site c.loop-site-test.true c.site-item.is (neighbour_in base) made (map view c.if-is_changed.neighbours.items) None (unchanged-before base here.0 stays)
+            (ap (λ v. map view v.items) w.neighbours-is ∙ sym (append-nil made)) before);
+      }
+    ]
 
 pub returns : goal.returns
 returns g c = record {

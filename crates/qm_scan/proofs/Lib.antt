@@ -1,5 +1,0 @@
-pub mod Ahead
-pub mod Buckets
-pub mod Cuts
-pub mod Gathering
-pub mod Going
