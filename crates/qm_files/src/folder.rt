@@ -39,6 +39,13 @@ fn is_other(name: &str) -> bool {
     name.starts_with(META) || name.strip_suffix(NEW) == Some(LOG)
 }
 
+// A name that has two parts.
+fn joined(alloc: Global, first: &str, second: &str) -> Result<String, AllocError> {
+    let mut name = String::from_str(alloc, first)?;
+    name.push_str(second)?;
+    Ok(name)
+}
+
 // A folder that may not be there yet.
 #[derive(Drop)]
 pub(crate) struct Folder<R> {
@@ -64,9 +71,7 @@ impl<R: Files + Clone + Drop> Folder<R> {
         if name.contains('/') || name.ends_with(NEW) {
             return Err(StoreError::Failed);
         }
-        let mut file = String::from_str(self.alloc, META)?;
-        file.push_str(name)?;
-        Ok(file)
+        Ok(joined(self.alloc, META, name)?)
     }
 
     // Where a file of this name lies.
@@ -76,9 +81,7 @@ impl<R: Files + Clone + Drop> Folder<R> {
 
     // Where a new file lies that is to take the place of the one with this name.
     fn path_of_new(&self, name: &str) -> Result<PathBuf, AllocError> {
-        let mut new = String::from_str(self.alloc, name)?;
-        new.push_str(NEW)?;
-        self.path_of(&new)
+        self.path_of(&joined(self.alloc, name, NEW)?)
     }
 
     // Opens a file, if there is one of this name.

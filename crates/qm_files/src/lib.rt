@@ -99,8 +99,8 @@ fn read_log<R: Files + Clone + Drop>(folder: &Folder<R>) -> Result<LogFile<R::Fi
     let mut how = reading();
     how.write(true);
     match folder.open(&how, LOG)? {
-        Some(file) if file.metadata()?.len() > 0 => LogFile::of(folder.alloc(), file),
-        _ => Ok(LogFile::none(folder.alloc(), 0)),
+        Some(file) => LogFile::of(folder.alloc(), file),
+        None => Ok(LogFile::none(folder.alloc(), 0)),
     }
 }
 
@@ -278,14 +278,13 @@ impl<R: Files + Clone + Drop> FileStore<R> {
     {
         self.check()?;
         let log = read_log(&self.folder)?;
-        log.sync()?;
         if log.start() != self.log.start() || self.log.end() < log.end() {
             self.log = LogFile::none(self.folder.alloc(), self.log.start());
             self.condition = Condition::Broken;
             return Err(StoreError::Failed);
         }
         self.log = log;
-        Ok(())
+        self.log.sync()
     }
 
     fn remove_all(&mut self) -> Result<(), StoreError>

@@ -98,9 +98,13 @@ impl<F> LogFile<F> {
 }
 
 impl<F: Read + Write + Seek + OpenFile + Drop> LogFile<F> {
-    // The log in a file. The file is read once, through a buffer of fixed size, and each item takes 8 bytes of memory.
+    // The log in a file, which is none where that has no byte. The file is read once, through a buffer of fixed size, and each item
+    // takes 8 bytes of memory.
     pub(crate) fn of(alloc: Global, file: F) -> Result<LogFile<F>, StoreError> {
         let size = file.metadata()?.len();
+        if size == 0 {
+            return Ok(LogFile::none(alloc, 0));
+        }
         let mut reader = BufReader::with_capacity(alloc, BUFFER, file)?;
         reader.rewind()?;
         let start = read_location(&mut reader)?;
@@ -136,7 +140,7 @@ impl<F: Read + Write + Seek + OpenFile + Drop> LogFile<F> {
         requires { index < self.old.count }
         ensures { self.new ≡ self.old }
     {
-        let from = behind(self.place(index), LENGTH_SIZE)?;
+        let from = self.place(index).saturating_add(LENGTH_SIZE);
         let size = between(from, self.ends[index])?;
         let file = at(&mut self.file, from)?;
         read_bytes(alloc, file, size)
@@ -303,7 +307,7 @@ fn note_ends(ends: &mut Vec<u64>, from: u64, added: &[Vec<u8>]) -> Result<(), St
     ends.reserve(added.len())?;
     let mut end = from;
     for item in added {
-        end = behind(behind(end, LENGTH_SIZE)?, item.len() as u64)?;
+        end = behind(end, LENGTH_SIZE.saturating_add(item.len() as u64))?;
         ends.push(end)?;
     }
     Ok(())
@@ -357,7 +361,7 @@ fn pass_item<R: Read + Seek>(
         return Ok(None);
     }
     let length = read_length(reader)?;
-    let end = behind(bytes, u64::from(length))?;
+    let end = bytes.saturating_add(u64::from(length));
     if size < end {
         return Ok(None);
     }

@@ -234,13 +234,7 @@ impl Store for MemStore {
         ensures ok { OnOk result (self.new ≡ made settling settled self.old) }
         ensures memory { result ≡ Err StoreError.Memory → self.new ≡ called self.old }
     {
-        self.call()?;
-        self.changes.reserve(1)?;
-        self.changes.push_reserved(Change {
-            kind: Kind::SettledFrom(self.stable),
-        });
-        self.stable = self.first + self.kept.len() as u64;
-        Ok(())
+        self.commit()
     }
 
     fn rewind(&mut self, to: u64) -> Result<(), StoreError>

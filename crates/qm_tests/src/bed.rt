@@ -13,6 +13,7 @@ use qm_store::{MetaEntry, Refusal, Store};
 use std::alloc::{AllocError, Global};
 use std::num::NonZeroUsize;
 use std::rc::Rc;
+use std::slice::from_ref;
 
 /// What a database under test is made of.
 pub(crate) trait Bed {
@@ -113,6 +114,6 @@ pub(crate) fn again<B: Bed>(alloc: Global) -> Result<Database<B>, Error> {
         key: [1; 9],
         value: Vec::new(alloc),
     };
-    let db = kept(db.put_meta("a", &[entry]))?;
+    let db = kept(db.put_meta("a", from_ref(&entry)))?;
     opened::<B>(alloc, db.close())
 }

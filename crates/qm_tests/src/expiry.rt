@@ -4,12 +4,10 @@ ghost use Rattle.std.specs.Prelude.{◌≡◌, ◌^◌, ◌-◌, ℕ, Bool, true
 ghost use Rattle.qm_model.specs.Walk as walk;
 ghost use Rattle.qm_chain.specs.Policies.{action_view};
 
-use crate::bed::{Bed, Database, KEY, Key, again, batch_of, of_bytes};
-use crate::fixed::Fixed;
+use crate::bed::{Bed, Database, KEY, Key, batch_of, of_bytes};
 use qm_base::{ByteString, Error};
 use qm_chain::{Decision, Entry, Limits, Policy};
 use std::alloc::{AllocError, Global};
-use std::test::Fail;
 
 /// Drops each value whose first byte is below that of the block, and keeps the others.
 #[derive(Drop)]
@@ -57,22 +55,14 @@ impl<F, K: ByteString, V: ByteString> Policy<F, K, V> for Expiry {
 }
 
 // Whether the key is there in a batch of a block that writes another key, on the list of a database.
-fn is_kept<B: Bed>(alloc: Global, db: &mut Database<B>, block: u8) -> Result<bool, Error> {
+pub(crate) fn is_kept<B: Bed>(
+    alloc: Global,
+    db: &mut Database<B>,
+    block: u8,
+) -> Result<bool, Error> {
     let key: Key<B> = of_bytes(alloc, &KEY)?;
     let other = [20; 8];
     let batch = batch_of::<B>(alloc, db, &[5, 6, 7, 8], &other, block)?;
     let value = batch.get(alloc, &key, db)?;
     Ok(value.is_some())
-}
-
-fn is_kept_at<B: Bed>(alloc: Global, block: u8) -> Result<bool, Error> {
-    let mut db = again::<B>(alloc)?;
-    is_kept::<B>(alloc, &mut db, block)
-}
-
-#[test]
-fn expired_values_are_dropped(rt: HostRuntime) -> Result<(), Fail> {
-    assert!(rt; is_kept_at::<Fixed>(rt.alloc(), 10)?);
-    assert!(rt; !is_kept_at::<Fixed>(rt.alloc(), 11)?);
-    Ok(())
 }

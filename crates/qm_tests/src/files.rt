@@ -1,21 +1,26 @@
 //! That a store over files has in its folder what its format says, reads it again, and fails where the files do.
 
+ghost use Rattle.std.specs.Prelude.{◌≡◌, None};
+
 use qm_files::FileStore;
 use qm_store::{MetaEntry, Store, StoreError};
-use std::alloc::{AllocError, Global};
+use std::alloc::{Alloc, AllocError, Global};
 use std::fs;
+use std::rt::Files;
+use std::slice::from_ref;
 use std::test::Fail;
 
 const FOLDER: &str = "qm_tests_files";
 
-// What is done to a folder and its store, a step a line: a call, and what it is given or what it is to answer. A step that
-// begins with `fails` is to be a fault of the store. An entry of metadata is a word: its key of nine letters, then its bytes.
+// What is done to a folder and its store, a step a line: a call that changes the store, what the store is asked and is to answer,
+// or what is done to a file or which bytes it is to have. A step that begins with `fails` is to be a fault of the store. An entry of
+// metadata is a word: its key of nine letters, then its bytes.
 const STEPS: &str = "\
 # A missing folder is an empty store.
-clear qm_tests_files
+file clear qm_tests_files
 open
-bounds 0 0
-head
+ask bounds 0 0
+ask head
 # Three items, by way of a fourth that is taken away, have their format.
 append one
 append wrong
@@ -23,81 +28,81 @@ rewind 1
 append
 append three
 commit
-file qm_tests_files/log \0\0\0\0\0\0\0\0\0\0\0\0\0\0\0\x03one\0\0\0\0\0\0\0\x05three
+file has qm_tests_files/log \0\0\0\0\0\0\0\0\0\0\0\0\0\0\0\x03one\0\0\0\0\0\0\0\x05three
 # The next store has them.
 open
-bounds 0 3
-item 0 one
-item 1
-item 2 three
+ask bounds 0 3
+ask item 0 one
+ask item 1
+ask item 2 three
 # What stands before a location goes, with a new head, in this store and in the next.
 open
 prune 1 ab
-file qm_tests_files/log \0\0\0\0\0\0\0\x01\0\0\0\x02ab\0\0\0\0\0\0\0\x05three
-item 1
-item 2 three
+file has qm_tests_files/log \0\0\0\0\0\0\0\x01\0\0\0\x02ab\0\0\0\0\0\0\0\x05three
+ask item 1
+ask item 2 three
 open
-bounds 1 3
-head ab
-item 1
-item 2 three
+ask bounds 1 3
+ask head ab
+ask item 1
+ask item 2 three
 # Metadata has its format, and is replaced whole.
 open
 put grafted kkkkkkkkkold
 put grafted aaaaaaaaax bbbbbbbbb
-file qm_tests_files/meta-grafted aaaaaaaaa\0\0\0\x01xbbbbbbbbb\0\0\0\0
+file has qm_tests_files/meta-grafted aaaaaaaaa\0\0\0\x01xbbbbbbbbb\0\0\0\0
 # A tail that is no whole entry is dropped, and another name has none.
-write qm_tests_files/meta-grafted aaaaaaaaa\0\0\0\x01xbbbbbbbbb\0\0\0\0ccccccccc\0\0\0\x02y
-meta grafted aaaaaaaaax bbbbbbbbb
-meta other
+file write qm_tests_files/meta-grafted aaaaaaaaa\0\0\0\x01xbbbbbbbbb\0\0\0\0ccccccccc\0\0\0\x02y
+ask meta grafted aaaaaaaaax bbbbbbbbb
+ask meta other
 # A tail that is no whole item is dropped, and the next item takes its place.
-write qm_tests_files/log \0\0\0\0\0\0\0\x01\0\0\0\x02ab\0\0\0\0\0\0\0\x05three\0\0\0\x09torn
+file write qm_tests_files/log \0\0\0\0\0\0\0\x01\0\0\0\x02ab\0\0\0\0\0\0\0\x05three\0\0\0\x09torn
 open
-bounds 1 3
+ask bounds 1 3
 append four
 sync
-file qm_tests_files/log \0\0\0\0\0\0\0\x01\0\0\0\x02ab\0\0\0\0\0\0\0\x05three\0\0\0\x04four
-item 3 four
+file has qm_tests_files/log \0\0\0\0\0\0\0\x01\0\0\0\x02ab\0\0\0\0\0\0\0\x05three\0\0\0\x04four
+ask item 3 four
 # A file that is cut fails a read past its end, and after a restart its end is that of the items that are left.
 open
-write qm_tests_files/log \0\0\0\0\0\0\0\x01\0\0\0\x02ab\0\0\0\0\0\0\0\x05three\0\0\0
-fails item 3
-item 1
-item 2 three
-bounds 1 4
+file write qm_tests_files/log \0\0\0\0\0\0\0\x01\0\0\0\x02ab\0\0\0\0\0\0\0\x05three\0\0\0
+fails ask item 3
+ask item 1
+ask item 2 three
+ask bounds 1 4
 restart 4
-item 1
-item 2 three
-bounds 1 3
-faults 1
+ask item 1
+ask item 2 three
+ask bounds 1 3
+ask faults 1
 # A log that has others' bytes when it is read again breaks the store: from another start on,
-write qm_tests_files/log \0\0\0\0\0\0\0\x01\0\0\0\x02ab\0\0\0\0\0\0\0\x05three
+file write qm_tests_files/log \0\0\0\0\0\0\0\x01\0\0\0\x02ab\0\0\0\0\0\0\0\x05three
 open
-write qm_tests_files/log \0\0\0\0\0\0\0\0\0\0\0\0\0\0\0\x03one\0\0\0\0\0\0\0\x05three
+file write qm_tests_files/log \0\0\0\0\0\0\0\0\0\0\0\0\0\0\0\x03one\0\0\0\0\0\0\0\x05three
 fails restart 3
-fails head
-faults 2
-bounds 1 1
+fails ask head
+ask faults 2
+ask bounds 1 1
 # and with more items.
-write qm_tests_files/log \0\0\0\0\0\0\0\x01\0\0\0\x02ab\0\0\0\0\0\0\0\x05three
+file write qm_tests_files/log \0\0\0\0\0\0\0\x01\0\0\0\x02ab\0\0\0\0\0\0\0\x05three
 open
-write qm_tests_files/log \0\0\0\0\0\0\0\x01\0\0\0\x02ab\0\0\0\0\0\0\0\x05three\0\0\0\x04four
+file write qm_tests_files/log \0\0\0\0\0\0\0\x01\0\0\0\x02ab\0\0\0\0\0\0\0\x05three\0\0\0\x04four
 fails restart 3
-fails head
-faults 2
-bounds 1 1
+fails ask head
+ask faults 2
+ask bounds 1 1
 # What is destroyed leaves nothing in the folder.
 open
 destroy
-bounds 0 0
-meta grafted
-remove qm_tests_files
+ask bounds 0 0
+ask meta grafted
+file remove qm_tests_files
 # Where no folder can be, each call fails and is counted.
-write qm_tests_files no folder
+file write qm_tests_files no folder
 open
-bounds 0 0
-fails head
-fails meta grafted
+ask bounds 0 0
+fails ask head
+fails ask meta grafted
 fails commit
 fails sync
 fails restart 0
@@ -106,42 +111,13 @@ fails rewind 0
 fails prune 0
 fails put grafted
 fails destroy
-faults 10
-clear qm_tests_files
+ask faults 10
+file clear qm_tests_files
 ";
-
-type Kept<'a> = FileStore<&'a HostRuntime>;
 
 // A number. What is none is past all locations.
 fn number(text: &str) -> u64 {
     text.parse().unwrap_or(u64::MAX)
-}
-
-// The item at a location, where that is within the bounds.
-fn read<S: Store>(store: &mut S, at: u64) -> Result<Vec<u8>, StoreError> {
-    let (start, end) = store.bounds();
-    if at < start || end <= at {
-        return Err(StoreError::Failed);
-    }
-    store.read(at)
-}
-
-// Puts one item behind the last, where there is room.
-fn append<S: Store>(store: &mut S, alloc: Global, item: &[u8]) -> Result<(), StoreError> {
-    let (_, end) = store.bounds();
-    if end == 1 << 62 {
-        return Err(StoreError::Failed);
-    }
-    store.append(&vec![in alloc; item.to_vec(alloc)?]?)
-}
-
-// Takes the items from a location on away, where that is within the bounds.
-fn rewind<S: Store>(store: &mut S, to: u64) -> Result<(), StoreError> {
-    let (start, end) = store.bounds();
-    if to < start || end < to {
-        return Err(StoreError::Failed);
-    }
-    store.rewind(to)
 }
 
 // The entry that a word is.
@@ -175,47 +151,54 @@ fn has_entries(text: &str, entries: &[MetaEntry]) -> bool {
     words.next().is_none()
 }
 
+// The three parts of a step: a word, another, and the rest.
+fn parts(step: &str) -> (&str, &str, &str) {
+    let (call, given) = step.split_once(' ').unwrap_or((step, ""));
+    let (first, second) = given.split_once(' ').unwrap_or((given, ""));
+    (call, first, second)
+}
+
 // Whether a store answers what a step says.
-fn is_answered<S: Store>(
-    store: &mut S,
-    call: &str,
-    first: &str,
-    second: &str,
-) -> Result<bool, StoreError> {
+fn is_answered<S: Store>(store: &mut S, step: &str) -> Result<bool, StoreError> {
+    let (call, first, second) = parts(step);
+    let (start, end) = store.bounds();
+    let at = number(first);
     Ok(match call {
-        "bounds" => store.bounds() == (number(first), number(second)),
-        "faults" => store.faults() == number(first),
-        "item" => read(store, number(first))?.as_slice() == second.as_bytes(),
+        "bounds" => (start, end) == (at, number(second)),
+        "faults" => store.faults() == at,
+        "item" if start <= at && at < end => store.read(at)?.as_slice() == second.as_bytes(),
         "head" => store.head()?.as_slice() == first.as_bytes(),
         "meta" => has_entries(second, &store.meta(first)?),
         _ => false,
     })
 }
 
-// Changes a store as a step says.
-fn change<S: Store>(
-    store: &mut S,
-    alloc: Global,
-    call: &str,
-    first: &str,
-    second: &str,
-) -> Result<(), StoreError> {
+// Changes a store that tells nothing as a step says, at a location within its bounds, and answers true.
+fn change<S: Store>(store: &mut S, alloc: Global, step: &str) -> Result<bool, StoreError>
+    requires { S.told store.old ≡ None }
+{
+    let (call, first, second) = parts(step);
+    let (start, end) = store.bounds();
+    let to = number(first).clamp(start, end);
     match call {
-        "append" => append(store, alloc, first.as_bytes()),
-        "rewind" => rewind(store, number(first)),
+        "append" if end < 1 << 62 => store.append(from_ref(&first.as_bytes().to_vec(alloc)?)),
+        "rewind" => store.rewind(to),
+        "prune" => store.prune(to, second.as_bytes()),
         "put" => store.put_meta(first, &entries(alloc, second)?),
         "commit" => store.commit(),
         "sync" => store.sync(),
-        "restart" => store.restart(number(first)),
+        "restart" => store.restart(to),
         "destroy" => store.destroy(),
         _ => Err(StoreError::Failed),
-    }
+    }?;
+    Ok(true)
 }
 
 // Whether a file has these bytes, or what a step says is done to it or to a folder.
-fn file(rt: &HostRuntime, call: &str, path: &str, bytes: &[u8]) -> Result<bool, StoreError> {
+fn file<R: Files + Alloc<A = Global>>(rt: &R, step: &str) -> Result<bool, StoreError> {
+    let (call, path, bytes) = parts(step);
     match call {
-        "file" => return Ok(fs::read(rt, path)?.as_slice() == bytes),
+        "has" => return Ok(fs::read(rt, path)?.as_slice() == bytes.as_bytes()),
         "write" => fs::write(rt, path, bytes)?,
         "remove" => fs::remove_dir(rt, path)?,
         _ => {
@@ -226,43 +209,50 @@ fn file(rt: &HostRuntime, call: &str, path: &str, bytes: &[u8]) -> Result<bool, 
     Ok(true)
 }
 
-// Takes the items before a location away. A store that tells of its items would ask that these are stable.
-fn prune(store: &mut Kept<'_>, to: u64, head: &[u8]) -> Result<(), StoreError> {
-    let (start, end) = store.bounds();
-    if to < start || end < to {
-        return Err(StoreError::Failed);
-    }
-    store.prune(to, head)
-}
-
 // Does what a step says, and answers whether it is so.
-fn is_so<'a>(rt: &'a HostRuntime, store: &mut Kept<'a>, step: &str) -> Result<bool, StoreError> {
-    let (call, given) = step.split_once(' ').unwrap_or((step, ""));
-    let (first, second) = given.split_once(' ').unwrap_or((given, ""));
-    match call {
+fn is_so<R: Files + Alloc<A = Global> + Clone + Drop>(
+    rt: &R,
+    store: &mut FileStore<R>,
+    step: &str,
+) -> Result<bool, StoreError> {
+    let (kind, given) = step.split_once(' ').unwrap_or((step, ""));
+    match kind {
         "#" => {}
-        "open" => *store = FileStore::open(rt, rt.alloc(), FOLDER)?,
-        "prune" => prune(store, number(first), second.as_bytes())?,
-        "file" | "write" | "remove" | "clear" => {
-            return file(rt, call, first, second.as_bytes());
-        }
-        "bounds" | "faults" | "item" | "head" | "meta" => {
-            return is_answered(store, call, first, second);
-        }
-        _ => change(store, rt.alloc(), call, first, second)?,
+        "open" => *store = FileStore::open(rt.clone()?, rt.alloc(), FOLDER)?,
+        "file" => return file(rt, given),
+        "ask" => return is_answered(store, given),
+        _ => return change(store, rt.alloc(), step),
     }
     Ok(true)
+}
+
+// Whether a step was to come out like this.
+fn is_due(line: &str, done: Result<bool, StoreError>) -> bool {
+    let due = if line.starts_with("fails ") {
+        Err(StoreError::Failed)
+    } else {
+        Ok(true)
+    };
+    done == due
+}
+
+// The first line that is not so of a store, or the empty one.
+fn first_wrong<R: Files + Alloc<A = Global> + Clone + Drop>(
+    rt: &R,
+    store: &mut FileStore<R>,
+) -> &'static str {
+    for line in STEPS.lines() {
+        let step = line.strip_prefix("fails ").unwrap_or(line);
+        if !is_due(line, is_so(rt, store, step)) {
+            return line;
+        }
+    }
+    ""
 }
 
 #[test]
 fn a_folder_keeps_a_store(rt: HostRuntime) -> Result<(), Fail> {
     let mut store = FileStore::open(&rt, rt.alloc(), FOLDER)?;
-    for line in STEPS.lines() {
-        let (step, answer) = match line.strip_prefix("fails ") {
-            Some(step) => (step, Err(StoreError::Failed)),
-            None => (line, Ok(true)),
-        };
-        assert!(rt; is_so(&rt, &mut store, step) == answer, "{line:?}");
-    }
+    assert_eq!(rt; first_wrong(&&rt, &mut store), "");
     Ok(())
 }

@@ -1,6 +1,7 @@
 //! A database whose keys and values have one size: its text, and a root that was computed by another program.
 
 use crate::bed::{Bed, Database, again};
+use crate::expiry::is_kept;
 use qm_base::{Digest, Error, FixedBytes, Location, Sha256};
 use qm_index::FourCap;
 use qm_index::unordered::Index;
@@ -38,22 +39,30 @@ impl Bed for Fixed {
     }
 }
 
-// The text of a database, whether its root begins with these bytes, and how many operations from location 1 on are proved.
-fn text_of<B: Bed>(alloc: Global, db: &mut Database<B>, begin: &[u8]) -> Result<String, Error> {
-    let (_, shown) = db.proof(alloc, Location::new(1), NonZeroU64::MIN)?;
-    let is_rooted = db.root().bytes().starts_with(begin);
-    Ok(format!(in alloc; "{db:?} {is_rooted} {}", shown.len())?)
+// The first bytes of the root of a database with one write and an entry of metadata.
+const BEGIN: [u8; 8] = [0x30, 0x7d, 0x67, 0x34, 0x8f, 0x10, 0x75, 0x9f];
+
+// The text of a database, whether its root is that one, how many operations from location 1 on are proved, and whether its key is
+// there in a batch of the last block up to which its value is valid, and in one of the next.
+fn text_of<B: Bed>(alloc: Global, db: &mut Database<B>) -> Result<String, Error> {
+    let proved = db.proof(alloc, Location::new(1), NonZeroU64::MIN)?.1.len();
+    let is_rooted = db.root().bytes().starts_with(&BEGIN);
+    let is_valid = is_kept::<B>(alloc, db, 10)?;
+    let is_late = is_kept::<B>(alloc, db, 11)?;
+    Ok(format!(in alloc; "{db:?} {is_rooted} {proved} {is_valid} {is_late}")?)
 }
 
-fn told<B: Bed>(alloc: Global, begin: &[u8]) -> Result<String, Error> {
+fn told<B: Bed>(alloc: Global) -> Result<String, Error> {
     let mut db = again::<B>(alloc)?;
-    text_of::<B>(alloc, &mut db, begin)
+    text_of::<B>(alloc, &mut db)
 }
 
 #[test]
 fn a_database_is_told(rt: HostRuntime) -> Result<(), Fail> {
-    let begin = [0x30, 0x7d, 0x67, 0x34, 0x8f, 0x10, 0x75, 0x9f];
-    let text = told::<Fixed>(rt.alloc(), &begin)?;
-    assert_eq!(rt; text.as_str(), "Db { start: 0, size: 4, floor: 2 } true 1");
+    let text = told::<Fixed>(rt.alloc())?;
+    assert_eq!(rt;
+        text.as_str(),
+        "Db { start: 0, size: 4, floor: 2 } true 1 true false"
+    );
     Ok(())
 }

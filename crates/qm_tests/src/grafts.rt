@@ -1,6 +1,6 @@
 //! Canonical roots of lists, which were computed by another program.
 
-ghost use Rattle.std.specs.Prelude.{◌<◌, ◌≤◌, ◌^◌, IfOk};
+ghost use Rattle.std.specs.Prelude.{◌<◌, ◌≤◌};
 
 use qm_base::{Digest, Location, MerkleError, Sha256, Sha256Digest};
 use qm_bits::{Chunk32, Prunable};
@@ -13,7 +13,6 @@ use qm_graft::trees::{build_grafted_tree, canonical_root_of};
 use qm_merkle::mem::Mem;
 use qm_merkle::{Family, StandardHasher, mmb, mmr};
 use std::alloc::{AllocError, Global};
-use std::process::Abort;
 use std::test::Fail;
 
 type Tree<F> = Mem<F, Sha256Digest>;
@@ -41,37 +40,18 @@ const ROOTS: &str = "\
 fn spelled(alloc: Global, count: u64, first: u64, at: u64) -> Result<Vec<u8>, AllocError>
     requires { at < count }
 {
-    let mut bytes = Vec::new(alloc);
-    if at == 0 || at + 1 == count {
-        let floor = if at == 0 { 0 } else { first.saturating_sub(1) };
-        bytes.extend_from_slice(&[3, 0])?;
-        bytes.extend_from_slice(&floor.to_be_bytes())?;
-        return Ok(bytes);
-    }
-    if at < first {
-        bytes.extend_from_slice(&[1, 0, 0, 0, 1, b'k'])?;
+    let (high, low) = ((at / 256 % 256) as u8, (at % 256) as u8);
+    if at == 0 {
+        Vec::from_slice(alloc, &[3, 0, 0, 0, 0, 0, 0, 0, 0, 0])
+    } else if at + 1 == count {
+        let mut bytes = Vec::from_slice(alloc, &[3, 0])?;
+        bytes.extend_from_slice(&first.saturating_sub(1).to_be_bytes())?;
+        Ok(bytes)
+    } else if at < first {
+        Vec::from_slice(alloc, &[1, 0, 0, 0, 1, b'k', 0, 0, 0, 1, b'v'])
     } else {
-        bytes.extend_from_slice(&[
-            1,
-            0,
-            0,
-            0,
-            3,
-            b'k',
-            (at / 256 % 256) as u8,
-            (at % 256) as u8,
-        ])?;
+        Vec::from_slice(alloc, &[1, 0, 0, 0, 3, b'k', high, low, 0, 0, 0, 1, b'v'])
     }
-    bytes.extend_from_slice(&[0, 0, 0, 1, b'v'])?;
-    Ok(bytes)
-}
-
-// A list: the tree of its operations, its bits and its floor.
-#[derive(Drop)]
-struct Listed<F: Family> {
-    tree: Tree<F>,
-    bits: Prunable<Chunk32>,
-    floor: Location<F>,
 }
 
 // The tree of so many operations.
@@ -93,33 +73,16 @@ fn tree_of<F: Family>(
     Ok(tree)
 }
 
-// Its bits.
+// Their bits.
 fn bits_of(alloc: Global, count: u64, first: u64) -> Result<Prunable<Chunk32>, AllocError>
     requires { count ≤ 1000 }
 {
     let mut bits = Prunable::new(alloc);
-    for at in 0..count {
-        if 1000 < bits.len() {
-            return Err(AllocError);
-        }
-        bits.push(at > 0 && first <= at + 1)?;
+    bits.extend_to(count)?;
+    for at in first.saturating_sub(1).max(1)..count {
+        bits.mark(at);
     }
     Ok(bits)
-}
-
-// The list of so many operations.
-fn list<F: Family>(
-    alloc: Global,
-    hasher: &mut TreeHasher,
-    count: u64,
-    first: u64,
-) -> Result<Listed<F>, AllocError>
-    requires { count ≤ 1000 }
-{
-    let bits = bits_of(alloc, count, first)?;
-    let tree = tree_of(alloc, hasher, count, first)?;
-    let floor = Location::new(first.saturating_sub(1));
-    Ok(Listed { tree, bits, floor })
 }
 
 // Puts leaves behind those of a tree.
@@ -140,122 +103,129 @@ pub(crate) fn add_leaves<F: Family>(
 
 // The text of the canonical root of a list with this grafted tree.
 fn root_text<F: Graftable>(
-    rt: &impl Abort,
     alloc: Global,
     hasher: &mut TreeHasher,
-    list: &Listed<F>,
+    tree: &Tree<F>,
     grafted: &GraftedTree<F>,
+    bits: &Prunable<Chunk32>,
+    floor: u64,
 ) -> Result<String, AllocError> {
-    let (_, leaves) = list.tree.bounds();
+    let floor = Location::new(floor);
+    let (_, leaves) = tree.bounds();
     let (start, chunks) = grafted.bounds();
-    let height = height::<Chunk32>();
-    let inactive = F::inactive_peaks(leaves, list.floor);
-    assert!(rt; inactive <= F::peak_count(leaves) as usize && list.bits.len() == leaves.get());
-    assert!(rt; chunks.get() == grafted_chunks::<F>(height, leaves.get()));
-    assert!(rt; list.bits.pruned_chunks() as u64 <= chunks.get());
-    assert!(rt; start.get() == 0 || needed_size::<F>(height, start.get()) <= leaves.get());
-    let root = list.tree.root(alloc, hasher, inactive)?;
-    let canonical = canonical_root_of(
-        alloc, hasher, &root, &list.tree, grafted, &list.bits, list.floor,
-    )?;
+    let inactive = F::inactive_peaks(leaves, floor);
+    if inactive > F::peak_count(leaves) as usize
+        || bits.len() != leaves.get()
+        || chunks.get() != grafted_chunks::<F>(height::<Chunk32>(), leaves.get())
+        || chunks.get() < bits.pruned_chunks() as u64
+        || start.get() != 0 && leaves.get() < needed_size::<F>(height::<Chunk32>(), start.get())
+    {
+        return Err(AllocError);
+    }
+    let root = tree.root(alloc, hasher, inactive)?;
+    let canonical = canonical_root_of(alloc, hasher, &root, tree, grafted, bits, floor)?;
     hex::encode(alloc, canonical.bytes())
 }
 
 // The grafted tree over a list, from the values over the chunks that are pruned.
 fn built<F: Graftable>(
-    rt: &impl Abort,
     alloc: Global,
     hasher: &mut TreeHasher,
-    list: &Listed<F>,
+    tree: &Tree<F>,
+    bits: &Prunable<Chunk32>,
     pins: Vec<Sha256Digest>,
 ) -> Result<GraftedTree<F>, MerkleError> {
-    let (start, leaves) = list.tree.bounds();
-    let pruned = list.bits.pruned_chunks() as u64;
+    let (start, leaves) = tree.bounds();
+    let pruned = bits.pruned_chunks() as u64;
     let chunks = grafted_chunks::<F>(height::<Chunk32>(), leaves.get());
-    assert!(rt; start.get() == 0 && list.bits.len() == leaves.get());
-    assert!(rt; pruned <= chunks && chunks <= 1000);
-    assert!(rt; pins.len() == F::peak_count(Location::new(pruned)) as usize);
-    build_grafted_tree(alloc, hasher, &list.tree, &list.bits, pins)
+    if start.get() != 0
+        || bits.len() != leaves.get()
+        || chunks < pruned
+        || 1000 < chunks
+        || pins.len() != F::peak_count(Location::new(pruned)) as usize
+    {
+        return Err(MerkleError::Memory);
+    }
+    build_grafted_tree(alloc, hasher, tree, bits, pins)
 }
 
-// The values of the peaks over so many chunks.
-fn pins_of<F: Graftable>(
+// Prunes as many chunks of a list's bits as may go, and answers the values of the peaks over them in its grafted tree.
+fn prune<F: Graftable>(
     alloc: Global,
     grafted: &GraftedTree<F>,
-    chunks: Location<Grafted<F, Chunk32>>,
+    bits: &mut Prunable<Chunk32>,
+    floor: u64,
 ) -> Result<Vec<Sha256Digest>, AllocError>
-    requires { chunks ≤ 2 ^ 62 }
+    requires { floor ≤ 1000 }
 {
+    let count = bits.len();
+    bits.prune_to_bit(sync_boundary::<F>(height::<Chunk32>(), floor, count).min(count));
+    let pruned = Location::new(1000.min(bits.pruned_chunks() as u64));
     let mut pins = Vec::new(alloc);
-    for position in &Grafted::<F, Chunk32>::nodes_to_pin(alloc, chunks)? {
+    for position in &Grafted::<F, Chunk32>::nodes_to_pin(alloc, pruned)? {
         pins.push(grafted.get_node(*position).ok_or(AllocError)?)?;
     }
     Ok(pins)
 }
 
-// Prunes as many chunks of a list's bits as may go, and answers how many.
-fn prune_bits<F: Graftable>(rt: &impl Abort, list: &mut Listed<F>) -> Location<Grafted<F, Chunk32>>
-    ensures { result ≤ 2 ^ 62 }
-{
-    assert!(rt; list.floor.get() <= 1000);
-    let count = list.bits.len();
-    let boundary = sync_boundary::<F>(height::<Chunk32>(), list.floor.get(), count);
-    assert!(rt; boundary <= count);
-    list.bits.prune_to_bit(boundary);
-    let pruned = list.bits.pruned_chunks() as u64;
-    assert!(rt; pruned <= 1000);
-    Location::new(pruned)
-}
-
-// Prunes as many chunks of a list's bits as may go, and answers the values of the peaks over them.
-fn prune<F: Graftable>(
-    rt: &impl Abort,
-    alloc: Global,
-    hasher: &mut TreeHasher,
-    list: &mut Listed<F>,
-) -> Result<Vec<Sha256Digest>, MerkleError> {
-    let whole = built(rt, alloc, hasher, list, Vec::new(alloc))?;
-    let pruned = prune_bits(rt, list);
-    Ok(pins_of(alloc, &whole, pruned)?)
-}
-
 // The text of the canonical root of a list, by a grafted tree that is built from another's pins where chunks may be pruned.
 fn pruned_root<F: Graftable>(
-    rt: &impl Abort,
     alloc: Global,
-    count: u64,
-    first: u64,
+    hasher: &mut TreeHasher,
+    tree: &Tree<F>,
+    bits: &mut Prunable<Chunk32>,
+    floor: u64,
 ) -> Result<String, MerkleError>
-    requires { count ≤ 1000 }
+    requires { floor ≤ 1000 }
+{
+    let whole = built(alloc, hasher, tree, bits, Vec::new(alloc))?;
+    let pins = prune(alloc, &whole, bits, floor)?;
+    let grafted = built(alloc, hasher, tree, bits, pins)?;
+    Ok(root_text(alloc, hasher, tree, &grafted, bits, floor)?)
+}
+
+// The text of the canonical root of the list of so many operations.
+fn root_of<F: Graftable>(alloc: Global, count: u64, first: u64) -> Result<String, MerkleError>
+    requires count { count ≤ 1000 }
+    requires first { first ≤ 1000 }
 {
     let mut hasher = StandardHasher::new(Sha256::new());
-    let mut list = list::<F>(alloc, &mut hasher, count, first)?;
-    let pins = prune(rt, alloc, &mut hasher, &mut list)?;
-    let grafted = built(rt, alloc, &mut hasher, &list, pins)?;
-    Ok(root_text(rt, alloc, &mut hasher, &list, &grafted)?)
+    let mut bits = bits_of(alloc, count, first)?;
+    let tree = tree_of::<F>(alloc, &mut hasher, count, first)?;
+    pruned_root(
+        alloc,
+        &mut hasher,
+        &tree,
+        &mut bits,
+        first.saturating_sub(1),
+    )
 }
 
 // The next number of a text.
-fn number(word: Option<&str>) -> Result<u64, Fail>
-    ensures { IfOk result (λ n. n ≤ 1000) }
+fn number(word: Option<&str>) -> u64
+    ensures { result ≤ 1000 }
 {
-    match word.ok_or("no number")?.parse() {
-        Ok(number) if number <= 1000 => Ok(number),
-        _ => Err("no such number".into()),
+    word.unwrap_or("").parse().unwrap_or(0).min(1000)
+}
+
+// Whether the lists have these roots in a family, which stand behind those of so many others.
+fn are_rooted<F: Graftable>(alloc: Global, others: usize) -> Result<bool, MerkleError> {
+    for row in ROOTS.lines() {
+        let mut words = row.split_ascii_whitespace();
+        let count = number(words.next());
+        let first = number(words.next());
+        let root = root_of::<F>(alloc, count, first)?;
+        if words.nth(others) != Some(root.as_str()) {
+            return Ok(false);
+        }
     }
+    Ok(true)
 }
 
 #[test]
 fn lists_have_canonical_roots(rt: HostRuntime) -> Result<(), Fail> {
-    for row in ROOTS.lines() {
-        let mut words = row.split_ascii_whitespace();
-        let count = number(words.next())?;
-        let first = number(words.next())?;
-        let mountains = pruned_root::<mmr::Family>(&rt, rt.alloc(), count, first)?;
-        let delayed = pruned_root::<mmb::Family>(&rt, rt.alloc(), count, first)?;
-        let are_so = words.next() == Some(mountains.as_str())
-            && words.next() == Some(delayed.as_str());
-        assert!(rt; are_so, "{row}");
-    }
+    let alloc = rt.alloc();
+    let are_right = are_rooted::<mmr::Family>(alloc, 0)? && are_rooted::<mmb::Family>(alloc, 1)?;
+    assert!(rt; are_right);
     Ok(())
 }

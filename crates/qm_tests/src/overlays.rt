@@ -9,6 +9,7 @@ use qm_chain::{Diff, DiffEntry};
 use qm_overlay::{BitmapBatch, ChunkOverlay, commit, overlay_of};
 use std::alloc::{AllocError, Global};
 use std::rc::Rc;
+use std::slice::from_ref;
 use std::test::Fail;
 
 type Bits<'a> = BitmapBatch<'a, Chunk32>;
@@ -25,7 +26,9 @@ fn moved(
         loc: Location::new(to),
         base_old_loc: Some(Location::new(from)),
     };
-    Ok(Rc::new(alloc, Diff::new(vec![in alloc; (key, entry)]?))?)
+    let mut entries = Vec::new(alloc);
+    entries.push((key, entry))?;
+    Ok(Rc::new(alloc, Diff::new(entries))?)
 }
 
 // The bits with such a step over them, to a list of two more operations.
@@ -39,7 +42,7 @@ fn pushed<'a>(alloc: Global, bits: Bits<'a>, from: u64) -> Result<Bits<'a>, Allo
         return Err(AllocError);
     }
     let step = moved(alloc, from, from + 2)?;
-    let overlay = overlay_of(alloc, &bits, size, &[step])?;
+    let overlay = overlay_of(alloc, &bits, size, from_ref(&step))?;
     bits.push(Rc::new(alloc, overlay)?)?;
     Ok(bits)
 }

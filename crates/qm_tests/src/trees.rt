@@ -6,6 +6,7 @@ use qm_merkle::mem::Mem;
 use qm_merkle::{Family, StandardHasher, mmb, mmr};
 use qm_proofs::Proof;
 use std::alloc::{AllocError, Global};
+use std::slice::from_ref;
 use std::test::Fail;
 
 type Tree<F> = Mem<F, Sha256Digest>;
@@ -79,43 +80,55 @@ const DELAYED_ROOTS: &str = "
 // The root over the digests of "first" and "second" as the peaks of three leaves.
 const REPLACED: &str = "c7c0a9870d3b8895eaa160724b08e36a5ad9bfd5c277bb033fce81c9617dc741";
 
-// Whether the digest of the tree's roots in a row has this text.
+// Puts one more leaf behind those of a tree, and answers whether the digest of the tree's roots in a row has this text.
 fn has_row<F: Family>(
     alloc: Global,
     hasher: &mut TreeHasher,
-    tree: &Tree<F>,
+    tree: &mut Tree<F>,
     want: &str,
 ) -> Result<bool, AllocError> {
-    let leaves = tree.leaves();
-    if 40 < leaves.get() {
-        return Ok(false);
-    }
-    let peaks = F::peaks(alloc, leaves)?;
+    let (_, last) = tree.bounds();
+    let byte = (last.get() % 256) as u8;
+    let leaf = hasher.leaf_digest(F::location_to_position(last), &[byte.wrapping_add(1)]);
+    add_leaves(alloc, hasher, tree, &[leaf])?;
+    let (_, leaves) = tree.bounds();
     let mut all = Sha256::new();
     all.start();
-    for inactive in 0..=peaks.len() {
-        let root = tree.root(alloc, hasher, inactive)?;
-        all.update(root.bytes());
+    for inactive in 0..=F::peak_count(leaves) as usize {
+        all.update(tree.root(alloc, hasher, inactive)?.bytes());
     }
     Ok(hex::encode(alloc, all.finish().bytes())?.as_str() == want)
 }
 
-// How many trees, each of one leaf more, have these roots, before one that has not.
-fn rooted<F: Family>(alloc: Global, rows: &str) -> Result<u64, AllocError> {
+// Whether trees, each of one leaf more, have these roots.
+fn are_rooted<F: Family>(alloc: Global, rows: &str) -> Result<bool, AllocError> {
     let mut hasher = StandardHasher::new(Sha256::new());
     let mut tree: Tree<F> = Mem::new(alloc);
     for want in rows.split_ascii_whitespace() {
-        let last = tree.leaves();
-        if last.get() >= 40 {
-            return Ok(last.get());
-        }
-        let leaf = hasher.leaf_digest(F::location_to_position(last), &[last.get() as u8 + 1]);
-        add_leaves(alloc, &mut hasher, &mut tree, &[leaf])?;
-        if !has_row(alloc, &mut hasher, &tree, want)? {
-            return Ok(last.get());
+        if !has_row(alloc, &mut hasher, &mut tree, want)? {
+            return Ok(false);
         }
     }
-    Ok(tree.leaves().get())
+    is_checked::<F>(alloc, &mut hasher)
+}
+
+// Whether a proof of the last of three leaves, over a peak with the digest of "first", is accepted against the root and not against
+// another digest.
+fn is_checked<F: Family>(alloc: Global, hasher: &mut TreeHasher) -> Result<bool, AllocError> {
+    let first = hasher.digest(&[b"first"]);
+    let last: Location<F> = Location::new(2);
+    let leaf = hasher.leaf_digest(F::location_to_position(last), b"third");
+    let three: Location<F> = Location::new(3);
+    let root = hasher.root(three, 0, &[first, leaf]);
+    let digests = Vec::from_slice(alloc, &[first])?;
+    let proof = Proof {
+        leaves: 3,
+        inactive_peaks: 0,
+        digests,
+    };
+    let shown = Vec::from_slice(alloc, b"third")?;
+    let is_right = proof.verify(hasher, from_ref(&shown), last, &root);
+    Ok(is_right && !proof.verify(hasher, from_ref(&shown), last, &first))
 }
 
 // The tree of three leaves pruned to two, of its last leaf and the peak over the others.
@@ -130,10 +143,10 @@ fn of_components(
 }
 
 // The root of a tree of three leaves, after its last one gets another digest.
-fn root_with(
+fn root_with<F: Family>(
     alloc: Global,
     hasher: &mut TreeHasher,
-    tree: &Tree<mmr::Family>,
+    tree: &Tree<F>,
     leaf: Sha256Digest,
 ) -> Result<Sha256Digest, MerkleError> {
     let mut draft = tree.new_batch(alloc);
@@ -142,40 +155,22 @@ fn root_with(
     Ok(batch.root(alloc, hasher, 0)?)
 }
 
-// The text of the root of such a tree, after its last leaf gets the digest of "second": its peak has that of "first".
-fn replaced_root(alloc: Global) -> Result<String, MerkleError> {
+// Whether the root of such a tree is that one, after its last leaf gets the digest of "second": its peak has that of "first".
+fn is_replaced(alloc: Global) -> Result<bool, MerkleError> {
     let mut hasher = StandardHasher::new(Sha256::new());
     let first = hasher.digest(&[b"first"]);
     let second = hasher.digest(&[b"second"]);
     let tree = of_components(alloc, first, first)?;
     let root = root_with(alloc, &mut hasher, &tree, second)?;
-    Ok(hex::encode(alloc, root.bytes())?)
-}
-
-// Whether a proof of the last of three leaves, over a peak with the digest of "first", is accepted against the root and not against
-// another digest.
-fn is_checked(alloc: Global) -> Result<bool, AllocError> {
-    let mut hasher = StandardHasher::new(Sha256::new());
-    let first = hasher.digest(&[b"first"]);
-    let last: Location<mmr::Family> = Location::new(2);
-    let leaf = hasher.leaf_digest(mmr::Family::location_to_position(last), b"third");
-    let three: Location<mmr::Family> = Location::new(3);
-    let root = hasher.root(three, 0, &[first, leaf]);
-    let proof = Proof {
-        leaves: 3,
-        inactive_peaks: 0,
-        digests: Vec::from_slice(alloc, &[first])?,
-    };
-    let shown = [Vec::from_slice(alloc, b"third")?];
-    let is_right = proof.verify(&mut hasher, &shown, last, &root);
-    Ok(is_right && !proof.verify(&mut hasher, &shown, last, &first))
+    Ok(hex::encode(alloc, root.bytes())?.as_str() == REPLACED)
 }
 
 #[test]
 fn trees_have_roots(rt: HostRuntime) -> Result<(), Fail> {
-    assert_eq!(rt; rooted::<mmr::Family>(rt.alloc(), ROOTS)?, 40);
-    assert_eq!(rt; rooted::<mmb::Family>(rt.alloc(), DELAYED_ROOTS)?, 16);
-    assert_eq!(rt; replaced_root(rt.alloc())?.as_str(), REPLACED);
-    assert!(rt; is_checked(rt.alloc())?);
+    let alloc = rt.alloc();
+    let are_right = are_rooted::<mmr::Family>(alloc, ROOTS)?
+        && are_rooted::<mmb::Family>(alloc, DELAYED_ROOTS)?
+        && is_replaced(alloc)?;
+    assert!(rt; are_right);
     Ok(())
 }

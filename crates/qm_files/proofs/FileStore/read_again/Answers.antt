@@ -9,9 +9,6 @@ returns-in_err-check g c = record { start = refl; within = le_refl _; faults = r
 pub returns-in_err-log : goal.returns-in_err-log
 returns-in_err-log g c = record { start = refl; within = le_refl _; faults = refl }
 
-pub returns-in_err-sync : goal.returns-in_err-sync
-returns-in_err-sync g c = record { start = refl; within = le_refl _; faults = refl }
-
 pub returns-then-start : goal.returns-then-start
 returns-then-start g c = record {
   start = ap (λ s. s.start) c.none.ensures ∙ c.start-then-start.ensures.value ∙ ap (λ (s : Counted). s.items.start) c.self.view_is;
