@@ -62,7 +62,7 @@ module _ {X C B S M K V D : Type 0} (members : stores.Ghosts C) (means : words.G
   }
 
   -- all stays as it was
-  stayed : (next : State → Answer × State) (turn : Turn K V D) → turn ≢ StoreFault → ((s : State) → Stands members means old s → Does old.held turn (next s)) → Told next old.held turn
+  pub stayed : (next : State → Answer × State) (turn : Turn K V D) → turn ≢ StoreFault → ((s : State) → Stands members means old s → Does old.held turn (next s)) → Told next old.held turn
   stayed next turn never obeys = record {
     machine = obeys;
     store = record { start = refl; told = refl };
@@ -87,7 +87,7 @@ module _ {X C B S M K V D : Type 0} (members : stores.Ghosts C) (means : words.G
       by (Some list) none = absurd none
 
   -- a refusal is no fault of the store
-  refusal-never : {turn : Turn K V D} {r : Refused} → turn ≡ Reply (replies.Refused r) → turn ≢ StoreFault
+  pub refusal-never : {turn : Turn K V D} {r : Refused} → turn ≡ Reply (replies.Refused r) → turn ≢ StoreFault
   refusal-never e fault = absurd (cc)
 
   -- an unordered database does not offer it
@@ -99,6 +99,9 @@ module _ {X C B S M K V D : Type 0} (members : stores.Ghosts C) (means : words.G
       → Told (λ s. if_ordered means.scheme s (with_database s s.database (f s))) old.held turn
   none_ordered f ordered is {turn} e = stayed (λ s. if_ordered means.scheme s (with_database s s.database (f s))) turn (refusal-never e)
       (λ s k. choice true ordered (λ s. with_database s s.database (f s)) old.held turn s (closed is e (f s) s k))
+
+  pub none_open : (f : State → List Operation → Answer × State) → {c : C} → old.held ≡ Store c → {turn : Turn K V D} → turn ≡ Reply (replies.Refused refused.NoDatabase) → Told (λ s. with_database s s.database (f s)) old.held turn
+  none_open f is {turn} e = stayed (λ s. with_database s s.database (f s)) turn (refusal-never e) (λ s k. closed is e (f s) s k)
 
   pub none_read : (keys : List Bytes) (from : Option ℕ) → {c : C} → old.held ≡ Store c → {turn : Turn K V D} → turn ≡ Reply (replies.Refused refused.NoDatabase) → Told (λ s. machine.read means.scheme s keys from) old.held turn
   none_read keys from is {turn} e = stayed (λ s. machine.read means.scheme s keys from) turn (refusal-never e) (λ s k. by s k from)
