@@ -153,6 +153,26 @@ module _ {X C B S M K V D : Type 0} (members : stores.Ghosts C) (means : words.G
     never = refusal-never members means key value digest old e;
   }
 
+  -- the clauses of a command that tells and leaves all as it is
+  abbrev pub Says : (State → Answer × State) → Turn K V D → Type 0
+  Says next turn = record { machine : (s : State) → Stands members means old s → Goes old.table.items old.held turn (next s); never : turn ≢ StoreFault }
+
+  pub none_told : (f : State → List Operation → Answer × State) → {c : C} → old.held ≡ Store c → {turn : Turn K V D} → turn ≡ Reply (replies.Refused refused.NoDatabase) → Says (λ s. with_database s s.database (f s)) turn
+  none_told f is e = let stays = none_begun f is e in record { machine = stays.machine; never = stays.never }
+
+  pub none_made_told : (f : State → machine.Slot → Answer × State) (h : ℕ) → {turn : Turn K V D} → turn ≡ Reply (replies.Refused (refused.NoSuchHandle h))
+      → ((s : State) → SlotIs members means s.had (get_or old.table.items h Gone) (slot_at s.table h) → f s (slot_at s.table h) ≡ refuse s (refusals.NoSuchHandle h))
+      → Says (λ s. f s (slot_at s.table h)) turn
+  none_made_told f h e refused_by = let stays = none_made f h e refused_by in record { machine = stays.machine; never = stays.never }
+
+  pub none_named_told : (f : State → List Operation → machine.Slot → Answer × State) (h : ℕ) → {x : X} → old.held ≡ Database x → {turn : Turn K V D} → turn ≡ Reply (replies.Refused (refused.NoSuchHandle h))
+      → ((s : State) (list : List Operation) → SlotIs members means s.had (get_or old.table.items h Gone) (slot_at s.table h) → f s list (slot_at s.table h) ≡ refuse s (refusals.NoSuchHandle h))
+      → Says (λ s. with_database s s.database (λ list. f s list (slot_at s.table h))) turn
+  none_named_told f h is {turn} e refused_by = record {
+    machine = λ s k. subst (λ (held : Given X C). Goes old.table.items held turn (with_database s s.database (λ list. f s list (slot_at s.table h)))) (sym is) ((none_named f h is refl e refused_by).machine s k);
+    never = refusal-never members means key value digest old e;
+  }
+
   module _ {x after : X} {T : Type 0} {read : Result T Error} (is : old.held ≡ Database x) (reads : ReadsOnly means members x after (IsErrOf read (errors.Journal journal.Store))) where
     -- a command that read, with this table behind it
     moved : (next : State → Answer × State) {table known : List (Slot B S M)} → table ≡ known → (turn : Turn K V D) → (turn ≡ StoreFault → IsErrOf read (errors.Journal journal.Store))
@@ -163,6 +183,15 @@ module _ {X C B S M K V D : Type 0} (members : stores.Ghosts C) (means : words.G
       uses = read-uses members means is reads turn why;
       opened = refl;
     }
+
+    -- its reply, where no batch was moved
+    pub stayed_ok : (next : State → Answer × State) (r : reply.Reply K V D) → ((s : State) → Holds members means (Database x) old.table.items old.opened s → Goes old.table.items (Database after) (Reply r) (next s)) → Moves next old.table.items (Database after) (Reply r)
+    stayed_ok next r each = moved next refl (Reply r) (λ e. absurd (cc e)) each
+
+    -- and its error
+    pub stayed_err : (next : State → Answer × State) {turn : Turn K V D} (error : Error) → read ≡ Err error → turn ≡ turn_of_error error
+        → ((s : State) → Holds members means (Database x) old.table.items old.opened s → Goes old.table.items (Database after) (turn_of_error error) (next s)) → Moves next old.table.items (Database after) turn
+    stayed_err next error was e each = subst (λ t. Moves next old.table.items (Database after) t) (sym e) (moved next refl (turn_of_error error) (λ fault. was ∙ ap Err (fault-told error fault)) each)
 
     -- its reply, where a number got another slot
     pub moved_ok : (next : State → Answer × State) (h : ℕ) (slot : Slot B S M) {taken table : List (Slot B S M)} → table ≡ set taken h slot → taken ≡ set old.table.items h Gone → (r : reply.Reply K V D)
