@@ -5,6 +5,7 @@ pub mod Commands
 pub mod BatchCommands
 pub mod ReadCommands
 pub mod ReadStores
+pub mod Moves
 pub mod StagedCommands
 pub mod OrderedCommands
 pub mod ProofCommands

@@ -26,14 +26,6 @@ use Rattle.qm_store.specs.Given.{TellsFrom}
 use Rattle.qm_engine.proofs.Commands.{with_told, Keeps, Holds-kept, Turns, answered, merkleized_slot}
 use Rattle.qm_engine.proofs.ReadCommands.{readable_ok, readable_err, readable_state}
 
--- what a read leaves is what the call leaves that hands on its error or answers by it
-module _ {X C B S M T U : Type 0} (members : stores.Ghosts C) (means : words.Ghosts X C B S M) (old new : X) (read : Result T Error) (fault : Error) (reads : ReadsOnly means members old new (IsErrOf read fault)) where
-  pub read_ok : (value : U) → ReadsOnly means members old new (IsErrOf (Ok value) fault)
-  read_ok value = record { same = reads.same; store = reads.store; faults = record { later = reads.faults.later; failed = λ is. absurd (cc is) } }
-
-  pub read_err : (e : Error) → read ≡ Err e → ReadsOnly means members old new (IsErrOf {T = U} (Err e) fault)
-  read_err e was = record { same = reads.same; store = reads.store; faults = record { later = reads.faults.later; failed = λ is. let same : e ≡ fault = cc is in reads.faults.failed (was ∙ ap Err same) } }
-
 module _ {X C B S M K V D : Type 0} (members : stores.Ghosts C) (means : words.Ghosts X C B S M) (key : K → Bytes) (value : V → Bytes) (digest : D → Bytes)
     (x after : X) (table : List (Slot B S M)) (opened h : ℕ) (s : State) (beside : List Bytes → Option Bytes) (batch : M) where
   -- the turn does what the machine does for the key beside one

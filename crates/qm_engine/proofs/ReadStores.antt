@@ -32,7 +32,7 @@ use Rattle.qm_engine.specs.Session.{HeldIs, SlotIs, Holds, Stands, IfReply, Answ
 use Rattle.qm_engine.specs.Table.{merkleized_of}
 use Rattle.qm_engine.specs.Turn.{turn_of_error}
 use Rattle.qm_engine.specs.Words.{ReadsOnly}
-use Rattle.qm_engine.proofs.Commands.{no_refusal, with_list, with_told, Holds-kept, answered}
+use Rattle.qm_engine.proofs.Commands.{no_refusal, none_some, by_refusal, with_list, with_told, Holds-kept, answered}
 use Rattle.qm_engine.proofs.LastingCommands.{fault-told}
 
 module _ {X C B S M : Type 0} (members : stores.Ghosts C) (means : words.Ghosts X C B S M) {held : Given X C} {x after : X} {failed : Type 0} (is : held ≡ Database x) (reads : ReadsOnly means members x after failed) where
@@ -62,7 +62,7 @@ module _ {X C B S M K V D : Type 0} (members : stores.Ghosts C) (means : words.G
   }
 
   -- all stays as it was
-  stayed : (next : State → Answer × State) (turn : Turn K V D) → turn ≢ StoreFault → ((s : State) → Stands members means old s → Does old.held turn (next s)) → Told next old.held turn
+  pub stayed : (next : State → Answer × State) (turn : Turn K V D) → turn ≢ StoreFault → ((s : State) → Stands members means old s → Does old.held turn (next s)) → Told next old.held turn
   stayed next turn never obeys = record {
     machine = obeys;
     store = record { start = refl; told = refl };
@@ -87,7 +87,7 @@ module _ {X C B S M K V D : Type 0} (members : stores.Ghosts C) (means : words.G
       by (Some list) none = absurd none
 
   -- a refusal is no fault of the store
-  refusal-never : {turn : Turn K V D} {r : Refused} → turn ≡ Reply (replies.Refused r) → turn ≢ StoreFault
+  pub refusal-never : {turn : Turn K V D} {r : Refused} → turn ≡ Reply (replies.Refused r) → turn ≢ StoreFault
   refusal-never e fault = absurd (cc)
 
   -- an unordered database does not offer it
@@ -99,6 +99,9 @@ module _ {X C B S M K V D : Type 0} (members : stores.Ghosts C) (means : words.G
       → Told (λ s. if_ordered means.scheme s (with_database s s.database (f s))) old.held turn
   none_ordered f ordered is {turn} e = stayed (λ s. if_ordered means.scheme s (with_database s s.database (f s))) turn (refusal-never e)
       (λ s k. choice true ordered (λ s. with_database s s.database (f s)) old.held turn s (closed is e (f s) s k))
+
+  pub none_open : (f : State → List Operation → Answer × State) → {c : C} → old.held ≡ Store c → {turn : Turn K V D} → turn ≡ Reply (replies.Refused refused.NoDatabase) → Told (λ s. with_database s s.database (f s)) old.held turn
+  none_open f is {turn} e = stayed (λ s. with_database s s.database (f s)) turn (refusal-never e) (λ s k. closed is e (f s) s k)
 
   pub none_read : (keys : List Bytes) (from : Option ℕ) → {c : C} → old.held ≡ Store c → {turn : Turn K V D} → turn ≡ Reply (replies.Refused refused.NoDatabase) → Told (λ s. machine.read means.scheme s keys from) old.held turn
   none_read keys from is {turn} e = stayed (λ s. machine.read means.scheme s keys from) turn (refusal-never e) (λ s k. by s k from)
@@ -134,7 +137,7 @@ module _ {X C B S M K V D : Type 0} (members : stores.Ghosts C) (means : words.G
       by s k list machine.gone is = λ apart. (refl, k)
       by s k list b is = absurd is
 
-  module _ {x after : X} {T : Type 0} {read : Result T Error} (is : old.held ≡ Database x) (reads : ReadsOnly means members x after (IsErrOf read (errors.Journal journal.Store))) (answer : List Operation → Answer) where
+  module _ {x after : X} {failed : Type 0} (is : old.held ≡ Database x) (reads : ReadsOnly means members x after failed) (answer : List Operation → Answer) where
     -- the turn answers from the list
     answers : (turn : Turn K V D) → ((list : List Operation) → TellsFrom members (means.inside x) list → means.stands x list → IfReply turn (λ r. answer_view key value digest r ≡ answer list))
         → (s : State) → Stands members means old s → Does (Database after) turn (with_database s s.database (λ list. (answer list, s)))
@@ -148,23 +151,48 @@ module _ {X C B S M K V D : Type 0} (members : stores.Ghosts C) (means : words.G
         with_apart Memory s a same = tt
         with_apart StoreFault s a same = tt
 
-    read_left : (next : State → Answer × State) (turn : Turn K V D) → (turn ≡ StoreFault → IsErrOf read (errors.Journal journal.Store)) → ((s : State) → Stands members means old s → Does (Database after) turn (next s)) → Told next (Database after) turn
+    read_left : (next : State → Answer × State) (turn : Turn K V D) → (turn ≡ StoreFault → failed) → ((s : State) → Stands members means old s → Does (Database after) turn (next s)) → Told next (Database after) turn
     read_left next turn why does = record { machine = does; store = read-keeps members means is reads; uses = read-uses members means is reads turn why; opened = refl }
 
     no_refusal-here : {turn : Turn K V D} (error : Error) → turn ≡ turn_of_error error → ((list : List Operation) → means.stands x list → TellsFrom members (means.inside x) list → refusal_of error ≡ None)
         → (list : List Operation) → TellsFrom members (means.inside x) list → means.stands x list → IfReply turn (λ r. answer_view key value digest r ≡ answer list)
     no_refusal-here error e none list tells stands = subst (λ t. IfReply t (λ r. answer_view key value digest r ≡ answer list)) (sym e) (no_refusal error (λ r. answer_view key value digest r ≡ answer list) (none list stands tells))
 
-    pub asked_ok : (ordered : means.scheme.form.ordered ≡ true) (r : reply.Reply K V D) → ((list : List Operation) → means.stands x list → answer_view key value digest r ≡ answer list) → Told (λ s. if_ordered means.scheme s (with_database s s.database (λ list. (answer list, s)))) (Database after) (Reply r)
-    asked_ok ordered r are = read_left (λ s. if_ordered means.scheme s (with_database s s.database (λ list. (answer list, s)))) (Reply r) (λ e. absurd (cc e))
-        (λ s k. choice true ordered (λ s. with_database s s.database (λ list. (answer list, s))) (Database after) (Reply r) s (answers (Reply r) (λ list tells stands. are list stands) s k))
+    -- as the turn does that a database gave
+    pub asked : (ordered : means.scheme.form.ordered ≡ true) (turn : Turn K V D) → (turn ≡ StoreFault → failed)
+        → IfReply turn (λ r. means.scheme.form.ordered ≡ true → (list : List Operation) → means.stands x list → TellsFrom members (means.inside x) list → answer_view key value digest r ≡ answer list)
+        → Told (λ s. if_ordered means.scheme s (with_database s s.database (λ list. (answer list, s)))) (Database after) turn
+    asked ordered turn why told = read_left (λ s. if_ordered means.scheme s (with_database s s.database (λ list. (answer list, s)))) turn why
+        (λ s k. choice true ordered (λ s. with_database s s.database (λ list. (answer list, s))) (Database after) turn s (answers turn (by turn told) s k))
+      where
+        by : (turn : Turn K V D) → IfReply turn (λ r. means.scheme.form.ordered ≡ true → (list : List Operation) → means.stands x list → TellsFrom members (means.inside x) list → answer_view key value digest r ≡ answer list)
+            → (list : List Operation) → TellsFrom members (means.inside x) list → means.stands x list → IfReply turn (λ r. answer_view key value digest r ≡ answer list)
+        by (Reply r) told list tells stands = told ordered list stands tells
+        by Memory told list tells stands = tt
+        by StoreFault told list tells stands = tt
 
-    pub asked_err : (ordered : means.scheme.form.ordered ≡ true) {turn : Turn K V D} (error : Error) → read ≡ Err error → turn ≡ turn_of_error error → ((list : List Operation) → means.stands x list → TellsFrom members (means.inside x) list → refusal_of error ≡ None) → Told (λ s. if_ordered means.scheme s (with_database s s.database (λ list. (answer list, s)))) (Database after) turn
-    asked_err ordered {turn} error was e none = read_left (λ s. if_ordered means.scheme s (with_database s s.database (λ list. (answer list, s)))) turn (λ fault. was ∙ ap Err (fault-told error (sym e ∙ fault)))
-        (λ s k. choice true ordered (λ s. with_database s s.database (λ list. (answer list, s))) (Database after) turn s (answers turn (no_refusal-here error e none) s k))
+    pub read_err : {turn : Turn K V D} (error : Error) → (error ≡ errors.Journal journal.Store → failed) → turn ≡ turn_of_error error → ((list : List Operation) → means.stands x list → TellsFrom members (means.inside x) list → refusal_of error ≡ None) → Told (λ s. with_database s s.database (λ list. (answer list, s))) (Database after) turn
+    read_err {turn} error why e none = read_left (λ s. with_database s s.database (λ list. (answer list, s))) turn (λ fault. why (fault-told error (sym e ∙ fault))) (answers turn (no_refusal-here error e none))
 
-    pub read_err : {turn : Turn K V D} (error : Error) → read ≡ Err error → turn ≡ turn_of_error error → ((list : List Operation) → means.stands x list → TellsFrom members (means.inside x) list → refusal_of error ≡ None) → Told (λ s. with_database s s.database (λ list. (answer list, s))) (Database after) turn
-    read_err {turn} error was e none = read_left (λ s. with_database s s.database (λ list. (answer list, s))) turn (λ fault. was ∙ ap Err (fault-told error (sym e ∙ fault))) (answers turn (no_refusal-here error e none))
+-- What a call of a database comes to as a turn, where it answers so.
+module _ {X C B S M K V D T : Type 0} (members : stores.Ghosts C) (means : words.Ghosts X C B S M) (key : K → Bytes) (value : V → Bytes) (digest : D → Bytes) {old new : X} {read : Result T Error} (reads : ReadsOnly means members old new (IsErrOf read (errors.Journal journal.Store))) (answer : List Operation → Answer) where
+  abbrev pub Replies : Turn K V D → Type 0
+  Replies turn = record {
+    reply : IfReply turn (λ r. means.scheme.form.ordered ≡ true → (list : List Operation) → means.stands old list → TellsFrom members (means.inside old) list → answer_view key value digest r ≡ answer list);
+    reads : ReadsOnly means members old new (turn ≡ StoreFault);
+  }
+
+  pub replied_ok : (r : reply.Reply K V D) → (means.scheme.form.ordered ≡ true → (list : List Operation) → means.stands old list → answer_view key value digest r ≡ answer list) → Replies (Reply r)
+  replied_ok r are = record {
+    reply = λ ordered list stands tells. are ordered list stands;
+    reads = record { same = reads.same; store = reads.store; faults = record { later = reads.faults.later; failed = λ e. absurd (cc e) } };
+  }
+
+  pub replied_err : {turn : Turn K V D} (error : Error) → read ≡ Err error → turn ≡ turn_of_error error → ((list : List Operation) → means.stands old list → TellsFrom members (means.inside old) list → refusal_of error ≡ None) → Replies turn
+  replied_err {turn} error was e none = subst Replies (sym e) (record {
+    reply = by_refusal error (λ r. means.scheme.form.ordered ≡ true → (list : List Operation) → means.stands old list → TellsFrom members (means.inside old) list → answer_view key value digest r ≡ answer list) (λ r told ordered list stands tells. absurd (none_some (none list stands tells) told));
+    reads = record { same = reads.same; store = reads.store; faults = record { later = reads.faults.later; failed = λ fault. reads.faults.failed (was ∙ ap Err (fault-told error fault)) } };
+  })
 
 -- what a store has that only a database's was used, as that of what is held
 module _ {X C : Type 0} (members : stores.Ghosts C) (inside : X → C) {held : Given X C} {x : X} (is : held ≡ Database x) {now : C} where

@@ -44,6 +44,10 @@ use Rattle.qm_engine.proofs.BatchCommands.{base-begins}
 use Rattle.qm_engine.proofs.ReadCommands.{is_stale_read}
 use Rattle.qm_machine.specs.Sound.{IsSoundSlot, IsSteady}
 
+-- the answer of an expand from as many keys on as there are
+pub expanded_is : {n k m first end : ℕ} (values : List (Option Bytes)) → first ≡ n → end ≡ n + k → m ≡ k → lines.Expanded first end values ≡ lines.Expanded n (n + m) values
+expanded_is {n} values e f g = ap₂ (λ a b. lines.Expanded a b values) e (f ∙ ap (λ i. n + i) (sym g))
+
 module _ {X C B S M K V D : Type 0} (members : stores.Ghosts C) (means : words.Ghosts X C B S M) (key : K → Bytes) (value : V → Bytes) (digest : D → Bytes) where
   abbrev root : List Operation → Bytes
   root = means.scheme.root

@@ -130,60 +130,68 @@ fn write_digests<D: Digest>(out: &mut String, digests: &[D]) -> Result<(), Alloc
 }
 
 fn write_tree(out: &mut String, refused: TreeRefused) -> Result<(), AllocError>
-    ensures { Adds out.old out.new result (texts.tree_text (tree_view refused)) }
+    ensures { Adds out.old out.new result (texts.reply_line (lines.Refuses (refusals.Merkle (tree_view refused)))) }
 {
     match refused {
-        TreeRefused::RangeOutOfBounds(at) => { write_number(out, "RangeOutOfBounds ", at) }
-        TreeRefused::ElementPruned(position) => { write_number(out, "ElementPruned ", position) }
-        TreeRefused::MissingNode(position) => { write_number(out, "MissingNode ", position) }
-        TreeRefused::LocationOverflow(count) => { write_number(out, "LocationOverflow ", count) }
+        TreeRefused::RangeOutOfBounds(at) => {
+            write_number(out, "refused Merkle RangeOutOfBounds ", at)
+        }
+        TreeRefused::ElementPruned(position) => {
+            write_number(out, "refused Merkle ElementPruned ", position)
+        }
+        TreeRefused::MissingNode(position) => {
+            write_number(out, "refused Merkle MissingNode ", position)
+        }
+        TreeRefused::LocationOverflow(count) => {
+            write_number(out, "refused Merkle LocationOverflow ", count)
+        }
     }
 }
 
 fn write_log(out: &mut String, refused: LogRefused) -> Result<(), AllocError>
-    ensures { Adds out.old out.new result (texts.log_text (log_view refused)) }
+    ensures { Adds out.old out.new result (texts.reply_line (lines.Refuses (refusals.Journal (log_view refused)))) }
 {
     match refused {
-        LogRefused::ItemPruned(location) => { write_number(out, "ItemPruned ", location) }
-        LogRefused::ItemTooLarge(length) => { write_number(out, "ItemTooLarge ", length) }
+        LogRefused::ItemPruned(location) => {
+            write_number(out, "refused Journal ItemPruned ", location)
+        }
+        LogRefused::ItemTooLarge(length) => {
+            write_number(out, "refused Journal ItemTooLarge ", length)
+        }
     }
 }
 
 fn write_corrupt(out: &mut String, corrupt: Corrupt) -> Result<(), AllocError>
-    ensures { Adds out.old out.new result (texts.refused_text (refusals.DataCorrupted (corrupt_view corrupt))) }
+    ensures { Adds out.old out.new result (texts.reply_line (lines.Refuses (refusals.DataCorrupted (corrupt_view corrupt)))) }
 {
-    out.push_str("DataCorrupted ")?;
+    out.push_str("refused DataCorrupted ")?;
     out.push_str(corrupt.text())
 }
 
 fn write_refused(out: &mut String, refused: Refused) -> Result<(), AllocError>
-    ensures { Adds out.old out.new result (texts.refused_text (refused_view refused)) }
+    ensures { Adds out.old out.new result (texts.reply_line (lines.Refuses (refused_view refused))) }
 {
     match refused {
-        Refused::NotOffered => out.push_str("NotOffered"),
-        Refused::NoDatabase => out.push_str("NoDatabase"),
-        Refused::NoSuchHandle(handle) => write_number(out, "NoSuchHandle ", handle),
-        Refused::SlotCount(staged, given) => { write_numbers(out, "SlotCount", &[staged, given]) }
-        Refused::InvalidInitializationBound => out.push_str("InvalidInitializationBound"),
-        Refused::StaleBatch => out.push_str("StaleBatch"),
-        Refused::StaleRead => out.push_str("StaleRead"),
+        Refused::NotOffered => out.push_str("refused NotOffered"),
+        Refused::NoDatabase => out.push_str("refused NoDatabase"),
+        Refused::NoSuchHandle(handle) => write_number(out, "refused NoSuchHandle ", handle),
+        Refused::SlotCount(staged, given) => {
+            write_numbers(out, "refused SlotCount", &[staged, given])
+        }
+        Refused::InvalidInitializationBound => out.push_str("refused InvalidInitializationBound"),
+        Refused::StaleBatch => out.push_str("refused StaleBatch"),
+        Refused::StaleRead => out.push_str("refused StaleRead"),
         Refused::PruneBeyondMinRequired(location, boundary) => write_numbers(
             out,
-            "PruneBeyondMinRequired",
+            "refused PruneBeyondMinRequired",
             &[location, boundary],
         ),
         Refused::HistoricalFloorPruned(size) => {
-            write_number(out, "HistoricalFloorPruned ", size)
+            write_number(out, "refused HistoricalFloorPruned ", size)
         }
         Refused::DataCorrupted(corrupt) => write_corrupt(out, corrupt),
-        Refused::Merkle(refused) => {
-            out.push_str("Merkle ")?;
-            write_tree(out, refused)
-        }
-        Refused::Journal(refused) => {
-            out.push_str("Journal ")?;
-            write_log(out, refused)
-        }
+        Refused::Merkle(refused) => write_tree(out, refused),
+        Refused::Journal(refused) => write_log(out, refused),
     }
 }
 
@@ -353,13 +361,6 @@ fn write_pins<D: Digest>(out: &mut String, digests: &[D]) -> Result<(), AllocErr
     write_digests(out, digests)
 }
 
-fn write_refusal(out: &mut String, refused: Refused) -> Result<(), AllocError>
-    ensures { Adds out.old out.new result (texts.reply_line (lines.Refuses (refused_view refused))) }
-{
-    out.push_str("refused ")?;
-    write_refused(out, refused)
-}
-
 fn write_line<K: ByteString, V: ByteString, D: Digest>(
     out: &mut String,
     reply: &Reply<K, V, D>,
@@ -401,7 +402,7 @@ fn write_line<K: ByteString, V: ByteString, D: Digest>(
             write_batch_proof(out, *leaves, *inactive, digests, pins)
         }
         Reply::Pins(digests) => write_pins(out, digests),
-        Reply::Refused(refused) => write_refusal(out, *refused),
+        Reply::Refused(refused) => write_refused(out, *refused),
     }
 }
 

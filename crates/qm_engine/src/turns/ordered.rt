@@ -6,9 +6,8 @@ ghost use Rattle.qm_model.specs.Batches.{IsKnown};
 ghost use Rattle.qm_machine.specs.Machine as machine;
 ghost use Rattle.qm_lines.specs.Views.{answer_view};
 ghost use Rattle.qm_store.specs.Given.{store_given, IsUnchanged, TellsFrom};
-ghost use Rattle.qm_store.specs.Refusals.{refusal_of};
 ghost use Rattle.qm_engine.specs.Ordered.{key_beside, answer_to};
-ghost use Rattle.qm_engine.specs.Session.{Obeys, Uses};
+ghost use Rattle.qm_engine.specs.Session.{Obeys, IfReply, Uses};
 ghost use Rattle.qm_engine.specs.Words.{AtTip, CanRead, IsReadFailure, ReadsOnly};
 
 use crate::engine::Neighbours;
@@ -42,23 +41,41 @@ pub enum Question<'a, K> {
     Keys(&'a Bound<K>, &'a Bound<K>),
 }
 
+// What the database answers to a question.
 fn reply_to<X: Neighbours<C>, C: Store>(
     alloc: Global,
     database: &mut X,
     question: Question<'_, X::Key>,
-) -> Result<Reply<X::Key, X::Value, X::Digest>, Error>
-    ensures reply { IfOk result (λ r. X.scheme.form.ordered ≡ true → (list : List Operation) → X.stands database.old list
+) -> Turn<X::Key, X::Value, X::Digest>
+    ensures reply { IfReply result (λ r. X.scheme.form.ordered ≡ true → (list : List Operation) → X.stands database.old list → TellsFrom C.Store (X.inside database.old) list
         → answer_view X.Key.bytes X.Value.bytes X.Digest.bytes r ≡ answer_to X.Key.bytes question.entry list) }
-    ensures reads { ReadsOnly X.Words C.Store database.old database.new (IsErrOf result (Error.Journal JournalError.Store)) }
-    ensures refused { IfErr result (λ e. (list : List Operation) → X.stands database.old list → TellsFrom C.Store (X.inside database.old) list → refusal_of e ≡ None) }
+    ensures reads { ReadsOnly X.Words C.Store database.old database.new (result ≡ Turn.StoreFault) }
 {
     match question {
-        Question::Beside(Side::Above, key) => Ok(Reply::Beside(database.next(alloc, key)?)),
-        Question::Beside(Side::Below, key) => Ok(Reply::Beside(database.prev(alloc, key)?)),
-        Question::Span(key) => Ok(Reply::Span(database.span(alloc, key)?)),
-        Question::All(key) => Ok(Reply::All(database.all(alloc, key)?)),
-        Question::Range(low, high) => Ok(Reply::Range(database.range(alloc, low, high)?)),
-        Question::Keys(low, high) => Ok(Reply::Keys(database.keys(alloc, low, high)?)),
+        Question::Beside(Side::Above, key) => match database.next(alloc, key) {
+            Ok(key) => Turn::Reply(Reply::Beside(key)),
+            Err(error) => turn_of(error),
+        },
+        Question::Beside(Side::Below, key) => match database.prev(alloc, key) {
+            Ok(key) => Turn::Reply(Reply::Beside(key)),
+            Err(error) => turn_of(error),
+        },
+        Question::Span(key) => match database.span(alloc, key) {
+            Ok(span) => Turn::Reply(Reply::Span(span)),
+            Err(error) => turn_of(error),
+        },
+        Question::All(key) => match database.all(alloc, key) {
+            Ok(whole) => Turn::Reply(Reply::All(whole)),
+            Err(error) => turn_of(error),
+        },
+        Question::Range(low, high) => match database.range(alloc, low, high) {
+            Ok(pairs) => Turn::Reply(Reply::Range(pairs)),
+            Err(error) => turn_of(error),
+        },
+        Question::Keys(low, high) => match database.keys(alloc, low, high) {
+            Ok(keys) => Turn::Reply(Reply::Keys(keys)),
+            Err(error) => turn_of(error),
+        },
     }
 }
 
@@ -80,10 +97,7 @@ pub fn ask<X: Neighbours<C>, C: Store>(
     let Given::Database(x) = &mut session.held else {
         return no_database();
     };
-    match reply_to::<X, C>(alloc, x, question) {
-        Ok(reply) => Turn::Reply(reply),
-        Err(error) => turn_of(error),
-    }
+    reply_to::<X, C>(alloc, x, question)
 }
 
 // The nearest live key on a side of this one, on the list that a merkleized batch makes.

@@ -46,4 +46,4 @@ pub returns-in-Pins : goal.returns-in-Pins
 returns-in-Pins g c = rw c.in-Pins.is (rw c.deref-in-Pins.ensures.value at c.write_pins.ensures)
 
 pub returns-in-Refused : goal.returns-in-Refused
-returns-in-Refused g c = rw c.in-Refused.is c.write_refusal.ensures
+returns-in-Refused g c = rw c.in-Refused.is c.write_refused.ensures

@@ -10,19 +10,19 @@ pub returns-in-HistoricalFloorPruned : goal.returns-in-HistoricalFloorPruned
 returns-in-HistoricalFloorPruned c = rw c.in-HistoricalFloorPruned.is c.write_number-in-HistoricalFloorPruned.ensures
 
 pub returns-in-NotOffered : goal.returns-in-NotOffered
-returns-in-NotOffered c = rw c.in-NotOffered.is (pushed (string_bytes c.args.out.now) (string_bytes c.push_str.new.self) (codes "NotOffered") c.push_str.result c.push_str.ensures.bytes)
+returns-in-NotOffered c = rw c.in-NotOffered.is (pushed (string_bytes c.args.out.now) (string_bytes c.push_str.new.self) (codes "refused NotOffered") c.push_str.result c.push_str.ensures.bytes)
 
 pub returns-in-NoDatabase : goal.returns-in-NoDatabase
-returns-in-NoDatabase c = rw c.in-NoDatabase.is (pushed (string_bytes c.args.out.now) (string_bytes c.push_str-in-NoDatabase.new.self) (codes "NoDatabase") c.push_str-in-NoDatabase.result c.push_str-in-NoDatabase.ensures.bytes)
+returns-in-NoDatabase c = rw c.in-NoDatabase.is (pushed (string_bytes c.args.out.now) (string_bytes c.push_str-in-NoDatabase.new.self) (codes "refused NoDatabase") c.push_str-in-NoDatabase.result c.push_str-in-NoDatabase.ensures.bytes)
 
 pub returns-in-InvalidInitializationBound : goal.returns-in-InvalidInitializationBound
-returns-in-InvalidInitializationBound c = rw c.in-InvalidInitializationBound.is (pushed (string_bytes c.args.out.now) (string_bytes c.push_str-in-InvalidInitializationBound.new.self) (codes "InvalidInitializationBound") c.push_str-in-InvalidInitializationBound.result c.push_str-in-InvalidInitializationBound.ensures.bytes)
+returns-in-InvalidInitializationBound c = rw c.in-InvalidInitializationBound.is (pushed (string_bytes c.args.out.now) (string_bytes c.push_str-in-InvalidInitializationBound.new.self) (codes "refused InvalidInitializationBound") c.push_str-in-InvalidInitializationBound.result c.push_str-in-InvalidInitializationBound.ensures.bytes)
 
 pub returns-in-StaleBatch : goal.returns-in-StaleBatch
-returns-in-StaleBatch c = rw c.in-StaleBatch.is (pushed (string_bytes c.args.out.now) (string_bytes c.push_str-in-StaleBatch.new.self) (codes "StaleBatch") c.push_str-in-StaleBatch.result c.push_str-in-StaleBatch.ensures.bytes)
+returns-in-StaleBatch c = rw c.in-StaleBatch.is (pushed (string_bytes c.args.out.now) (string_bytes c.push_str-in-StaleBatch.new.self) (codes "refused StaleBatch") c.push_str-in-StaleBatch.result c.push_str-in-StaleBatch.ensures.bytes)
 
 pub returns-in-StaleRead : goal.returns-in-StaleRead
-returns-in-StaleRead c = rw c.in-StaleRead.is (pushed (string_bytes c.args.out.now) (string_bytes c.push_str-in-StaleRead.new.self) (codes "StaleRead") c.push_str-in-StaleRead.result c.push_str-in-StaleRead.ensures.bytes)
+returns-in-StaleRead c = rw c.in-StaleRead.is (pushed (string_bytes c.args.out.now) (string_bytes c.push_str-in-StaleRead.new.self) (codes "refused StaleRead") c.push_str-in-StaleRead.result c.push_str-in-StaleRead.ensures.bytes)
 
 pub returns-in-SlotCount : goal.returns-in-SlotCount
 returns-in-SlotCount c = rw c.in-SlotCount.is (simp append-nil at c.write_numbers.ensures)
@@ -32,3 +32,9 @@ returns-in-PruneBeyondMinRequired c = rw c.in-PruneBeyondMinRequired.is (simp ap
 
 pub returns-in-DataCorrupted : goal.returns-in-DataCorrupted
 returns-in-DataCorrupted c = rw c.in-DataCorrupted.is c.write_corrupt.ensures
+
+pub returns-in-Merkle : goal.returns-in-Merkle
+returns-in-Merkle c = rw c.in-Merkle.is c.write_tree.ensures
+
+pub returns-in-Journal : goal.returns-in-Journal
+returns-in-Journal c = rw c.in-Journal.is c.write_log.ensures

@@ -1,7 +1,7 @@
 use Rattle.std.proofs.Common.{sym, ◌∙◌}
 use Rattle.qm_machine.specs.Machine.{with_database}
 use Rattle.qm_engine.specs.Ordered.{answer_to}
-use Rattle.qm_engine.proofs.ReadStores.{not_offered, none_ordered, asked_ok, asked_err}
+use Rattle.qm_engine.proofs.ReadStores.{not_offered, none_ordered, asked}
 use Rattle.qm_engine.proofs.turns.ordered.ask.Goals as goal
 
 pub returns-then-not-is_ordered : goal.returns-then-not-is_ordered
@@ -14,13 +14,7 @@ returns-in_default g c =
     none_ordered g.C.Store g.X.Words g.X.Key.ByteString.bytes g.X.Value.ByteString.bytes g.X.Digest.Digest.bytes c.args.session.now (λ s list. (answer_to g.X.Key.ByteString.bytes c.args.question list, s))
     (sym c.is_ordered.ensures ∙ c.if-not-is_ordered.false) c.in_default.is c.no_database.ensures
 
-pub returns-in-Ok : goal.returns-in-Ok
-returns-in-Ok g c =
-    let ordered = sym c.is_ordered.ensures ∙ c.if-not-is_ordered.false in
-    asked_ok g.C.Store g.X.Words g.X.Key.ByteString.bytes g.X.Value.ByteString.bytes g.X.Digest.Digest.bytes c.args.session.now
-    c.in-Database.is c.reply_to.ensures.reads (answer_to g.X.Key.ByteString.bytes c.args.question) ordered c.in-Ok.reply (c.in-Ok.ensures.reply ordered)
-
-pub returns-in-Err : goal.returns-in-Err
-returns-in-Err g c =
-    asked_err g.C.Store g.X.Words g.X.Key.ByteString.bytes g.X.Value.ByteString.bytes g.X.Digest.Digest.bytes c.args.session.now
-    c.in-Database.is c.reply_to.ensures.reads (answer_to g.X.Key.ByteString.bytes c.args.question) (sym c.is_ordered.ensures ∙ c.if-not-is_ordered.false) c.in-Err.error c.in-Err.is c.turn_of.ensures c.in-Err.ensures.refused
+pub returns : goal.returns
+returns g c =
+    asked g.C.Store g.X.Words g.X.Key.ByteString.bytes g.X.Value.ByteString.bytes g.X.Digest.Digest.bytes c.args.session.now
+    c.in-Database.is c.reply_to.ensures.reads (answer_to g.X.Key.ByteString.bytes c.args.question) (sym c.is_ordered.ensures ∙ c.if-not-is_ordered.false) c.reply_to.result (λ e. e) c.reply_to.ensures.reply

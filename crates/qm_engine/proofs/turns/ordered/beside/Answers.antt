@@ -1,36 +1,20 @@
-use Rattle.std.proofs.Common.{sym, ◌∙◌, ap, refl, Err}
+use Rattle.std.proofs.Common.{sym, ◌∙◌}
 use Rattle.qm_engine.specs.Ordered.{key_beside}
-use Rattle.qm_engine.proofs.OrderedCommands.{beside_ok, beside_err}
-use Rattle.qm_engine.proofs.LastingCommands.{fault-told}
+use Rattle.qm_engine.proofs.Moves.{found_ok, found_err}
 use Rattle.qm_machine.specs.Machine.{beside_in, beside_of, slot_at}
-use Rattle.qm_engine.proofs.ReadStores.{read-keeps, read-uses, not_offered, none_ordered, no_beside}
+use Rattle.qm_engine.proofs.ReadStores.{not_offered, none_ordered, no_beside}
 use Rattle.qm_engine.proofs.turns.ordered.beside.Goals as goal
 
 pub returns-in-Ok : goal.returns-in-Ok
 returns-in-Ok g c =
-    record {
-      machine = λ s k.
-          let ordered = sym c.is_ordered.ensures ∙ c.if-not-is_ordered.false in
-          rw c.in-Some.is (beside_ok g.C.Store g.X.Words g.X.Key.ByteString.bytes g.X.Value.ByteString.bytes g.X.Digest.Digest.bytes c.in-Database.x c.beside_from.new.database c.args.session.now.table.items c.args.session.now.opened c.in-Some.number s (key_beside c.args.side (g.X.Key.ByteString.bytes c.args.key.now)) c.in-Some-merkleized_at.batch.now c.in-Ok.key
-          (rw c.in-Database.is at k) (c.beside_from.ensures.reads.same, c.beside_from.ensures.reads.store) ordered c.in-Some-merkleized_at.ensures
-          (c.in-Ok.ensures.readable ordered) (c.in-Ok.ensures.beside ordered));
-      store = read-keeps g.C.Store g.X.Words c.in-Database.is c.beside_from.ensures.reads;
-      uses = read-uses g.C.Store g.X.Words c.in-Database.is c.beside_from.ensures.reads _ (λ e. absurd (cc e));
-      opened = refl;
-    }
+    let ordered = sym c.is_ordered.ensures ∙ c.if-not-is_ordered.false in
+    found_ok g.C.Store g.X.Words g.X.Key.ByteString.bytes g.X.Value.ByteString.bytes g.X.Digest.Digest.bytes c.args.session.now c.in-Database.is c.beside_from.ensures.reads c.args.from c.in-Some.number c.in-Some.is (key_beside c.args.side (g.X.Key.ByteString.bytes c.args.key.now)) c.in-Some-merkleized_at.batch.now
+    ordered c.in-Some-merkleized_at.ensures c.in-Ok.key (c.in-Ok.ensures.readable ordered) (c.in-Ok.ensures.beside ordered)
 
 pub returns-in-Err : goal.returns-in-Err
 returns-in-Err g c =
-    record {
-      machine = λ s k.
-          let held = rw c.in-Database.is at k in
-          rw (c.in-Some.is, c.turn_of.ensures) (beside_err g.C.Store g.X.Words g.X.Key.ByteString.bytes g.X.Value.ByteString.bytes g.X.Digest.Digest.bytes c.in-Database.x c.beside_from.new.database c.args.session.now.table.items c.args.session.now.opened c.in-Some.number s (key_beside c.args.side (g.X.Key.ByteString.bytes c.args.key.now)) c.in-Some-merkleized_at.batch.now c.in-Err.error
-          held (c.beside_from.ensures.reads.same, c.beside_from.ensures.reads.store) (sym c.is_ordered.ensures ∙ c.if-not-is_ordered.false) c.in-Some-merkleized_at.ensures
-          c.in-Err.ensures.failure);
-      store = read-keeps g.C.Store g.X.Words c.in-Database.is c.beside_from.ensures.reads;
-      uses = read-uses g.C.Store g.X.Words c.in-Database.is c.beside_from.ensures.reads _ (λ e. c.in-Err.is ∙ ap Err (fault-told c.in-Err.error (sym c.turn_of.ensures ∙ e)));
-      opened = refl;
-    }
+    found_err g.C.Store g.X.Words g.X.Key.ByteString.bytes g.X.Value.ByteString.bytes g.X.Digest.Digest.bytes c.args.session.now c.in-Database.is c.beside_from.ensures.reads c.args.from c.in-Some.number c.in-Some.is (key_beside c.args.side (g.X.Key.ByteString.bytes c.args.key.now)) c.in-Some-merkleized_at.batch.now
+    (sym c.is_ordered.ensures ∙ c.if-not-is_ordered.false) c.in-Some-merkleized_at.ensures c.in-Err.error c.in-Err.is c.turn_of.ensures c.in-Err.ensures.failure
 
 pub returns-then-not-is_ordered : goal.returns-then-not-is_ordered
 returns-then-not-is_ordered g c =

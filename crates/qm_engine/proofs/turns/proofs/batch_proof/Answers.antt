@@ -2,6 +2,8 @@ use Rattle.std.proofs.Common.{map, sym, refl}
 use Rattle.qm_lines.specs.declared.reply.Reply.TheVariants.{BatchProof}
 use Rattle.qm_proofs.specs.Proofs.{proof_view}
 use Rattle.qm_engine.proofs.ProofCommands.{batch_proof_ok, batch_proof_err}
+use Rattle.qm_machine.specs.Machine.{proof_in, slot_at}
+use Rattle.qm_engine.proofs.Moves.{none_told, none_named_told, not_made}
 use Rattle.qm_engine.proofs.turns.proofs.batch_proof.Goals as goal
 
 pub returns-in-Ok-clause-machine : goal.returns-in-Ok-clause-machine
@@ -14,3 +16,11 @@ returns-in-Err-clause-machine g c = λ s k.
     let held = rw c.in-Database.is at k in
     rw (c.turn_of.ensures, c.in-Database.is) (batch_proof_err g.C.Store g.X.Words g.X.Key.ByteString.bytes g.X.Value.ByteString.bytes g.X.Digest.Digest.bytes c.in-Err.error c.in-Database.x c.args.session.now.table.items c.args.session.now.opened c.args.number c.in-Some.batch.now s held
     c.in-Err.ensures.failure (sym c.in-Some.ensures))
+
+pub returns-in_default : goal.returns-in_default
+returns-in_default g c = none_told g.C.Store g.X.Words g.X.Key.ByteString.bytes g.X.Value.ByteString.bytes g.X.Digest.Digest.bytes c.args.session.now (λ s list. proof_in g.X.Words.scheme s c.args.number list (slot_at s.table c.args.number)) c.in_default.is c.no_database.ensures
+
+pub returns-in_default-merkleized_at : goal.returns-in_default-merkleized_at
+returns-in_default-merkleized_at g c =
+    none_named_told g.C.Store g.X.Words g.X.Key.ByteString.bytes g.X.Value.ByteString.bytes g.X.Digest.Digest.bytes c.args.session.now (λ s list. proof_in g.X.Words.scheme s c.args.number list) c.args.number c.in-Database.is c.no_such_handle.ensures
+    (λ s list slot. not_made g.C.Store g.X.Words (proof_in g.X.Words.scheme s c.args.number list) refl (λ chain above ws. refl) (λ chain above ws keys. refl) s.had _ _ slot c.in_default-merkleized_at.ensures)

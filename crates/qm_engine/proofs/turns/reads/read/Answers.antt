@@ -1,4 +1,4 @@
-use Rattle.std.proofs.Common.{map, option_map, subst, sym, ◌∙◌, refl}
+use Rattle.std.proofs.Common.{map, option_map, subst, sym, ◌∙◌, refl, ap, Err}
 use Rattle.qm_model.specs.Live.{value_of}
 use Rattle.qm_machine.specs.Lines.{Read}
 use Rattle.qm_engine.specs.Session.{SlotIs}
@@ -21,7 +21,7 @@ returns-in-Ok g c =
 pub returns-in-Err : goal.returns-in-Err
 returns-in-Err g c =
     rw c.in-None.is (read_err g.C.Store g.X.Words g.X.Key.ByteString.bytes g.X.Value.ByteString.bytes g.X.Digest.Digest.bytes c.args.session.now
-    c.in-Database.is c.get.ensures.reads (λ list. Read (map (value_of list) (map g.X.Key.ByteString.bytes c.args.keys.now))) c.in-Err.error c.in-Err.is c.turn_of.ensures c.in-Err.ensures.refused)
+    c.in-Database.is c.get.ensures.reads (λ list. Read (map (value_of list) (map g.X.Key.ByteString.bytes c.args.keys.now))) c.in-Err.error (λ e. c.in-Err.is ∙ ap Err e) c.turn_of.ensures c.in-Err.ensures.refused)
 
 pub returns-in_default : goal.returns-in_default
 returns-in_default g c =
