@@ -78,9 +78,10 @@ pub fn last_metadata<F: Family, C: Store, H: Hasher, U: Update>(
     }
 }
 
-/// What a list has beside its log, its index and the count of its live keys.
+/// What a list has beside its log and its index.
 #[derive(Drop)]
 pub(crate) struct Held<N: Chunks, D, V> {
+    pub live: u64,
     pub activity: Prunable<N>,
     pub root: D,
     pub metadata: Option<V>,
@@ -99,9 +100,9 @@ pub(crate) fn beside<N: Chunks, F: Family, C: Store, H: Hasher, U: Update>(
     requires below { floor < log.old.tree.leaves }
     requires long { floor + length snapshot.now.activity ≡ log.old.tree.leaves }
     ensures held { (ops : List model.Operation) → HasOperations C.Store F.shape H.Digest.bytes H.hash U.form log.old ops → IsGood ops → floor ≡ lives.floor ops → snapshot.now.activity ≡ drop floor (bits ops)
-        → IfSome (C.told log.old.store) (λ _. IfOk result (λ held. (all_bits N.LEN held.activity ≡ bits ops) × (H.Digest.bytes held.root ≡ ops_root H.hash F.shape U.form ops) × (option_map U.Value.bytes held.metadata ≡ lives.last_metadata ops))) }
+        → IfSome (C.told log.old.store) (λ _. IfOk result (λ held. (all_bits N.LEN held.activity ≡ bits ops) × (H.Digest.bytes held.root ≡ ops_root H.hash F.shape U.form ops) × (option_map U.Value.bytes held.metadata ≡ lives.last_metadata ops) × (held.live ≡ snapshot.now.live))) }
     ensures pruned { IfOk result (λ held. held.activity.pruned ≡ chunks) }
-    ensures count { IfOk result (λ held. bit_count N.LEN held.activity ≡ log.old.tree.leaves) }
+    ensures count { IfOk result (λ held. (bit_count N.LEN held.activity ≡ log.old.tree.leaves) × (held.live ≡ snapshot.now.live)) }
     ensures whole { IfSome (C.told log.old.store) (λ s. list_any is_none (items_within U.form s floor log.old.tree.leaves) ≡ false → IfErr result (λ e. e ≢ Error.DataCorrupted Corrupt.ItemDoesNotDecode)) }
     ensures read { IsRead C.Store F.shape H.Digest.bytes H.hash log.old log.new }
     ensures error { IfErr result (IsReadError C.Store log.old log.new) }
@@ -112,6 +113,7 @@ pub(crate) fn beside<N: Chunks, F: Family, C: Store, H: Hasher, U: Update>(
     let activity = activity_from(alloc, chunks, floor, &snapshot.activity)?;
     let metadata = last_metadata::<F, C, H, U>(alloc, log)?;
     Ok(Held {
+        live: snapshot.live,
         activity,
         root,
         metadata,

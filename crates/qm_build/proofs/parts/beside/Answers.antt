@@ -79,9 +79,9 @@ returns g c =
       held = λ ops has good low behind.
           let there = subst (λ l. HasOperations members g.F.Family.shape g.H.Digest.Digest.bytes g.H.Hasher.hash g.U.Update.form l ops) (sym same) has in
           told _ _ _ (ap (λ l. members.told l.store) same) (told-one _ _ (members.told c.root_of.new.log.store) (c.in_ok-metadata.ensures.value ops there good.commit_ended) (λ metadata.
-          (c.in_ok-activity.ensures.bits ∙ ap (λ bs. replicate c.args.floor false ++ bs) behind ∙ from-floor ops c.args.floor good low, c.in_ok-root.ensures.value ops has low, metadata)));
+          (c.in_ok-activity.ensures.bits ∙ ap (λ bs. replicate c.args.floor false ++ bs) behind ∙ from-floor ops c.args.floor good low, c.in_ok-root.ensures.value ops has low, metadata, refl)));
       pruned = c.in_ok-activity.ensures.pruned;
-      count = c.in_ok-activity.ensures.count ∙ c.requires.long;
+      count = (c.in_ok-activity.ensures.count ∙ c.requires.long, refl);
       whole = each (members.told log.store) (λ s all. tt);
       read = subst (λ l. IsRead members g.F.Family.shape g.H.Digest.Digest.bytes g.H.Hasher.hash l c.last_metadata.new.log) same c.last_metadata.ensures.read;
       error = tt;
