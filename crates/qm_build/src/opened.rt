@@ -1,6 +1,6 @@
 //! What an opening makes of a store: a log that ends where the selected list does, and what that list has beside it.
 
-ghost use Rattle.std.specs.Prelude.{option_map, ◌≡◌, ◌≢◌, ◌⊎◌, ◌<◌, ◌≤◌, ◌-◌, ◌*◌, List, [], length, map, take, drop, is_none, true, false, All, Some, IfSome, IfOk, IfErr, OnOk};
+ghost use Rattle.std.specs.Prelude.{option_map, ◌≡◌, ◌≢◌, ◌⊎◌, ◌<◌, ◌≤◌, ◌-◌, ◌*◌, List, length, map, take, drop, is_none, true, false, All, Some, IfSome, IfOk, IfErr, OnOk};
 ghost use Rattle.std.specs.List.{list_any};
 ghost use Rattle.qm_model.specs.Causes.{IsCause};
 ghost use Rattle.qm_model.specs.Forms.{IsOf, spelling};
@@ -11,9 +11,8 @@ ghost use Rattle.qm_model.specs.Trees.{peaks};
 ghost use Rattle.qm_store.specs.Log.{IsHead, IsKept, digests_from};
 ghost use Rattle.qm_bits.specs.Bitmaps.{bit_count};
 ghost use Rattle.qm_build.specs.Opened.{IsOpened};
-ghost use Rattle.qm_build.specs.Reads.{items_within, HasOperations, IsRead, IsReadError};
+ghost use Rattle.qm_build.specs.Reads.{items_within};
 
-use crate::build::build_snapshot;
 use crate::fresh::store_of;
 use crate::parts::{Held, beside};
 use qm_base::{Corrupt, Digest, Error, Hasher, JournalError, Location};
@@ -81,7 +80,7 @@ pub fn open_at<
         Ok(log) => {
             let mut log = log;
             let mut index = I::new(alloc, translator);
-            match rebuilt::<N, F, C, I, H, U>(
+            match beside::<N, F, C, I, H, U>(
                 alloc,
                 &mut index,
                 &mut log,
@@ -115,44 +114,4 @@ pub fn open_at<
             error: refusal.error,
         }),
     }
-}
-
-// What a log's list has beside it, of which the index was empty, rebuilt from its floor on. So many chunks of its bits are
-// pruned.
-fn rebuilt<
-    N: Chunks,
-    F: Family,
-    C: Store,
-    I: qm_index::Unordered<Value = Location<F>>,
-    H: Hasher,
-    U: Update,
->(
-    alloc: Global,
-    index: &mut I,
-    log: &mut AuthLog<F, C, H>,
-    chunks: usize,
-    floor: u64,
-    kept_keys: NonZeroUsize,
-) -> Result<Held<N, H::Digest, U::Value>, Error>
-    requires empty { I.entries index.old ≡ [] }
-    requires pruned { chunks * (8 * N.LEN) ≤ floor }
-    requires kept { log.old.tree.start ≤ floor }
-    requires below { floor < log.old.tree.leaves }
-    ensures opened { (ops : List model.Operation) → HasOperations C.Store F.shape H.Digest.bytes H.hash U.form log.old ops → IsGood ops → floor ≡ lives.floor ops
-        → IfSome (C.told log.old.store) (λ _. IfOk result (λ held. IsOpened C.Store F.shape H.Digest.bytes H.hash U.form I.index_key N.LEN log.new (I.entries index.new) held.live held.activity (H.Digest.bytes held.root) (option_map U.Value.bytes held.metadata) ops)) }
-    ensures pruned { IfOk result (λ held. held.activity.pruned ≡ chunks) }
-    ensures bits { IfOk result (λ held. (bit_count N.LEN held.activity ≡ log.old.tree.leaves) × (held.live ≤ log.old.tree.leaves)) }
-    ensures decoded { IfSome (C.told log.old.store) (λ s. OnOk result (list_any is_none (items_within U.form s floor log.old.tree.leaves) ≡ false)) }
-    ensures undecoded { IfErr result (λ e. e ≡ Error.DataCorrupted Corrupt.ItemDoesNotDecode → IfSome (C.told log.old.store) (λ s. list_any is_none (items_within U.form s floor log.old.tree.leaves) ≡ true)) }
-    ensures read { IsRead C.Store F.shape H.Digest.bytes H.hash log.old log.new }
-    ensures error { IfErr result (IsReadError C.Store log.old log.new) }
-{
-    let snapshot = build_snapshot::<F, I, C, H, U>(
-        alloc,
-        index,
-        log,
-        Location::new(floor),
-        kept_keys,
-    )?;
-    beside::<N, F, C, H, U>(alloc, log, &snapshot, chunks, floor)
 }
