@@ -100,15 +100,13 @@ fn put<F: Family, I: qm_index::Unordered<Value = Location<F>>, C: Store, H: Hash
 {
     let is_update = operation.is_update();
     let Some(key) = operation.into_key() else {
-        note(snapshot, floor, None, false)?;
-        return Ok(());
+        return note(snapshot, floor, None, false);
     };
     let bytes = key.as_bytes();
     let found = find::<F, I, C, H, U>(index, log, cache, bytes)?;
     move_key(index, bytes, found, is_update.then_some(Location::new(at)))?;
-    note(snapshot, floor, found, is_update)?;
     keep(cache, at, key, found, is_update);
-    Ok(())
+    note(snapshot, floor, found, is_update)
 }
 
 // Keeps the key of an update, and lets go of that of the update that was found.
