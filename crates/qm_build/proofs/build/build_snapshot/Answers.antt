@@ -4,7 +4,7 @@ use Rattle.std.proofs.lemmas.List.{length-map}
 use Rattle.std.proofs.lemmas.Result.{err_from_is_err_and}
 use Rattle.qm_model.specs.Forms.{spelling}
 use Rattle.std.specs.Prelude.{IfSome, is_none}
-use Rattle.qm_model.proofs.Results.{told-one, told-any, told-both, told-then}
+use Rattle.qm_model.proofs.Results.{told-one, told-any, told-then}
 use Rattle.qm_operations.specs.Views.{operation_view}
 use Rattle.qm_store.proofs.Stores.{both}
 use Rattle.qm_build.specs.Reads.{operation_at}
@@ -22,11 +22,12 @@ loop-at-init g c = record {
   here = omega (arith, ap length c.new-2.ensures);
   within = within-none (g.I.Unordered.entries c.args.index.now) c.get-floor.result c.get-floor.result c.requires.empty;
   counted = omega arith;
-  keys = λ ops has. told-any _ (g.C.Store.told c.args.log.now.store) (λ at key holds. absurd (c.in_ok-cache.ensures at key holds));
   placed = λ ops has.
-      told-any _ (g.C.Store.told c.args.log.now.store)
-      (subst (λ bits. ArePlaced g.I.Unordered.index_key (g.I.Unordered.entries c.args.index.now) 0 bits c.get-floor.result (between c.get-floor.result c.get-floor.result ops)) (sym c.new-2.ensures)
-      (placed-none g.I.Unordered.index_key (g.I.Unordered.entries c.args.index.now) c.get-floor.result ops c.requires.empty));
+      told-any _ (g.C.Store.told c.args.log.now.store) (
+        (subst (λ bits. ArePlaced g.I.Unordered.index_key (g.I.Unordered.entries c.args.index.now) 0 bits c.get-floor.result (between c.get-floor.result c.get-floor.result ops)) (sym c.new-2.ensures)
+            (placed-none g.I.Unordered.index_key (g.I.Unordered.entries c.args.index.now) c.get-floor.result ops c.requires.empty)),
+        (λ at key holds. absurd (c.in_ok-cache.ensures at key holds)),
+      );
   decode = each (g.C.Store.told c.args.log.now.store) (λ s i low less. absurd (omega (arith, low, less)));
 }
 
@@ -44,15 +45,11 @@ loop-at-preserved g c =
       here = omega (arith, c.loop-at.invariant.here, c.in_ok-put.ensures.long);
       within = c.in_ok-put.ensures.within;
       counted = c.in_ok-put.ensures.counted;
-      keys = λ ops has.
-          told-both _ _ _ (members.told c.args.log.now.store) (c.loop-at.invariant.keys ops has)
-          (told _ _ _ before.kept.told (c.in_ok-operation.ensures.value ops (operations-then members shape bytes hash form c.args.log.now c.loop-at.log ops before has))) (λ keys here.
-          c.in_ok-put.ensures.keys ops here keys);
       placed = λ ops has.
-          told-then _ _ (members.told c.args.log.now.store) (c.loop-at.invariant.keys ops has) (λ keys.
-          told-then _ _ (members.told c.args.log.now.store) (told _ _ _ before.kept.told (c.in_ok-operation.ensures.value ops (operations-then members shape bytes hash form c.args.log.now c.loop-at.log ops before has))) (λ here.
-          told-then _ _ (members.told c.args.log.now.store) (c.loop-at.invariant.placed ops has) (λ placed.
-          told _ _ _ read.kept.told (c.in_ok-put.ensures.placed ops (operations-then members shape bytes hash form c.args.log.now c.read_operation.new.log ops read has) here placed keys))));
+          let told_here = members.told c.args.log.now.store in
+          told-then _ _ told_here (told _ _ _ before.kept.told (c.in_ok-operation.ensures.value ops (operations-then members shape bytes hash form c.args.log.now c.loop-at.log ops before has))) (λ here.
+          told-then _ _ told_here (c.loop-at.invariant.placed ops has) (λ placed.
+          told _ _ _ read.kept.told (c.in_ok-put.ensures.placed ops (operations-then members shape bytes hash form c.args.log.now c.read_operation.new.log ops read has) here placed.0 placed.1)));
       decode =
           both (members.told c.args.log.now.store) c.loop-at.invariant.decode (subst (λ o. IfSome o (λ s. operation_at form s c.loop-at.at ≡ Some (operation_view g.U.Update.view g.U.Key.ByteString.bytes g.U.Value.ByteString.bytes c.in_ok-operation.operation))) before.kept.told c.in_ok-operation.ensures.held)
           (λ s all here i low less. one-more form s c.loop-at.at i (all i low) (ap is_none here) (omega (arith, less)));
@@ -73,7 +70,7 @@ returns g c = record {
       subst (λ bits. IsBuilt index_key entries live bits c.args.floor ops) (sym c.set_bit.ensures)
       (subst (λ f. IsBuilt index_key entries live (set c.loop-at.snapshot.activity (size - floor - 1) true) f ops) c.get-floor.ensures
       (built index_key entries live c.loop-at.snapshot.activity floor size ops low all (subst (λ f. NoneBelow f ops) (sym c.get-floor.ensures) none)
-      (subst (λ to. ArePlaced index_key entries live c.loop-at.snapshot.activity floor (between floor to ops)) last placed))));
+      (subst (λ to. ArePlaced index_key entries live c.loop-at.snapshot.activity floor (between floor to ops)) last placed.0))));
   decodes = λ ops has. told-any _ (g.C.Store.told c.args.log.now.store) tt;
   long =
       let same : length c.set_bit.new.self ≡ length c.loop-at.snapshot.activity = ap length c.set_bit.ensures ∙ simp length-set in

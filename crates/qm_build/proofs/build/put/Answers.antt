@@ -26,10 +26,11 @@ returns-in_default g c =
           let op = operation_view g.U.Update.view g.U.Key.ByteString.bytes g.U.Value.ByteString.bytes c.args.operation in
           let low : c.args.floor ≤ c.args.at = omega (arith, c.requires.here) in
           told-any _ (g.C.Store.told c.args.log.now.store)
-          (ok-both result noted.live noted.active (λ live active.
-          placed-commit g.I.Unordered.index_key (g.I.Unordered.entries c.args.index.now) c.args.snapshot.now.live c.args.snapshot.now.activity c.args.floor c.args.at ops op low here placed
-          c.note.new.snapshot.live c.note.new.snapshot.activity (sym c.in_default.ensures) live active));
-      keys = λ ops here keys. any-ok result keys;
+          (ok-both result noted.live noted.active (λ live active. (
+            placed-commit g.I.Unordered.index_key (g.I.Unordered.entries c.args.index.now) c.args.snapshot.now.live c.args.snapshot.now.activity c.args.floor c.args.at ops op low here placed
+                c.note.new.snapshot.live c.note.new.snapshot.activity (sym c.in_default.ensures) live active,
+            keys,
+          )));
       long = noted.long;
       within = any-ok result (within-wider (g.I.Unordered.entries c.args.index.now) c.args.floor c.args.at (c.args.at + 1) (omega arith) c.requires.within);
       counted = noted.counted;
@@ -53,17 +54,18 @@ returns g c =
           let left : c.then_some.result ≡ left_at op c.args.at = c.then_some.ensures ∙ ap₂ (λ t n. then_some t n) c.is_update-is_update.ensures c.new.ensures in
           told-one _ _ (g.C.Store.told c.args.log.now.store) (c.in_ok-found.ensures.key ops has keys) (λ is.
           let place = stood index_key old c.args.snapshot.now.live c.args.snapshot.now.activity c.args.floor c.args.at ops op low here placed key found (found-contained (bucket_at old (index_key key)) c.in_ok-found.found c.in_ok-found.ensures.place) is in
-          ok-both result noted.live noted.active (λ live active.
-          placed-more index_key old c.args.snapshot.now.live c.args.snapshot.now.activity c.args.floor c.args.at ops op low here placed
-          new c.note-2.new.snapshot.live c.note-2.new.snapshot.activity key found
-          (sym c.in-Some.ensures ∙ ap Some (sym c.as_bytes-bytes.ensures.value)) place
-          (λ ps apart has place. subst (λ o. HasPlaces index_key new (moved ps key o)) left (c.in_ok-move_key.ensures.moved ps apart has place))
-          (live ∙ ap (counted_after c.args.snapshot.now.live found) c.is_update-is_update.ensures)
-          (active ∙ ap₂ (λ o t. cleared c.args.snapshot.now.activity o ++ t ∷ []) (found-offset c.args.floor c.in_ok-found.found) c.is_update-is_update.ensures)));
-      keys = λ ops here keys. any-ok result (λ at key holds. ⊎_elim
-          (λ own. own-key g.U.Key.ByteString.bytes ops (operation_view g.U.Update.view g.U.Key.ByteString.bytes g.U.Value.ByteString.bytes c.args.operation) c.args.at at c.in-Some.key key here (sym c.is_update-is_update.ensures ∙ own.0) (sym c.in-Some.ensures) own.1.0 own.1.1)
-          (λ old. keys at key old)
-          (c.keep.ensures at key holds));
+          ok-both result noted.live noted.active (λ live active. (
+            placed-more index_key old c.args.snapshot.now.live c.args.snapshot.now.activity c.args.floor c.args.at ops op low here placed
+                new c.note-2.new.snapshot.live c.note-2.new.snapshot.activity key found
+                (sym c.in-Some.ensures ∙ ap Some (sym c.as_bytes-bytes.ensures.value)) place
+                (λ ps apart has place. subst (λ o. HasPlaces index_key new (moved ps key o)) left (c.in_ok-move_key.ensures.moved ps apart has place))
+                (live ∙ ap (counted_after c.args.snapshot.now.live found) c.is_update-is_update.ensures)
+                (active ∙ ap₂ (λ o t. cleared c.args.snapshot.now.activity o ++ t ∷ []) (found-offset c.args.floor c.in_ok-found.found) c.is_update-is_update.ensures),
+            (λ at key holds. ⊎_elim
+                (λ own. own-key g.U.Key.ByteString.bytes ops op c.args.at at c.in-Some.key key here (sym c.is_update-is_update.ensures ∙ own.0) (sym c.in-Some.ensures) own.1.0 own.1.1)
+                (λ old. keys at key old)
+                (c.keep.ensures at key holds)),
+          )));
       long = noted.long;
       within =
           let op = operation_view g.U.Update.view g.U.Key.ByteString.bytes g.U.Value.ByteString.bytes c.args.operation in
@@ -101,7 +103,6 @@ returns-in_err-found g c =
     let exit = err_from_is_err_and c.from_residual.result c.from_residual.ensures.1 in
     record {
       placed = λ ops has here placed keys. told-any _ (g.C.Store.told c.args.log.now.store) (rw exit.1 tt);
-      keys = λ ops here keys. rw exit.1 tt;
       long = rw exit.1 tt;
       within = rw exit.1 tt;
       counted = rw exit.1 tt;
@@ -114,7 +115,6 @@ returns-in_err-move_key g c =
     let exit = err_from_is_err_and c.from_residual-in_err-move_key.result c.from_residual-in_err-move_key.ensures.1 in
     record {
       placed = λ ops has here placed keys. told-any _ (g.C.Store.told c.args.log.now.store) (rw exit.1 tt);
-      keys = λ ops here keys. rw exit.1 tt;
       long = rw exit.1 tt;
       within = rw exit.1 tt;
       counted = rw exit.1 tt;
