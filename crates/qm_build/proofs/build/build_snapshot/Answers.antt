@@ -88,26 +88,33 @@ returns g c = record {
 
 pub returns-in_err-operation : goal.returns-in_err-operation
 returns-in_err-operation g c =
+    let members = g.C.Store in
+    let shape = g.F.Family.shape in
+    let bytes = g.H.Digest.Digest.bytes in
+    let hash = g.H.Hasher.hash in
+    let form = g.U.Update.form in
+    let log = c.args.log.now in
+    let made = c.loop-at.log in
+    let new = c.read_operation.new.log in
+    let at = c.loop-at.at in
+    let told_here = members.told log.store in
+    let before = c.loop-at.invariant.read in
+    let refused = c.in_err-operation.ensures in
     let exit = err_from_is_err_and c.from_residual-in_err-operation.result c.from_residual-in_err-operation.ensures.1 in
-    record {
-      built = λ ops has none.
-          told-any _ (g.C.Store.told c.args.log.now.store) (rw exit.1 tt);
-      decodes = λ ops has.
-          let before = c.loop-at.invariant.read in
-          rw (exit.1, exit.2) (told _ _ _ before.kept.told (c.in_err-operation.ensures.decodes ops (operations-then g.C.Store g.F.Family.shape g.H.Digest.Digest.bytes g.H.Hasher.hash g.U.Update.form c.args.log.now c.loop-at.log ops before has)));
-      long = rw exit.1 tt;
-      decoded = each (g.C.Store.told c.args.log.now.store) (λ s. rw exit.1 tt);
+    rw (exit.1, exit.2) (record {
+      built = λ ops has none. told-any _ told_here tt;
+      decodes = λ ops has. told _ (members.told made.store) told_here before.kept.told (refused.decodes ops (operations-then members shape bytes hash form log made ops before has));
+      long = tt;
+      decoded = each told_here (λ s. tt);
       corrupt =
-          let form = g.U.Update.form in
-          let at = c.loop-at.at in
-          rw (exit.1, exit.2) (over (g.C.Store.told c.args.log.now.store) (g.C.Store.told c.loop-at.log.store) c.loop-at.invariant.read.kept.told c.in_err-operation.ensures.corrupt (g.met.C.Store.told_start c.args.log.now.store) (λ s corrupt start is.
+          over told_here (members.told made.store) before.kept.told refused.corrupt (g.met.C.Store.told_start log.store) (λ s corrupt start is.
           let low : s.start ≤ c.args.floor = omega (arith, start, c.bounds-size.ensures.first, c.requires.kept) in
           let more : c.args.floor ≤ at = omega (arith, c.loop-at.invariant.here, c.get-floor.ensures) in
-          let less : at < c.args.log.now.tree.leaves = omega (arith, c.loop-at-test.true, c.bounds-size.ensures.size) in
-          one-undecoded form s c.args.floor c.args.log.now.tree.leaves at low more less (corrupt is)));
-      read = read-then g.C.Store g.F.Family.shape g.H.Digest.Digest.bytes g.H.Hasher.hash c.args.log.now c.loop-at.log c.read_operation.new.log c.loop-at.invariant.read c.read_operation.ensures.read;
-      error = rw (exit.1, exit.2) (error-then g.C.Store g.F.Family.shape g.H.Digest.Digest.bytes g.H.Hasher.hash c.args.log.now c.loop-at.log c.read_operation.new.log _ c.loop-at.invariant.read c.in_err-operation.ensures.error);
-    }
+          let less : at < log.tree.leaves = omega (arith, c.loop-at-test.true, c.bounds-size.ensures.size) in
+          one-undecoded form s c.args.floor log.tree.leaves at low more less (corrupt is));
+      read = read-then members shape bytes hash log made new before c.read_operation.ensures.read;
+      error = error-then members shape bytes hash log made new c.in_err-operation.field-0.0 before refused.error;
+    })
 
 -- where the log of a walk stands, from what it was before
 starts-at : (start start' floor from at count : ℕ) → start' ≡ start → start ≤ floor → from ≡ floor → at ≡ from + count → start' ≤ at
@@ -182,13 +189,14 @@ returns-in_err-put g c =
     let told = g.C.Store.told c.args.log.now.store in
     let exit = err_from_is_err_and c.from_residual-in_err-put.result c.from_residual-in_err-put.ensures.1 in
     let read = read-then members shape bytes hash c.args.log.now c.loop-at.log c.read_operation.new.log c.loop-at.invariant.read c.read_operation.ensures.read in
-    let other = decodes-anyway members c.read_operation.new.log c.put.new.log _ c.in_err-put.ensures.error in
-    record {
-      built = λ ops has none. told-any _ told (rw exit.1 tt);
-      decodes = λ ops has. told-any _ told (rw (exit.1, exit.2) other);
-      long = rw exit.1 tt;
-      decoded = each told (λ s. rw exit.1 tt);
-      corrupt = each told (λ s. rw (exit.1, exit.2) (λ is. absurd (other is)));
+    let error = c.in_err-put.field-0.0 in
+    let other = decodes-anyway members c.read_operation.new.log c.put.new.log error c.in_err-put.ensures.error in
+    rw (exit.1, exit.2) (record {
+      built = λ ops has none. told-any _ told tt;
+      decodes = λ ops has. told-any _ told other;
+      long = tt;
+      decoded = each told (λ s. tt);
+      corrupt = each told (λ s is. absurd (other is));
       read = read-then members shape bytes hash c.args.log.now c.read_operation.new.log c.put.new.log read c.put.ensures.read;
-      error = rw (exit.1, exit.2) (inl (fault-then members shape bytes hash c.args.log.now c.read_operation.new.log c.put.new.log _ read c.in_err-put.ensures.error));
-    }
+      error = inl (fault-then members shape bytes hash c.args.log.now c.read_operation.new.log c.put.new.log error read c.in_err-put.ensures.error);
+    })

@@ -101,23 +101,23 @@ note-requires-2 g c = record {
 pub returns-in_err-found : goal.returns-in_err-found
 returns-in_err-found g c =
     let exit = err_from_is_err_and c.from_residual.result c.from_residual.ensures.1 in
-    record {
-      placed = λ ops has here placed keys. told-any _ (g.C.Store.told c.args.log.now.store) (rw exit.1 tt);
-      long = rw exit.1 tt;
-      within = rw exit.1 tt;
-      counted = rw exit.1 tt;
+    rw (exit.1, exit.2) (record {
+      placed = λ ops has here placed keys. told-any _ (g.C.Store.told c.args.log.now.store) tt;
+      long = tt;
+      within = tt;
+      counted = tt;
       read = c.find.ensures.read;
-      error = rw (exit.1, exit.2) c.in_err-found.ensures.error;
-    }
+      error = c.in_err-found.ensures.error;
+    })
 
 pub returns-in_err-move_key : goal.returns-in_err-move_key
 returns-in_err-move_key g c =
     let exit = err_from_is_err_and c.from_residual-in_err-move_key.result c.from_residual-in_err-move_key.ensures.1 in
-    record {
-      placed = λ ops has here placed keys. told-any _ (g.C.Store.told c.args.log.now.store) (rw exit.1 tt);
-      long = rw exit.1 tt;
-      within = rw exit.1 tt;
-      counted = rw exit.1 tt;
+    rw (exit.1, exit.2) (record {
+      placed = λ ops has here placed keys. told-any _ (g.C.Store.told c.args.log.now.store) tt;
+      long = tt;
+      within = tt;
+      counted = tt;
       read = c.find.ensures.read;
-      error = rw (exit.1, exit.2) (inl refl);
-    }
+      error = inl refl;
+    })
