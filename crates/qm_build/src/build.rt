@@ -90,8 +90,7 @@ fn put<F: Family, I: qm_index::Unordered<Value = Location<F>>, C: Store, H: Hash
     requires counted { snapshot.old.live ≤ length snapshot.old.activity }
     ensures placed { (ops : List model.Operation) → HasOperations C.Store F.shape H.Digest.bytes H.hash U.form log.old ops → slice_get ops at ≡ Some (operation_view U.view U.Key.bytes U.Value.bytes operation)
         → ArePlaced I.index_key (I.entries index.old) snapshot.old.live snapshot.old.activity floor (between floor at ops) → AreKeys U.Key.bytes ops cache.old
-        → IfSome (C.told log.old.store) (λ _. OnOk result (ArePlaced I.index_key (I.entries index.new) snapshot.new.live snapshot.new.activity floor (between floor (at + 1) ops))) }
-    ensures keys { (ops : List model.Operation) → slice_get ops at ≡ Some (operation_view U.view U.Key.bytes U.Value.bytes operation) → AreKeys U.Key.bytes ops cache.old → OnOk result (AreKeys U.Key.bytes ops cache.new) }
+        → IfSome (C.told log.old.store) (λ _. OnOk result (ArePlaced I.index_key (I.entries index.new) snapshot.new.live snapshot.new.activity floor (between floor (at + 1) ops) × AreKeys U.Key.bytes ops cache.new)) }
     ensures long { OnOk result (length snapshot.new.activity ≡ length snapshot.old.activity + 1) }
     ensures within { OnOk result (AreWithin floor (at + 1) (I.entries index.new)) }
     ensures counted { OnOk result (snapshot.new.live ≤ length snapshot.new.activity) }
@@ -100,15 +99,13 @@ fn put<F: Family, I: qm_index::Unordered<Value = Location<F>>, C: Store, H: Hash
 {
     let is_update = operation.is_update();
     let Some(key) = operation.into_key() else {
-        note(snapshot, floor, None, false)?;
-        return Ok(());
+        return note(snapshot, floor, None, false);
     };
     let bytes = key.as_bytes();
     let found = find::<F, I, C, H, U>(index, log, cache, bytes)?;
     move_key(index, bytes, found, is_update.then_some(Location::new(at)))?;
-    note(snapshot, floor, found, is_update)?;
     keep(cache, at, key, found, is_update);
-    Ok(())
+    note(snapshot, floor, found, is_update)
 }
 
 // Keeps the key of an update, and lets go of that of the update that was found.

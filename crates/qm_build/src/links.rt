@@ -57,13 +57,13 @@ fn put_link<U: Update>(alloc: Global, links: &mut Links, update: &U) -> Result<(
 fn put<F, U: Update>(
     alloc: Global,
     links: &mut Links,
-    operation: &Operation<F, U>,
+    operation: Operation<F, U>,
 ) -> Result<(), AllocError>
     ensures { OnOk result ((ops : List model.Operation) → AreLinks (λ b. b.items) links.old.entries ops
-        → AreLinks (λ b. b.items) links.new.entries (ops ++ operation_view U.view U.Key.bytes U.Value.bytes operation.now ∷ [])) }
+        → AreLinks (λ b. b.items) links.new.entries (ops ++ operation_view U.view U.Key.bytes U.Value.bytes operation ∷ [])) }
 {
     match operation {
-        Operation::Update(update) => put_link(alloc, links, update),
+        Operation::Update(update) => put_link(alloc, links, &update),
         Operation::Delete(key) => {
             links.remove(key.as_bytes());
             Ok(())
@@ -126,7 +126,7 @@ pub fn forms_ring<F: Family, C: Store, H: Hasher, U: Update>(
     let mut links = BTreeMap::new(alloc);
     for at in from..size {
         let operation: Operation<F, U> = read_operation(alloc, log, at)?;
-        put(alloc, &mut links, &operation)?;
+        put(alloc, &mut links, operation)?;
     }
     Ok(is_closed(&links))
 }

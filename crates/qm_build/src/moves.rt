@@ -1,13 +1,13 @@
 //! What an operation does to an index and to a snapshot.
 
-ghost use Rattle.std.specs.Prelude.{◌≡◌, ◌+◌, ◌-◌, ◌<◌, ◌≤◌, ◌^◌, ℕ, ◌++◌, ◌∷◌, [], length, Some, slice_get, option_map, IfSome, OnOk};
+ghost use Rattle.std.specs.Prelude.{◌≡◌, ◌+◌, ◌-◌, ◌<◌, ◌≤◌, ◌^◌, ℕ, ◌++◌, ◌∷◌, [], length, Some, slice_get, option_map, IfSome, IfErr, OnOk};
 ghost use Rattle.qm_index.specs.Buckets.{bucket_at};
 ghost use Rattle.qm_index.specs.Places.{Places, AreApart, HasPlaces, place_of, moved};
 ghost use Rattle.qm_build.specs.Building.{AreWithin, cleared, counted_after};
 
 use crate::build::Snapshot;
 use crate::read::Found;
-use qm_base::Location;
+use qm_base::{Error, Location};
 use std::alloc::AllocError;
 
 /// Moves a key from its place in its bucket, if it has one, to a location, or nowhere. Want of memory is the only error.
@@ -42,7 +42,7 @@ pub(crate) fn note(
     floor: u64,
     found: Option<Found>,
     is_update: bool,
-) -> Result<(), AllocError>
+) -> Result<(), Error>
     requires within { IfSome found (λ f. (floor ≤ f.location) × (f.location < floor + length snapshot.old.activity)) }
     requires few { length snapshot.old.activity < 2 ^ 62 }
     requires counted { snapshot.old.live ≤ length snapshot.old.activity }
@@ -50,6 +50,7 @@ pub(crate) fn note(
     ensures long { OnOk result (length snapshot.new.activity ≡ length snapshot.old.activity + 1) }
     ensures live { OnOk result (snapshot.new.live ≡ counted_after snapshot.old.live (option_map (λ f. f.location) found) is_update) }
     ensures counted { OnOk result (snapshot.new.live ≤ length snapshot.new.activity) }
+    ensures memory { IfErr result (λ e. e ≡ Error.Memory) }
 {
     match (found, is_update) {
         (None, true) => snapshot.live += 1,
@@ -59,5 +60,5 @@ pub(crate) fn note(
     if let Some(found) = found {
         snapshot.activity.set_bit(found.location - floor, false);
     }
-    snapshot.activity.push(is_update)
+    Ok(snapshot.activity.push(is_update)?)
 }

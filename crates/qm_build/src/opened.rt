@@ -1,6 +1,6 @@
 //! What an opening makes of a store: a log that ends where the selected list does, and what that list has beside it.
 
-ghost use Rattle.std.specs.Prelude.{option_map, ◌≡◌, ◌≢◌, ◌⊎◌, ◌<◌, ◌≤◌, ◌+◌, ◌-◌, ◌*◌, List, length, map, take, drop, is_none, true, false, All, Some, IfSome, IfOk, IfErr, OnOk};
+ghost use Rattle.std.specs.Prelude.{option_map, ◌≡◌, ◌≢◌, ◌⊎◌, ◌<◌, ◌≤◌, ◌-◌, ◌*◌, List, length, map, take, drop, is_none, true, false, All, Some, IfSome, IfOk, IfErr, OnOk};
 ghost use Rattle.std.specs.List.{list_any};
 ghost use Rattle.qm_model.specs.Causes.{IsCause};
 ghost use Rattle.qm_model.specs.Forms.{IsOf, spelling};
@@ -10,11 +10,9 @@ ghost use Rattle.qm_model.specs.Step.{IsGood};
 ghost use Rattle.qm_model.specs.Trees.{peaks};
 ghost use Rattle.qm_store.specs.Log.{IsHead, IsKept, digests_from};
 ghost use Rattle.qm_bits.specs.Bitmaps.{bit_count};
-ghost use Rattle.qm_build.specs.Built.{IsBuilt, NoneBelow};
 ghost use Rattle.qm_build.specs.Opened.{IsOpened};
-ghost use Rattle.qm_build.specs.Reads.{items_within, HasOperations};
+ghost use Rattle.qm_build.specs.Reads.{items_within};
 
-use crate::build::{Snapshot, build_snapshot};
 use crate::fresh::store_of;
 use crate::parts::{Held, beside};
 use qm_base::{Corrupt, Digest, Error, Hasher, JournalError, Location};
@@ -37,14 +35,6 @@ pub struct Opened<N: Chunks, F: Family, C: Store, I, H: Hasher, U: Update> {
     pub activity: Prunable<N>,
     pub root: H::Digest,
     pub metadata: Option<U::Value>,
-}
-
-// A log, and what is rebuilt of its list from a floor on.
-#[derive(Drop)]
-struct FromFloor<F: Family, C: Store, I, H: Hasher> {
-    log: AuthLog<F, C, H>,
-    index: I,
-    snapshot: Snapshot,
 }
 
 /// The log of a store that ends with the selected commit, whatever the store has behind it, and what its list has beside it.
@@ -88,119 +78,40 @@ pub fn open_at<
 {
     match AuthLog::open(alloc, store, hasher, selected.size) {
         Ok(log) => {
-            whole::<N, F, C, I, H, U, X>(alloc, log, translator, chunks, selected.floor, kept_keys)
+            let mut log = log;
+            let mut index = I::new(alloc, translator);
+            match beside::<N, F, C, I, H, U>(
+                alloc,
+                &mut index,
+                &mut log,
+                chunks,
+                selected.floor,
+                kept_keys,
+            ) {
+                Ok(
+                    Held {
+                        live,
+                        activity,
+                        root,
+                        metadata,
+                    },
+                ) => Ok(Opened {
+                    log,
+                    index,
+                    live,
+                    activity,
+                    root,
+                    metadata,
+                }),
+                Err(error) => Err(Refusal {
+                    given: Given::Store(log.close()),
+                    error,
+                }),
+            }
         }
         Err(refusal) => Err(Refusal {
             given: Given::Store(store_of(refusal.given)),
             error: refusal.error,
-        }),
-    }
-}
-
-// What a log's list has beside it, with so many pruned chunks of bits.
-fn whole<
-    N: Chunks,
-    F: Family,
-    C: Store,
-    I: Factory<Value = Location<F>> + Drop,
-    H: Hasher + Drop,
-    U: Update,
-    X: Drop,
->(
-    alloc: Global,
-    log: AuthLog<F, C, H>,
-    translator: I::Translator,
-    chunks: usize,
-    floor: u64,
-    kept_keys: NonZeroUsize,
-) -> Result<Opened<N, F, C, I, H, U>, Refusal<X, C>>
-    requires pruned { chunks * (8 * N.LEN) ≤ floor }
-    requires kept { log.tree.start ≤ floor }
-    requires below { floor < log.tree.leaves }
-    ensures opened { (ops : List model.Operation) → HasOperations C.Store F.shape H.Digest.bytes H.hash U.form log ops → IsGood ops → floor ≡ lives.floor ops
-        → IfSome (C.told log.store) (λ _. IfOk result (λ o. IsOpened C.Store F.shape H.Digest.bytes H.hash U.form I.index_key N.LEN o.log (I.entries o.index) o.live o.activity (H.Digest.bytes o.root) (option_map U.Value.bytes o.metadata) ops)) }
-    ensures tree { IfOk result (λ o. o.log.tree ≡ log.tree) }
-    ensures kept { IfOk result (λ o. IsKept C.Store log.store o.log.store) }
-    ensures later { IfOk result (λ o. C.faults log.store ≤ C.faults o.log.store) }
-    ensures pruned { IfOk result (λ o. o.activity.pruned ≡ chunks) }
-    ensures bits { IfOk result (λ o. (bit_count N.LEN o.activity ≡ log.tree.leaves) × (o.live ≤ log.tree.leaves)) }
-    ensures decoded { IfSome (C.told log.store) (λ s. OnOk result (list_any is_none (items_within U.form s floor log.tree.leaves) ≡ false)) }
-    ensures back { IfErr result (λ r. (s : C) × (r.given ≡ Given.Store s) × IsKept C.Store log.store s × IsCause (C.faults log.store) (C.faults s) (r.error ≡ Error.Journal JournalError.Store)) }
-    ensures undecoded { IfErr result (λ r. r.error ≡ Error.DataCorrupted Corrupt.ItemDoesNotDecode → IfSome (C.told log.store) (λ s. list_any is_none (items_within U.form s floor log.tree.leaves) ≡ true)) }
-    ensures never { IfErr result (λ r. (r.error ≡ Error.Memory) ⊎ ((r.error ≡ Error.Journal JournalError.Store) ⊎ (r.error ≡ Error.DataCorrupted Corrupt.ItemDoesNotDecode))) }
-{
-    let FromFloor {
-        mut log,
-        index,
-        snapshot,
-    } = rebuilt::<F, C, I, H, U, X>(alloc, log, translator, floor, kept_keys)?;
-    match beside::<N, F, C, H, U>(alloc, &mut log, &snapshot, chunks, floor) {
-        Ok(
-            Held {
-                activity,
-                root,
-                metadata,
-            },
-        ) => Ok(Opened {
-            log,
-            index,
-            live: snapshot.live,
-            activity,
-            root,
-            metadata,
-        }),
-        Err(error) => Err(Refusal {
-            given: Given::Store(log.close()),
-            error,
-        }),
-    }
-}
-
-// What is rebuilt of a log's list from a floor on.
-fn rebuilt<
-    F: Family,
-    C: Store,
-    I: Factory<Value = Location<F>> + Drop,
-    H: Hasher + Drop,
-    U: Update,
-    X: Drop,
->(
-    alloc: Global,
-    log: AuthLog<F, C, H>,
-    translator: I::Translator,
-    floor: u64,
-    kept_keys: NonZeroUsize,
-) -> Result<FromFloor<F, C, I, H>, Refusal<X, C>>
-    requires kept { log.tree.start ≤ floor }
-    requires below { floor < log.tree.leaves }
-    ensures built { (ops : List model.Operation) → HasOperations C.Store F.shape H.Digest.bytes H.hash U.form log ops → NoneBelow floor ops
-        → IfSome (C.told log.store) (λ _. IfOk result (λ o. HasOperations C.Store F.shape H.Digest.bytes H.hash U.form o.log ops × IsBuilt I.index_key (I.entries o.index) o.snapshot.live o.snapshot.activity floor ops)) }
-    ensures tree { IfOk result (λ o. o.log.tree ≡ log.tree) }
-    ensures kept { IfOk result (λ o. IsKept C.Store log.store o.log.store) }
-    ensures later { IfOk result (λ o. C.faults log.store ≤ C.faults o.log.store) }
-    ensures long { IfOk result (λ o. (floor + length o.snapshot.activity ≡ log.tree.leaves) × (o.snapshot.live ≤ length o.snapshot.activity)) }
-    ensures decoded { IfSome (C.told log.store) (λ s. OnOk result (list_any is_none (items_within U.form s floor log.tree.leaves) ≡ false)) }
-    ensures back { IfErr result (λ r. (s : C) × (r.given ≡ Given.Store s) × IsKept C.Store log.store s × IsCause (C.faults log.store) (C.faults s) (r.error ≡ Error.Journal JournalError.Store)) }
-    ensures undecoded { IfErr result (λ r. r.error ≡ Error.DataCorrupted Corrupt.ItemDoesNotDecode → IfSome (C.told log.store) (λ s. list_any is_none (items_within U.form s floor log.tree.leaves) ≡ true)) }
-    ensures never { IfErr result (λ r. (r.error ≡ Error.Memory) ⊎ ((r.error ≡ Error.Journal JournalError.Store) ⊎ (r.error ≡ Error.DataCorrupted Corrupt.ItemDoesNotDecode))) }
-{
-    let mut log = log;
-    let mut index = I::new(alloc, translator);
-    match build_snapshot::<F, I, C, H, U>(
-        alloc,
-        &mut index,
-        &mut log,
-        Location::new(floor),
-        kept_keys,
-    ) {
-        Ok(snapshot) => Ok(FromFloor {
-            log,
-            index,
-            snapshot,
-        }),
-        Err(error) => Err(Refusal {
-            given: Given::Store(log.close()),
-            error,
         }),
     }
 }

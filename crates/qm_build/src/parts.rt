@@ -1,17 +1,17 @@
 //! What a list has beside its index and its log: activity bits with those below the floor, its root, its metadata.
 
-ghost use Rattle.std.specs.Prelude.{◌≡◌, ◌≢◌, ◌+◌, ◌-◌, ◌*◌, ◌/◌, ◌^◌, ◌<◌, ◌≤◌, ◌++◌, List, true, false, is_none, length, drop, replicate, option_map, IfSome, IfOk, IfErr};
+ghost use Rattle.std.specs.Prelude.{◌≡◌, ◌≢◌, ◌+◌, ◌-◌, ◌*◌, ◌/◌, ◌^◌, ◌<◌, ◌≤◌, ◌++◌, List, [], true, false, is_none, length, replicate, option_map, IfSome, IfOk, IfErr, OnOk};
 ghost use Rattle.qm_model.specs.Operations as model;
 ghost use Rattle.qm_model.specs.Operations.{IsCommitEnded};
 ghost use Rattle.qm_model.specs.Live as lives;
 ghost use Rattle.qm_model.specs.Trees.{ops_root};
-ghost use Rattle.qm_model.specs.Bits.{bits};
 ghost use Rattle.qm_model.specs.Step.{IsGood};
 ghost use Rattle.std.specs.List.{list_any};
 ghost use Rattle.qm_bits.specs.Bitmaps.{all_bits, bit_count};
+ghost use Rattle.qm_build.specs.Opened.{IsOpened};
 ghost use Rattle.qm_build.specs.Reads.{items_within, HasOperations, IsRead, IsReadError, IsUndecoded};
 
-use crate::build::Snapshot;
+use crate::build::build_snapshot;
 use crate::read::read_operation;
 use qm_base::{Corrupt, Digest, Error, Hasher, Location};
 use qm_bits::{BitMap, Chunks, Prunable};
@@ -19,6 +19,7 @@ use qm_merkle::Family;
 use qm_operations::{Operation, Update};
 use qm_store::{AuthLog, Store};
 use std::alloc::{AllocError, Global};
+use std::num::NonZeroUsize;
 
 /// The activity bits of a list, of which those from a floor on are given and those below are clear. So many chunks below the
 /// floor are pruned.
@@ -78,40 +79,59 @@ pub fn last_metadata<F: Family, C: Store, H: Hasher, U: Update>(
     }
 }
 
-/// What a list has beside its log, its index and the count of its live keys.
+/// What a list has beside its log and its index.
 #[derive(Drop)]
 pub(crate) struct Held<N: Chunks, D, V> {
+    pub live: u64,
     pub activity: Prunable<N>,
     pub root: D,
     pub metadata: Option<V>,
 }
 
-/// What a log's list has, of which this was rebuilt from a floor on. So many chunks of its bits are pruned. It reads one item.
-pub(crate) fn beside<N: Chunks, F: Family, C: Store, H: Hasher, U: Update>(
+/// What a log's list has beside it, of which the index was empty, rebuilt from its floor on. So many chunks of its bits are
+/// pruned. It reads the items from the floor on once, and the last of them once more.
+pub(crate) fn beside<
+    N: Chunks,
+    F: Family,
+    C: Store,
+    I: qm_index::Unordered<Value = Location<F>>,
+    H: Hasher,
+    U: Update,
+>(
     alloc: Global,
+    index: &mut I,
     log: &mut AuthLog<F, C, H>,
-    snapshot: &Snapshot,
     chunks: usize,
     floor: u64,
+    kept_keys: NonZeroUsize,
 ) -> Result<Held<N, H::Digest, U::Value>, Error>
+    requires empty { I.entries index.old ≡ [] }
     requires pruned { chunks * (8 * N.LEN) ≤ floor }
     requires kept { log.old.tree.start ≤ floor }
     requires below { floor < log.old.tree.leaves }
-    requires long { floor + length snapshot.now.activity ≡ log.old.tree.leaves }
-    ensures held { (ops : List model.Operation) → HasOperations C.Store F.shape H.Digest.bytes H.hash U.form log.old ops → IsGood ops → floor ≡ lives.floor ops → snapshot.now.activity ≡ drop floor (bits ops)
-        → IfSome (C.told log.old.store) (λ _. IfOk result (λ held. (all_bits N.LEN held.activity ≡ bits ops) × (H.Digest.bytes held.root ≡ ops_root H.hash F.shape U.form ops) × (option_map U.Value.bytes held.metadata ≡ lives.last_metadata ops))) }
+    ensures opened { (ops : List model.Operation) → HasOperations C.Store F.shape H.Digest.bytes H.hash U.form log.old ops → IsGood ops → floor ≡ lives.floor ops
+        → IfSome (C.told log.old.store) (λ _. IfOk result (λ held. IsOpened C.Store F.shape H.Digest.bytes H.hash U.form I.index_key N.LEN log.new (I.entries index.new) held.live held.activity (H.Digest.bytes held.root) (option_map U.Value.bytes held.metadata) ops)) }
     ensures pruned { IfOk result (λ held. held.activity.pruned ≡ chunks) }
-    ensures count { IfOk result (λ held. bit_count N.LEN held.activity ≡ log.old.tree.leaves) }
-    ensures whole { IfSome (C.told log.old.store) (λ s. list_any is_none (items_within U.form s floor log.old.tree.leaves) ≡ false → IfErr result (λ e. e ≢ Error.DataCorrupted Corrupt.ItemDoesNotDecode)) }
+    ensures bits { IfOk result (λ held. (bit_count N.LEN held.activity ≡ log.old.tree.leaves) × (held.live ≤ log.old.tree.leaves)) }
+    ensures decoded { IfSome (C.told log.old.store) (λ s. OnOk result (list_any is_none (items_within U.form s floor log.old.tree.leaves) ≡ false)) }
+    ensures undecoded { IfErr result (λ e. e ≡ Error.DataCorrupted Corrupt.ItemDoesNotDecode → IfSome (C.told log.old.store) (λ s. list_any is_none (items_within U.form s floor log.old.tree.leaves) ≡ true)) }
     ensures read { IsRead C.Store F.shape H.Digest.bytes H.hash log.old log.new }
     ensures error { IfErr result (IsReadError C.Store log.old log.new) }
 {
     // The log has at most 2^62 items.
     log.bounds();
+    let snapshot = build_snapshot::<F, I, C, H, U>(
+        alloc,
+        index,
+        log,
+        Location::new(floor),
+        kept_keys,
+    )?;
     let root = root_of::<F, C, H, U>(alloc, log, floor)?;
     let activity = activity_from(alloc, chunks, floor, &snapshot.activity)?;
     let metadata = last_metadata::<F, C, H, U>(alloc, log)?;
     Ok(Held {
+        live: snapshot.live,
         activity,
         root,
         metadata,

@@ -15,6 +15,7 @@ ghost use Rattle.qm_store.specs.Log.{IsLog};
 ghost use Rattle.qm_store.specs.Refusals.{IsAmong, IsDue};
 ghost use Rattle.qm_build.specs.Reasons.{proof_reasons};
 
+use crate::read::operation_in;
 use qm_base::{Corrupt, Error, Hasher, JournalError, Location, MerkleError};
 use qm_merkle::Family;
 use qm_open::commit_floor_in;
@@ -118,10 +119,8 @@ fn decoded<F, U: Update>(alloc: Global, items: &[Vec<u8>]) -> Result<Vec<Operati
 {
     let mut made = Vec::new(alloc);
     for item in items {
-        match Operation::decode(alloc, item)? {
-            Some(operation) => made.push(operation)?,
-            None => return Err(Error::DataCorrupted(Corrupt::ItemDoesNotDecode)),
-        }
+        let operation = operation_in(alloc, item)?;
+        made.push(operation)?;
     }
     Ok(made)
 }

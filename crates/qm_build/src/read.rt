@@ -1,7 +1,7 @@
 //! Operations and keys, read from a log.
 
-ghost use Rattle.std.specs.Prelude.{◌≡◌, ◌≢◌, ◌↔◌, ◌≤◌, ◌<◌, ℕ, List, Some, true, slice_get, option_map, All, IfSome, IfOk, IfErr};
-ghost use Rattle.qm_model.specs.Forms.{IsSpelling};
+ghost use Rattle.std.specs.Prelude.{◌≡◌, ◌≢◌, ◌⊎◌, ◌↔◌, ◌≤◌, ◌<◌, ℕ, List, Some, None, true, slice_get, option_map, All, IfSome, IfOk, IfErr};
+ghost use Rattle.qm_model.specs.Forms.{IsSpelling, decoded};
 ghost use Rattle.qm_model.specs.Operations as model;
 ghost use Rattle.qm_operations.specs.Parts.{update_key};
 ghost use Rattle.qm_operations.specs.Views.{operation_view};
@@ -35,7 +35,20 @@ pub(crate) fn read_operation<F: Family, C: Store, H: Hasher, U: Update>(
     ensures error { IfErr result (IsReadError C.Store log.old log.new) }
 {
     let item = log.read(at)?;
-    match Operation::decode(alloc, &item)? {
+    operation_in(alloc, &item)
+}
+
+/// The operation that an item spells. One that spells none is refused.
+pub(crate) fn operation_in<F, U: Update>(
+    alloc: Global,
+    item: &[u8],
+) -> Result<Operation<F, U>, Error>
+    ensures decoded { IfOk result (λ op. decoded U.form item.now ≡ Some (operation_view U.view U.Key.bytes U.Value.bytes op)) }
+    ensures spelled { IfOk result (λ op. IsSpelling U.form item.now (operation_view U.view U.Key.bytes U.Value.bytes op)) }
+    ensures none { IfErr result (λ e. e ≡ Error.DataCorrupted Corrupt.ItemDoesNotDecode → (decoded U.form item.now ≡ None) × ((op : model.Operation) → ¬ IsSpelling U.form item.now op)) }
+    ensures never { IfErr result (λ e. (e ≡ Error.Memory) ⊎ (e ≡ Error.DataCorrupted Corrupt.ItemDoesNotDecode)) }
+{
+    match Operation::decode(alloc, item)? {
         Some(operation) => Ok(operation),
         None => Err(Error::DataCorrupted(Corrupt::ItemDoesNotDecode)),
     }

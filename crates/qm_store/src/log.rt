@@ -576,7 +576,7 @@ fn forget<F: Family, D: Digest>(
     alloc: Global,
     tree: &mut Mem<F, D>,
     to: u64,
-) -> Result<Vec<u8>, AllocError>
+) -> Result<Vec<u8>, Error>
     requires start { tree.old.start ≤ to }
     requires leaves { to ≤ tree.old.leaves }
     ensures start { OnOk result (tree.new.start ≡ to) }
@@ -588,7 +588,7 @@ fn forget<F: Family, D: Digest>(
 {
     let (start, _) = tree.bounds();
     prove!(start.get() <= to);
-    let pins = shown::kept_peaks(alloc, tree, to).map_err(|_| AllocError)?;
+    let pins = shown::kept_peaks(alloc, tree, to)?;
     let head = joined(alloc, &pins)?;
     tree.prune(alloc, Location::new(to))?;
     Ok(head)
@@ -672,8 +672,7 @@ fn pruned<F: Family, C: Store, D: Digest>(alloc: Global, store: &mut C) -> Resul
     if !is_long(count, D::SIZE, head.len()) {
         return Err(Error::DataCorrupted(Corrupt::HeadDoesNotMatch));
     }
-    let pins = pieces(alloc, count, &head)?;
-    Ok(Mem::from_pruned_with_retained(alloc, Vec::new(alloc), start, pins)?)
+    Ok(bare_tree(alloc, start, count, &head)?)
 }
 
 // Whether there are so many bytes as so many digests of a size have.
@@ -686,20 +685,27 @@ fn is_long(count: usize, size: usize, bytes: usize) -> bool
     }
 }
 
-// The digests that stand in the bytes, one after another.
-fn pieces<D: Digest>(alloc: Global, count: usize, bytes: &[u8]) -> Result<Vec<D>, AllocError>
-    requires { length bytes.now ≡ count * D.SIZE }
-    ensures count { IfOk result (λ v. length v.items ≡ count) }
-    ensures spelled { IfOk result (λ v. concat (map D.bytes v.items) ≡ bytes.now) }
+// The tree of no leaves past a start, with the digests of the peaks there, which stand in the bytes one after another.
+fn bare_tree<F: Family, D: Digest>(
+    alloc: Global,
+    start: Location<F>,
+    count: usize,
+    bytes: &[u8],
+) -> Result<Mem<F, D>, AllocError>
+    requires few { start ≤ 2 ^ 62 }
+    requires count { count ≡ length (trees.peaks F.shape start) }
+    requires long { length bytes.now ≡ count * D.SIZE }
+    ensures start { IfOk result (λ tree. (tree.start ≡ start) × (tree.leaves ≡ start)) }
+    ensures pins { IfOk result (λ tree. (length tree.pins ≡ count) × (concat (map D.bytes tree.pins) ≡ bytes.now)) }
 {
-    let mut made = Vec::with_capacity(alloc, count)?;
+    let mut pins = Vec::with_capacity(alloc, count)?;
     let mut rest = bytes;
     for _ in 0..count {
         let (piece, others) = rest.split_at(D::SIZE);
-        made.push(D::from_bytes(piece).unwrap())?;
+        pins.push_reserved(D::from_bytes(piece).unwrap());
         rest = others;
     }
-    Ok(made)
+    Mem::from_pruned_with_retained(alloc, Vec::new(alloc), start, pins)
 }
 
 // The leaves' digests of a store's items from its start up to `size`.

@@ -4,7 +4,7 @@ use Rattle.std.proofs.lemmas.List.{length-map}
 use Rattle.std.proofs.lemmas.Result.{err_from_is_err_and}
 use Rattle.qm_model.specs.Forms.{spelling}
 use Rattle.std.specs.Prelude.{IfSome, is_none}
-use Rattle.qm_model.proofs.Results.{told-one, told-any, told-both, told-then}
+use Rattle.qm_model.proofs.Results.{told-one, told-any, told-then}
 use Rattle.qm_operations.specs.Views.{operation_view}
 use Rattle.qm_store.proofs.Stores.{both}
 use Rattle.qm_build.specs.Reads.{operation_at}
@@ -22,11 +22,12 @@ loop-at-init g c = record {
   here = omega (arith, ap length c.new-2.ensures);
   within = within-none (g.I.Unordered.entries c.args.index.now) c.get-floor.result c.get-floor.result c.requires.empty;
   counted = omega arith;
-  keys = λ ops has. told-any _ (g.C.Store.told c.args.log.now.store) (λ at key holds. absurd (c.in_ok-cache.ensures at key holds));
   placed = λ ops has.
-      told-any _ (g.C.Store.told c.args.log.now.store)
-      (subst (λ bits. ArePlaced g.I.Unordered.index_key (g.I.Unordered.entries c.args.index.now) 0 bits c.get-floor.result (between c.get-floor.result c.get-floor.result ops)) (sym c.new-2.ensures)
-      (placed-none g.I.Unordered.index_key (g.I.Unordered.entries c.args.index.now) c.get-floor.result ops c.requires.empty));
+      told-any _ (g.C.Store.told c.args.log.now.store) (
+        (subst (λ bits. ArePlaced g.I.Unordered.index_key (g.I.Unordered.entries c.args.index.now) 0 bits c.get-floor.result (between c.get-floor.result c.get-floor.result ops)) (sym c.new-2.ensures)
+            (placed-none g.I.Unordered.index_key (g.I.Unordered.entries c.args.index.now) c.get-floor.result ops c.requires.empty)),
+        (λ at key holds. absurd (c.in_ok-cache.ensures at key holds)),
+      );
   decode = each (g.C.Store.told c.args.log.now.store) (λ s i low less. absurd (omega (arith, low, less)));
 }
 
@@ -44,15 +45,11 @@ loop-at-preserved g c =
       here = omega (arith, c.loop-at.invariant.here, c.in_ok-put.ensures.long);
       within = c.in_ok-put.ensures.within;
       counted = c.in_ok-put.ensures.counted;
-      keys = λ ops has.
-          told-both _ _ _ (members.told c.args.log.now.store) (c.loop-at.invariant.keys ops has)
-          (told _ _ _ before.kept.told (c.in_ok-operation.ensures.value ops (operations-then members shape bytes hash form c.args.log.now c.loop-at.log ops before has))) (λ keys here.
-          c.in_ok-put.ensures.keys ops here keys);
       placed = λ ops has.
-          told-then _ _ (members.told c.args.log.now.store) (c.loop-at.invariant.keys ops has) (λ keys.
-          told-then _ _ (members.told c.args.log.now.store) (told _ _ _ before.kept.told (c.in_ok-operation.ensures.value ops (operations-then members shape bytes hash form c.args.log.now c.loop-at.log ops before has))) (λ here.
-          told-then _ _ (members.told c.args.log.now.store) (c.loop-at.invariant.placed ops has) (λ placed.
-          told _ _ _ read.kept.told (c.in_ok-put.ensures.placed ops (operations-then members shape bytes hash form c.args.log.now c.read_operation.new.log ops read has) here placed keys))));
+          let told_here = members.told c.args.log.now.store in
+          told-then _ _ told_here (told _ _ _ before.kept.told (c.in_ok-operation.ensures.value ops (operations-then members shape bytes hash form c.args.log.now c.loop-at.log ops before has))) (λ here.
+          told-then _ _ told_here (c.loop-at.invariant.placed ops has) (λ placed.
+          told _ _ _ read.kept.told (c.in_ok-put.ensures.placed ops (operations-then members shape bytes hash form c.args.log.now c.read_operation.new.log ops read has) here placed.0 placed.1)));
       decode =
           both (members.told c.args.log.now.store) c.loop-at.invariant.decode (subst (λ o. IfSome o (λ s. operation_at form s c.loop-at.at ≡ Some (operation_view g.U.Update.view g.U.Key.ByteString.bytes g.U.Value.ByteString.bytes c.in_ok-operation.operation))) before.kept.told c.in_ok-operation.ensures.held)
           (λ s all here i low less. one-more form s c.loop-at.at i (all i low) (ap is_none here) (omega (arith, less)));
@@ -73,7 +70,7 @@ returns g c = record {
       subst (λ bits. IsBuilt index_key entries live bits c.args.floor ops) (sym c.set_bit.ensures)
       (subst (λ f. IsBuilt index_key entries live (set c.loop-at.snapshot.activity (size - floor - 1) true) f ops) c.get-floor.ensures
       (built index_key entries live c.loop-at.snapshot.activity floor size ops low all (subst (λ f. NoneBelow f ops) (sym c.get-floor.ensures) none)
-      (subst (λ to. ArePlaced index_key entries live c.loop-at.snapshot.activity floor (between floor to ops)) last placed))));
+      (subst (λ to. ArePlaced index_key entries live c.loop-at.snapshot.activity floor (between floor to ops)) last placed.0))));
   decodes = λ ops has. told-any _ (g.C.Store.told c.args.log.now.store) tt;
   long =
       let same : length c.set_bit.new.self ≡ length c.loop-at.snapshot.activity = ap length c.set_bit.ensures ∙ simp length-set in
@@ -91,26 +88,33 @@ returns g c = record {
 
 pub returns-in_err-operation : goal.returns-in_err-operation
 returns-in_err-operation g c =
+    let members = g.C.Store in
+    let shape = g.F.Family.shape in
+    let bytes = g.H.Digest.Digest.bytes in
+    let hash = g.H.Hasher.hash in
+    let form = g.U.Update.form in
+    let log = c.args.log.now in
+    let made = c.loop-at.log in
+    let new = c.read_operation.new.log in
+    let at = c.loop-at.at in
+    let told_here = members.told log.store in
+    let before = c.loop-at.invariant.read in
+    let refused = c.in_err-operation.ensures in
     let exit = err_from_is_err_and c.from_residual-in_err-operation.result c.from_residual-in_err-operation.ensures.1 in
-    record {
-      built = λ ops has none.
-          told-any _ (g.C.Store.told c.args.log.now.store) (rw exit.1 tt);
-      decodes = λ ops has.
-          let before = c.loop-at.invariant.read in
-          rw (exit.1, exit.2) (told _ _ _ before.kept.told (c.in_err-operation.ensures.decodes ops (operations-then g.C.Store g.F.Family.shape g.H.Digest.Digest.bytes g.H.Hasher.hash g.U.Update.form c.args.log.now c.loop-at.log ops before has)));
-      long = rw exit.1 tt;
-      decoded = each (g.C.Store.told c.args.log.now.store) (λ s. rw exit.1 tt);
+    rw (exit.1, exit.2) (record {
+      built = λ ops has none. told-any _ told_here tt;
+      decodes = λ ops has. told _ (members.told made.store) told_here before.kept.told (refused.decodes ops (operations-then members shape bytes hash form log made ops before has));
+      long = tt;
+      decoded = each told_here (λ s. tt);
       corrupt =
-          let form = g.U.Update.form in
-          let at = c.loop-at.at in
-          rw (exit.1, exit.2) (over (g.C.Store.told c.args.log.now.store) (g.C.Store.told c.loop-at.log.store) c.loop-at.invariant.read.kept.told c.in_err-operation.ensures.corrupt (g.met.C.Store.told_start c.args.log.now.store) (λ s corrupt start is.
+          over told_here (members.told made.store) before.kept.told refused.corrupt (g.met.C.Store.told_start log.store) (λ s corrupt start is.
           let low : s.start ≤ c.args.floor = omega (arith, start, c.bounds-size.ensures.first, c.requires.kept) in
           let more : c.args.floor ≤ at = omega (arith, c.loop-at.invariant.here, c.get-floor.ensures) in
-          let less : at < c.args.log.now.tree.leaves = omega (arith, c.loop-at-test.true, c.bounds-size.ensures.size) in
-          one-undecoded form s c.args.floor c.args.log.now.tree.leaves at low more less (corrupt is)));
-      read = read-then g.C.Store g.F.Family.shape g.H.Digest.Digest.bytes g.H.Hasher.hash c.args.log.now c.loop-at.log c.read_operation.new.log c.loop-at.invariant.read c.read_operation.ensures.read;
-      error = rw (exit.1, exit.2) (error-then g.C.Store g.F.Family.shape g.H.Digest.Digest.bytes g.H.Hasher.hash c.args.log.now c.loop-at.log c.read_operation.new.log _ c.loop-at.invariant.read c.in_err-operation.ensures.error);
-    }
+          let less : at < log.tree.leaves = omega (arith, c.loop-at-test.true, c.bounds-size.ensures.size) in
+          one-undecoded form s c.args.floor log.tree.leaves at low more less (corrupt is));
+      read = read-then members shape bytes hash log made new before c.read_operation.ensures.read;
+      error = error-then members shape bytes hash log made new c.in_err-operation.field-0.0 before refused.error;
+    })
 
 -- where the log of a walk stands, from what it was before
 starts-at : (start start' floor from at count : ℕ) → start' ≡ start → start ≤ floor → from ≡ floor → at ≡ from + count → start' ≤ at
@@ -185,13 +189,14 @@ returns-in_err-put g c =
     let told = g.C.Store.told c.args.log.now.store in
     let exit = err_from_is_err_and c.from_residual-in_err-put.result c.from_residual-in_err-put.ensures.1 in
     let read = read-then members shape bytes hash c.args.log.now c.loop-at.log c.read_operation.new.log c.loop-at.invariant.read c.read_operation.ensures.read in
-    let other = decodes-anyway members c.read_operation.new.log c.put.new.log _ c.in_err-put.ensures.error in
-    record {
-      built = λ ops has none. told-any _ told (rw exit.1 tt);
-      decodes = λ ops has. told-any _ told (rw (exit.1, exit.2) other);
-      long = rw exit.1 tt;
-      decoded = each told (λ s. rw exit.1 tt);
-      corrupt = each told (λ s. rw (exit.1, exit.2) (λ is. absurd (other is)));
+    let error = c.in_err-put.field-0.0 in
+    let other = decodes-anyway members c.read_operation.new.log c.put.new.log error c.in_err-put.ensures.error in
+    rw (exit.1, exit.2) (record {
+      built = λ ops has none. told-any _ told tt;
+      decodes = λ ops has. told-any _ told other;
+      long = tt;
+      decoded = each told (λ s. tt);
+      corrupt = each told (λ s is. absurd (other is));
       read = read-then members shape bytes hash c.args.log.now c.read_operation.new.log c.put.new.log read c.put.ensures.read;
-      error = rw (exit.1, exit.2) (inl (fault-then members shape bytes hash c.args.log.now c.read_operation.new.log c.put.new.log _ read c.in_err-put.ensures.error));
-    }
+      error = inl (fault-then members shape bytes hash c.args.log.now c.read_operation.new.log c.put.new.log error read c.in_err-put.ensures.error);
+    })

@@ -12,9 +12,7 @@ invariant-loop-at g l = record {
   here : l.at ≡ l.floor + length l.snapshot.activity;
   within : AreWithin l.floor l.at (g.I.Unordered.entries l.index);
   counted : l.snapshot.live ≤ length l.snapshot.activity;
-  keys : (ops : List Operation) → HasOperations g.C.Store g.F.Family.shape g.H.Digest.Digest.bytes g.H.Hasher.hash g.U.Update.form l.initial.log ops →
-      IfSome (g.C.Store.told l.initial.log.store) (λ _. AreKeys g.U.Key.ByteString.bytes ops l.cache);
   placed : (ops : List Operation) → HasOperations g.C.Store g.F.Family.shape g.H.Digest.Digest.bytes g.H.Hasher.hash g.U.Update.form l.initial.log ops →
-      IfSome (g.C.Store.told l.initial.log.store) (λ _. ArePlaced g.I.Unordered.index_key (g.I.Unordered.entries l.index) l.snapshot.live l.snapshot.activity l.floor (between l.floor l.at ops));
+      IfSome (g.C.Store.told l.initial.log.store) (λ _. ArePlaced g.I.Unordered.index_key (g.I.Unordered.entries l.index) l.snapshot.live l.snapshot.activity l.floor (between l.floor l.at ops) × AreKeys g.U.Key.ByteString.bytes ops l.cache);
   decode : IfSome (g.C.Store.told l.initial.log.store) (λ s. (i : ℕ) → l.floor ≤ i → i < l.at → is_none (operation_at g.U.Update.form s i) ≡ false);
 }

@@ -2,13 +2,15 @@ use Rattle.std.proofs.Common.{◌≡◌, ◌+◌, ◌<◌, ◌≤◌, ◌++◌, 
 use Rattle.std.specs.Prelude.{All, IfSome, option_map}
 use Rattle.std.specs.Bool.{then_some}
 use Rattle.std.proofs.lemmas.Result.{err_from_is_err_and}
-use Rattle.qm_model.proofs.Results.{told-one, told-any}
+use Rattle.qm_model.proofs.Results.{told-one, told-any, err-then}
 use Rattle.qm_operations.specs.Views.{operation_view}
 use Rattle.qm_index.specs.Buckets.{bucket_at}
 use Rattle.qm_index.specs.Places.{HasPlaces, moved}
+use Rattle.qm_store.proofs.Stores.{ok-both}
 use Rattle.qm_build.specs.declared.read.Found.{Found}
 use Rattle.qm_build.specs.Building.{cleared, counted_after}
 use Rattle.qm_build.proofs.Caching.{own-key}
+use Rattle.qm_build.proofs.Decoding.{any-ok}
 use Rattle.qm_build.proofs.Pushing.{left_at}
 use Rattle.qm_build.proofs.Reading.{read-none}
 use Rattle.qm_build.proofs.Putting.{stood, placed-more, placed-commit}
@@ -16,56 +18,66 @@ use Rattle.qm_build.proofs.Within.{within-wider, found-within, found-contained, 
 use Rattle.qm_build.proofs.build.put.Goals as goal
 
 pub returns-in_default : goal.returns-in_default
-returns-in_default g c = record {
-  placed = λ ops has here placed keys.
-      let op = operation_view g.U.Update.view g.U.Key.ByteString.bytes g.U.Value.ByteString.bytes c.args.operation in
-      let low : c.args.floor ≤ c.args.at = omega (arith, c.requires.here) in
-      told-any _ (g.C.Store.told c.args.log.now.store)
-      (placed-commit g.I.Unordered.index_key (g.I.Unordered.entries c.args.index.now) c.args.snapshot.now.live c.args.snapshot.now.activity c.args.floor c.args.at ops op low here placed
-      c.note.new.snapshot.live c.note.new.snapshot.activity (sym c.in_default.ensures) c.in_ok-note.ensures.live c.in_ok-note.ensures.active);
-  keys = λ ops here keys. keys;
-  long = c.in_ok-note.ensures.long;
-  within = within-wider (g.I.Unordered.entries c.args.index.now) c.args.floor c.args.at (c.args.at + 1) (omega arith) c.requires.within;
-  counted = c.in_ok-note.ensures.counted;
-  read = read-none g.C.Store g.F.Family.shape g.H.Digest.Digest.bytes g.H.Hasher.hash c.args.log.now;
-  error = tt;
-}
+returns-in_default g c =
+    let noted = c.note.ensures in
+    let result = c.note.result in
+    record {
+      placed = λ ops has here placed keys.
+          let op = operation_view g.U.Update.view g.U.Key.ByteString.bytes g.U.Value.ByteString.bytes c.args.operation in
+          let low : c.args.floor ≤ c.args.at = omega (arith, c.requires.here) in
+          told-any _ (g.C.Store.told c.args.log.now.store)
+          (ok-both result noted.live noted.active (λ live active. (
+            placed-commit g.I.Unordered.index_key (g.I.Unordered.entries c.args.index.now) c.args.snapshot.now.live c.args.snapshot.now.activity c.args.floor c.args.at ops op low here placed
+                c.note.new.snapshot.live c.note.new.snapshot.activity (sym c.in_default.ensures) live active,
+            keys,
+          )));
+      long = noted.long;
+      within = any-ok result (within-wider (g.I.Unordered.entries c.args.index.now) c.args.floor c.args.at (c.args.at + 1) (omega arith) c.requires.within);
+      counted = noted.counted;
+      read = read-none g.C.Store g.F.Family.shape g.H.Digest.Digest.bytes g.H.Hasher.hash c.args.log.now;
+      error = err-then result noted.memory (λ e memory. inl memory);
+    }
 
 pub returns : goal.returns
-returns g c = record {
-  placed = λ ops has here placed keys.
-      let index_key = g.I.Unordered.index_key in
-      let old = g.I.Unordered.entries c.args.index.now in
-      let new = g.I.Unordered.entries c.move_key.new.index in
-      let op = operation_view g.U.Update.view g.U.Key.ByteString.bytes g.U.Value.ByteString.bytes c.args.operation in
-      let key = c.as_bytes-bytes.result.now in
-      let found = option_map (λ (f : Found). f.location) c.in_ok-found.found in
-      let low : c.args.floor ≤ c.args.at = omega (arith, c.requires.here) in
-      let left : c.then_some.result ≡ left_at op c.args.at = c.then_some.ensures ∙ ap₂ (λ t n. then_some t n) c.is_update-is_update.ensures c.new.ensures in
-      told-one _ _ (g.C.Store.told c.args.log.now.store) (c.in_ok-found.ensures.key ops has keys) (λ is.
-      let place = stood index_key old c.args.snapshot.now.live c.args.snapshot.now.activity c.args.floor c.args.at ops op low here placed key found (found-contained (bucket_at old (index_key key)) c.in_ok-found.found c.in_ok-found.ensures.place) is in
-      placed-more index_key old c.args.snapshot.now.live c.args.snapshot.now.activity c.args.floor c.args.at ops op low here placed
-      new c.note-2.new.snapshot.live c.note-2.new.snapshot.activity key found
-      (sym c.in-Some.ensures ∙ ap Some (sym c.as_bytes-bytes.ensures.value)) place
-      (λ ps apart has place. subst (λ o. HasPlaces index_key new (moved ps key o)) left (c.in_ok-move_key.ensures.moved ps apart has place))
-      (c.in_ok-note-2.ensures.live ∙ ap (counted_after c.args.snapshot.now.live found) c.is_update-is_update.ensures)
-      (c.in_ok-note-2.ensures.active ∙ ap₂ (λ o t. cleared c.args.snapshot.now.activity o ++ t ∷ []) (found-offset c.args.floor c.in_ok-found.found) c.is_update-is_update.ensures));
-  keys = λ ops here keys at key holds. ⊎_elim
-      (λ own. own-key g.U.Key.ByteString.bytes ops (operation_view g.U.Update.view g.U.Key.ByteString.bytes g.U.Value.ByteString.bytes c.args.operation) c.args.at at c.in-Some.key key here (sym c.is_update-is_update.ensures ∙ own.0) (sym c.in-Some.ensures) own.1.0 own.1.1)
-      (λ old. keys at key old)
-      (c.keep.ensures at key holds);
-  long = c.in_ok-note-2.ensures.long;
-  within =
-      let op = operation_view g.U.Update.view g.U.Key.ByteString.bytes g.U.Value.ByteString.bytes c.args.operation in
-      let low : c.args.floor ≤ c.args.at = omega (arith, c.requires.here) in
-      let here : c.then_some.result ≡ left_at op c.args.at = c.then_some.ensures ∙ ap₂ (λ t n. then_some t n) c.is_update-is_update.ensures c.new.ensures in
-      c.in_ok-move_key.ensures.within c.args.floor (c.args.at + 1)
-      (within-wider (g.I.Unordered.entries c.args.index.now) c.args.floor c.args.at (c.args.at + 1) (omega arith) c.requires.within)
-      (subst (λ o. IfSome o (λ n. (c.args.floor ≤ n) × (n < c.args.at + 1))) (sym here) (left-within op c.args.floor c.args.at low));
-  counted = c.in_ok-note-2.ensures.counted;
-  read = c.find.ensures.read;
-  error = tt;
-}
+returns g c =
+    let noted = c.note-2.ensures in
+    let result = c.note-2.result in
+    record {
+      placed = λ ops has here placed keys.
+          let index_key = g.I.Unordered.index_key in
+          let old = g.I.Unordered.entries c.args.index.now in
+          let new = g.I.Unordered.entries c.move_key.new.index in
+          let op = operation_view g.U.Update.view g.U.Key.ByteString.bytes g.U.Value.ByteString.bytes c.args.operation in
+          let key = c.as_bytes-bytes.result.now in
+          let found = option_map (λ (f : Found). f.location) c.in_ok-found.found in
+          let low : c.args.floor ≤ c.args.at = omega (arith, c.requires.here) in
+          let left : c.then_some.result ≡ left_at op c.args.at = c.then_some.ensures ∙ ap₂ (λ t n. then_some t n) c.is_update-is_update.ensures c.new.ensures in
+          told-one _ _ (g.C.Store.told c.args.log.now.store) (c.in_ok-found.ensures.key ops has keys) (λ is.
+          let place = stood index_key old c.args.snapshot.now.live c.args.snapshot.now.activity c.args.floor c.args.at ops op low here placed key found (found-contained (bucket_at old (index_key key)) c.in_ok-found.found c.in_ok-found.ensures.place) is in
+          ok-both result noted.live noted.active (λ live active. (
+            placed-more index_key old c.args.snapshot.now.live c.args.snapshot.now.activity c.args.floor c.args.at ops op low here placed
+                new c.note-2.new.snapshot.live c.note-2.new.snapshot.activity key found
+                (sym c.in-Some.ensures ∙ ap Some (sym c.as_bytes-bytes.ensures.value)) place
+                (λ ps apart has place. subst (λ o. HasPlaces index_key new (moved ps key o)) left (c.in_ok-move_key.ensures.moved ps apart has place))
+                (live ∙ ap (counted_after c.args.snapshot.now.live found) c.is_update-is_update.ensures)
+                (active ∙ ap₂ (λ o t. cleared c.args.snapshot.now.activity o ++ t ∷ []) (found-offset c.args.floor c.in_ok-found.found) c.is_update-is_update.ensures),
+            (λ at key holds. ⊎_elim
+                (λ own. own-key g.U.Key.ByteString.bytes ops op c.args.at at c.in-Some.key key here (sym c.is_update-is_update.ensures ∙ own.0) (sym c.in-Some.ensures) own.1.0 own.1.1)
+                (λ old. keys at key old)
+                (c.keep.ensures at key holds)),
+          )));
+      long = noted.long;
+      within =
+          let op = operation_view g.U.Update.view g.U.Key.ByteString.bytes g.U.Value.ByteString.bytes c.args.operation in
+          let low : c.args.floor ≤ c.args.at = omega (arith, c.requires.here) in
+          let here : c.then_some.result ≡ left_at op c.args.at = c.then_some.ensures ∙ ap₂ (λ t n. then_some t n) c.is_update-is_update.ensures c.new.ensures in
+          any-ok result (c.in_ok-move_key.ensures.within c.args.floor (c.args.at + 1)
+          (within-wider (g.I.Unordered.entries c.args.index.now) c.args.floor c.args.at (c.args.at + 1) (omega arith) c.requires.within)
+          (subst (λ o. IfSome o (λ n. (c.args.floor ≤ n) × (n < c.args.at + 1))) (sym here) (left-within op c.args.floor c.args.at low)));
+      counted = noted.counted;
+      read = c.find.ensures.read;
+      error = err-then result noted.memory (λ e memory. inl memory);
+    }
 
 pub move_key-requires : goal.move_key-requires
 move_key-requires g c = c.in_ok-found.ensures.place
@@ -88,52 +100,24 @@ note-requires-2 g c = record {
 
 pub returns-in_err-found : goal.returns-in_err-found
 returns-in_err-found g c =
-    let exit = err_from_is_err_and c.from_residual-in_err-found.result c.from_residual-in_err-found.ensures.1 in
-    record {
-      placed = λ ops has here placed keys. told-any _ (g.C.Store.told c.args.log.now.store) (rw exit.1 tt);
-      keys = λ ops here keys. rw exit.1 tt;
-      long = rw exit.1 tt;
-      within = rw exit.1 tt;
-      counted = rw exit.1 tt;
-      read = c.find.ensures.read;
-      error = rw (exit.1, exit.2) c.in_err-found.ensures.error;
-    }
-
-pub returns-in_err-note : goal.returns-in_err-note
-returns-in_err-note g c =
     let exit = err_from_is_err_and c.from_residual.result c.from_residual.ensures.1 in
-    record {
-      placed = λ ops has here placed keys. told-any _ (g.C.Store.told c.args.log.now.store) (rw exit.1 tt);
-      keys = λ ops here keys. rw exit.1 tt;
-      long = rw exit.1 tt;
-      within = rw exit.1 tt;
-      counted = rw exit.1 tt;
-      read = read-none g.C.Store g.F.Family.shape g.H.Digest.Digest.bytes g.H.Hasher.hash c.args.log.now;
-      error = rw (exit.1, exit.2) (inl refl);
-    }
+    rw (exit.1, exit.2) (record {
+      placed = λ ops has here placed keys. told-any _ (g.C.Store.told c.args.log.now.store) tt;
+      long = tt;
+      within = tt;
+      counted = tt;
+      read = c.find.ensures.read;
+      error = c.in_err-found.ensures.error;
+    })
 
 pub returns-in_err-move_key : goal.returns-in_err-move_key
 returns-in_err-move_key g c =
     let exit = err_from_is_err_and c.from_residual-in_err-move_key.result c.from_residual-in_err-move_key.ensures.1 in
-    record {
-      placed = λ ops has here placed keys. told-any _ (g.C.Store.told c.args.log.now.store) (rw exit.1 tt);
-      keys = λ ops here keys. rw exit.1 tt;
-      long = rw exit.1 tt;
-      within = rw exit.1 tt;
-      counted = rw exit.1 tt;
+    rw (exit.1, exit.2) (record {
+      placed = λ ops has here placed keys. told-any _ (g.C.Store.told c.args.log.now.store) tt;
+      long = tt;
+      within = tt;
+      counted = tt;
       read = c.find.ensures.read;
-      error = rw (exit.1, exit.2) (inl refl);
-    }
-
-pub returns-in_err-note-2 : goal.returns-in_err-note-2
-returns-in_err-note-2 g c =
-    let exit = err_from_is_err_and c.from_residual-in_err-note-2.result c.from_residual-in_err-note-2.ensures.1 in
-    record {
-      placed = λ ops has here placed keys. told-any _ (g.C.Store.told c.args.log.now.store) (rw exit.1 tt);
-      keys = λ ops here keys. rw exit.1 tt;
-      long = rw exit.1 tt;
-      within = rw exit.1 tt;
-      counted = rw exit.1 tt;
-      read = c.find.ensures.read;
-      error = rw (exit.1, exit.2) (inl refl);
-    }
+      error = inl refl;
+    })

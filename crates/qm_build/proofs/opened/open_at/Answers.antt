@@ -1,10 +1,8 @@
-use Rattle.std.proofs.Common.{◌≡◌, ◌⊎◌, ◌∙◌, map, ap, arith, inl, inr, subst₂, true, false, IfSome, OnOk}
+use Rattle.std.proofs.Common.{◌≡◌, ◌⊎◌, ◌∙◌, map, ap, arith, inl, inr, subst₂, true, false, IfSome}
 use Rattle.std.specs.Prelude.{is_none}
 use Rattle.std.specs.List.{list_any}
 use Rattle.std.proofs.lemmas.List.{length-map}
-use Rattle.std.proofs.lemmas.Option.{IfSome_then}
 use Rattle.qm_model.specs.Forms.{spelling}
-use Rattle.qm_model.proofs.Results.{ok-then, err-then}
 use Rattle.qm_base.specs.declared.error.Corrupt.TheVariants.{HeadDoesNotMatch, ItemDoesNotDecode}
 use Rattle.qm_base.specs.declared.error.Error.{Error}
 use Rattle.qm_base.specs.declared.error.Error.TheVariants as errors
@@ -13,7 +11,8 @@ use Rattle.qm_store.specs.declared.refusal.Given.TheVariants.{Store}
 use Rattle.qm_store.specs.Log.{store_given}
 use Rattle.qm_store.proofs.Stores.{both, kept-then}
 use Rattle.qm_build.specs.Reads.{items_within}
-use Rattle.qm_build.proofs.Decoding.{any-ok, each, known, then-told}
+use Rattle.qm_build.proofs.Decoding.{each, known, then-told}
+use Rattle.qm_build.proofs.Reading.{caused, which-error}
 use Rattle.qm_store.proofs.Exits.{later-cause}
 use Rattle.qm_build.proofs.opened.open_at.Goals as goal
 
@@ -37,29 +36,59 @@ wider-behind (inl a) = inl a
 wider-behind (inr (inl b)) = inr (inl b)
 wider-behind (inr (inr c)) = inr (inr (inl c))
 
-pub returns-in-Ok : goal.returns-in-Ok
-returns-in-Ok g c =
+pub returns-in-Ok-beside : goal.returns-in-Ok-beside
+returns-in-Ok-beside g c =
     let members = g.C.Store in
     let form = g.U.Update.form in
     let store = c.args.store in
     let made = c.in-Ok.log.store in
     let told = members.told store in
     let opened = c.in-Ok.ensures in
-    let whole = c.whole.ensures in
+    let rebuilt = c.in-Ok-beside.ensures in
+    let read = c.beside.ensures.read in
     record {
-      stands = λ list long of good low. then-told told (opened.stands (map (spelling form) list) (length-map list (spelling form) ∙ long)) (λ held is opened items head.
-          known (members.told made) held (c.in-Ok.ensures.kept.told ∙ is) (whole.opened list (record { logged = opened items head; of = of }) good low));
-      size = ok-then c.whole.result whole.tree (λ o is. ap (λ t. t.leaves) is ∙ opened.size);
-      kept = ok-then c.whole.result whole.kept (λ o kept. kept-then members store made o.log.store opened.kept kept);
-      later = ok-then c.whole.result whole.later (λ o later. omega (arith, opened.later, later));
-      pruned = whole.pruned;
-      bits = ok-then c.whole.result whole.bits (λ o bits. (bits.0 ∙ opened.size, omega (arith, bits.1, opened.size)));
-      head = IfSome_then told opened.long (λ s long. any-ok c.whole.result long);
-      decoded = subst₂ (λ o n. IfSome o (λ s. OnOk c.whole.result (list_any is_none (items_within form s c.args.selected.floor n) ≡ false))) opened.kept.told opened.size whole.decoded;
-      back = err-then c.whole.result whole.back (λ r back. (back.0, back.1, kept-then members store made back.0 opened.kept back.2, later-cause (members.faults store) (members.faults made) (members.faults back.0) opened.later back.3));
-      other_head = err-then c.whole.result whole.never (λ r never is. absurd (no-head r.error never is));
-      undecoded = err-then c.whole.result whole.undecoded (λ r lost is. both told opened.long (subst₂ (λ o n. IfSome o (λ s. list_any is_none (items_within form s c.args.selected.floor n) ≡ true)) opened.kept.told opened.size (lost is)) (λ s long here. (long, here)));
-      never = err-then c.whole.result whole.never (λ r never. wider never);
+      stands = λ list long of good low. then-told told (opened.stands (map (spelling form) list) (length-map list (spelling form) ∙ long)) (λ held is logged items head.
+          known (members.told made) held (opened.kept.told ∙ is) (rebuilt.opened list (record { logged = logged items head; of = of }) good low));
+      size = ap (λ t. t.leaves) read.tree ∙ opened.size;
+      kept = kept-then members store made c.beside.new.log.store opened.kept read.kept;
+      later = omega (arith, opened.later, read.later);
+      pruned = rebuilt.pruned;
+      bits = (rebuilt.bits.0 ∙ opened.size, omega (arith, rebuilt.bits.1, opened.size));
+      head = opened.long;
+      decoded = subst₂ (λ o n. IfSome o (λ s. list_any is_none (items_within form s c.args.selected.floor n) ≡ false)) opened.kept.told opened.size rebuilt.decoded;
+      back = tt;
+      other_head = tt;
+      undecoded = tt;
+      never = tt;
+    }
+
+pub returns-in-Err-beside : goal.returns-in-Err-beside
+returns-in-Err-beside g c =
+    let members = g.C.Store in
+    let form = g.U.Update.form in
+    let store = c.args.store in
+    let log = c.in-Ok.log in
+    let new = c.beside.new.log in
+    let told = members.told store in
+    let opened = c.in-Ok.ensures in
+    let read = c.beside.ensures.read in
+    let error = c.in-Err-beside.error in
+    let refused = c.in-Err-beside.ensures in
+    let which = which-error members log new error refused.error in
+    record {
+      stands = λ list long of good low. each told (λ held logged head. tt);
+      size = tt;
+      kept = tt;
+      later = tt;
+      pruned = tt;
+      bits = tt;
+      head = each told (λ s. tt);
+      decoded = each told (λ s. tt);
+      back = (new.store, ap Store c.close.ensures, kept-then members store log.store new.store opened.kept read.kept, later-cause (members.faults store) (members.faults log.store) (members.faults new.store) opened.later (caused members log log new error (omega arith) read.later refused.error));
+      other_head = λ is. absurd (no-head error which is);
+      undecoded = λ is.
+          both told opened.long (subst₂ (λ o n. IfSome o (λ s. list_any is_none (items_within form s c.args.selected.floor n) ≡ true)) opened.kept.told opened.size (refused.undecoded is)) (λ s long here. (long, here));
+      never = wider which;
     }
 
 pub returns-in-Err : goal.returns-in-Err

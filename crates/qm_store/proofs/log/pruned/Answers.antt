@@ -25,11 +25,11 @@ returns-in_err-head g c =
       cause = handed-on _ _ c.head.result c.in_err-head.field-0.0 result c.in_err-head.was (exit.1 ∙ ap Err exit.2) c.head.ensures.cause;
     }
 
-pub returns-in_err-pins : goal.returns-in_err-pins
-returns-in_err-pins g c =
-    let result = c.from_residual-in_err-pins.result in
-    let failed = c.from_residual-in_err-pins.ensures.0 in
-    let exit = err_from_is_err_and result c.from_residual-in_err-pins.ensures.1 in
+pub returns-in_err-bare_tree : goal.returns-in_err-bare_tree
+returns-in_err-bare_tree g c =
+    let result = c.from_residual-in_err-bare_tree.result in
+    let failed = c.from_residual-in_err-bare_tree.ensures.0 in
+    let exit = err_from_is_err_and result c.from_residual-in_err-bare_tree.ensures.1 in
     record {
       stands = λ hash list within. any-told (g.C.Store.told c.args.store.now) (λ held is. IfOk-from_err result _ failed);
       start = IfOk-from_err result _ failed;
@@ -40,26 +40,6 @@ returns-in_err-pins g c =
       kept = record { start = c.head.ensures.same_start; end = c.head.ensures.same_end; told = c.head.ensures.same };
       cause = no-fault _ _ result exit.0 exit.1 exit.2 c.head.ensures.cause.later;
     }
-
-pub returns-in_err-from_pruned_with_retained : goal.returns-in_err-from_pruned_with_retained
-returns-in_err-from_pruned_with_retained g c =
-    let result = c.from_residual-in_err-from_pruned_with_retained.result in
-    let failed = c.from_residual-in_err-from_pruned_with_retained.ensures.0 in
-    let exit = err_from_is_err_and result c.from_residual-in_err-from_pruned_with_retained.ensures.1 in
-    record {
-      stands = λ hash list within. any-told (g.C.Store.told c.args.store.now) (λ held is. IfOk-from_err result _ failed);
-      start = IfOk-from_err result _ failed;
-      leaves = IfOk-from_err result _ failed;
-      long = IfOk-from_err result _ failed;
-      head = rw (exit.1, exit.2) (λ is. absurd cc);
-      never = rw (exit.1, exit.2) (inl refl);
-      kept = record { start = c.head.ensures.same_start; end = c.head.ensures.same_end; told = c.head.ensures.same };
-      cause = no-fault _ _ result exit.0 exit.1 exit.2 c.head.ensures.cause.later;
-    }
-
--- none more
-none-more : (n k : ℕ) → k ≡ 0 → n ≡ n + k
-none-more n k none = omega arith
 
 -- a test that failed does not hold
 untrue : {P : Type 0} (test : Bool) → (IsTrue test ↔ P) → test ≡ false → P → ⊥
@@ -82,42 +62,37 @@ returns-then-not-is_long g c = record {
   cause = record { later = c.head.ensures.cause.later; failed = λ fault. absurd cc };
 }
 
-pub pieces-requires : goal.pieces-requires
-pieces-requires g c =
-    ap length c.deref.ensures.value ∙ sym (c.len.ensures ∙ c.in_ok-head.head.ok.0) ∙ c.is_long.ensures.0 c.if-not-is_long.false ∙ ap (λ size. c.peak_count-count.result * size) c.SIZE.ensures
-
-pub from_pruned_with_retained-requires : goal.from_pruned_with_retained-requires
-from_pruned_with_retained-requires g c = record {
-  pins = c.in_ok-pins.ensures.count ∙ c.peak_count-count.ensures;
-  size = (c.new-start.result, subst (λ n. n ≤ 2 ^ 62) (sym c.new-start.ensures) (le_trans c.bounds-start.ensures.order c.bounds-start.ensures.limit), none-more _ _ (ap length c.new.ensures.items));
+pub bare_tree-requires : goal.bare_tree-requires
+bare_tree-requires g c = record {
+  few = subst (λ n. n ≤ 2 ^ 62) (sym c.new-start.ensures) (le_trans c.bounds-start.ensures.order c.bounds-start.ensures.limit);
+  count = c.peak_count-count.ensures;
+  long = ap length c.deref.ensures.value ∙ sym (c.len.ensures ∙ c.in_ok-head.head.ok.0) ∙ c.is_long.ensures.0 c.if-not-is_long.false ∙ ap (λ size. c.peak_count-count.result * size) c.SIZE.ensures;
 }
 
 pub returns : goal.returns
-returns g c = record {
-  stands = λ hash list within.
-      let members = g.C.Store in
-      let shape = g.F.Family.shape in
-      let bytes = g.D.Digest.bytes in
-      let n = members.start c.args.store.now in
-      let tree = c.in_ok-from_pruned_with_retained.field-0 in
-      let start : c.new-start.result ≡ n = c.new-start.ensures ∙ c.bounds-start.ensures.starts in
-      let same : shape.size c.new-start.result ≡ shape.size c.new-start.result + length c.new.result.items = omega (arith, ap length c.new.ensures.items) in
-      let made = c.in_ok-from_pruned_with_retained.ensures c.new-start.result same in
-      IfSome_then (members.told c.args.store.now) c.in_ok-head.ensures.value
-      (λ held is told.
-      stands-pruned bytes shape g.F.Family.births g.met.F.Family.numbered g.met.F.Family.peaked hash g.D.Digest.SIZE g.met.D.Digest.sized tree n list held.head told
-      (omega (arith, c.bounds-start.ensures.starts, c.bounds-start.ensures.order, c.bounds-start.ensures.limit)) within (ap (λ m. m.start) made ∙ start) (ap (λ m. m.leaves) made ∙ start)
-      (ap (λ m. length m.pins) made ∙ c.in_ok-pins.ensures.count ∙ c.peak_count-count.ensures ∙ ap (λ m. length (peaks shape m)) start)
-      (ap (λ m. concat (map bytes m.pins)) made ∙ c.in_ok-pins.ensures.spelled ∙ c.deref.ensures.value ∙ is));
-  head = tt;
-  never = tt;
-  kept = record { start = c.head.ensures.same_start; end = c.head.ensures.same_end; told = c.head.ensures.same };
-  cause = record { later = c.head.ensures.cause.later; failed = λ fault. absurd cc };
-  start = ap (λ m. m.start) (c.in_ok-from_pruned_with_retained.ensures c.new-start.result (none-more _ _ (ap length c.new.ensures.items))) ∙ c.new-start.ensures ∙ c.bounds-start.ensures.starts;
-  leaves = ap (λ m. m.leaves) (c.in_ok-from_pruned_with_retained.ensures c.new-start.result (none-more _ _ (ap length c.new.ensures.items))) ∙ c.new-start.ensures ∙ c.bounds-start.ensures.starts;
-  long =
-      IfSome_then (g.C.Store.told c.args.store.now) c.in_ok-head.ensures.value
-      (λ held is.
-      sym (c.len.ensures ∙ c.in_ok-head.head.ok.0 ∙ ap length is) ∙ c.is_long.ensures.0 c.if-not-is_long.false
-      ∙ ap₂ (λ n size. n * size) (c.peak_count-count.ensures ∙ ap (λ m. length (peaks g.F.Family.shape m)) (c.new-start.ensures ∙ c.bounds-start.ensures.starts)) c.SIZE.ensures);
-}
+returns g c =
+    let members = g.C.Store in
+    let shape = g.F.Family.shape in
+    let bytes = g.D.Digest.bytes in
+    let n = members.start c.args.store.now in
+    let tree = c.in_ok-bare_tree.field-0 in
+    let start : c.new-start.result ≡ n = c.new-start.ensures ∙ c.bounds-start.ensures.starts in
+    let count = c.peak_count-count.ensures ∙ ap (λ m. length (peaks shape m)) start in
+    let made = c.in_ok-bare_tree.ensures in
+    record {
+      stands = λ hash list within.
+          IfSome_then (members.told c.args.store.now) c.in_ok-head.ensures.value
+          (λ held is told.
+          stands-pruned bytes shape g.F.Family.births g.met.F.Family.numbered g.met.F.Family.peaked hash g.D.Digest.SIZE g.met.D.Digest.sized tree n list held.head told
+          (omega (arith, c.bounds-start.ensures.starts, c.bounds-start.ensures.order, c.bounds-start.ensures.limit)) within (made.start.0 ∙ start) (made.start.1 ∙ start) (made.pins.0 ∙ count)
+          (made.pins.1 ∙ c.deref.ensures.value ∙ is));
+      head = tt;
+      never = tt;
+      kept = record { start = c.head.ensures.same_start; end = c.head.ensures.same_end; told = c.head.ensures.same };
+      cause = record { later = c.head.ensures.cause.later; failed = λ fault. absurd cc };
+      start = made.start.0 ∙ start;
+      leaves = made.start.1 ∙ start;
+      long =
+          IfSome_then (members.told c.args.store.now) c.in_ok-head.ensures.value
+          (λ held is. sym (c.len.ensures ∙ c.in_ok-head.head.ok.0 ∙ ap length is) ∙ c.is_long.ensures.0 c.if-not-is_long.false ∙ ap₂ (λ n size. n * size) count c.SIZE.ensures);
+    }
