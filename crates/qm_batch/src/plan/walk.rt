@@ -10,8 +10,7 @@ ghost use Rattle.qm_model.specs.Live.{floor};
 ghost use Rattle.qm_model.specs.Operations as model;
 ghost use Rattle.qm_model.specs.Operations.{update};
 ghost use Rattle.qm_model.specs.Walk as walks;
-ghost use Rattle.qm_bits.specs.Candidates.{candidates};
-ghost use Rattle.qm_step.specs.Bases.{base_view, IsBase};
+ghost use Rattle.qm_step.specs.Bases.{base_view};
 ghost use Rattle.qm_step.specs.Changes.{said_by, stands_at, update_at};
 ghost use Rattle.qm_step.specs.Going.{decided_for, value_for, AreDead, AreDeadBetween, AreDecided, IsGoing, IsSpaced};
 ghost use Rattle.qm_step.specs.Layers.{LeadOver};
@@ -32,7 +31,7 @@ use qm_step::decided::Decided;
 use qm_step::found::update_in;
 use qm_step::touch::{Touch, replaced_by};
 use qm_step::{Base, Layer};
-use std::alloc::{AllocError, Global};
+use std::alloc::Global;
 use std::collections::BTreeSet;
 use std::rc::Rc;
 
