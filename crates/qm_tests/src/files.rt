@@ -173,8 +173,8 @@ fn is_answered<S: Store>(store: &mut S, step: &str) -> Result<bool, StoreError> 
     })
 }
 
-// Changes a store that tells nothing as a step says, at a location within its bounds, and answers true.
-fn change<S: Store>(store: &mut S, alloc: Global, step: &str) -> Result<bool, StoreError>
+// Changes a store that tells nothing as a step says, at a location within its bounds.
+fn change<S: Store>(store: &mut S, alloc: Global, step: &str) -> Result<(), StoreError>
     requires { S.told store.old ≡ None }
 {
     let (call, first, second) = parts(step);
@@ -190,8 +190,7 @@ fn change<S: Store>(store: &mut S, alloc: Global, step: &str) -> Result<bool, St
         "restart" => store.restart(to),
         "destroy" => store.destroy(),
         _ => Err(StoreError::Failed),
-    }?;
-    Ok(true)
+    }
 }
 
 // Whether a file has these bytes, or what a step says is done to it or to a folder.
@@ -221,7 +220,7 @@ fn is_so<R: Files + Alloc<A = Global> + Clone + Drop>(
         "open" => *store = FileStore::open(rt.clone()?, rt.alloc(), FOLDER)?,
         "file" => return file(rt, given),
         "ask" => return is_answered(store, given),
-        _ => return change(store, rt.alloc(), step),
+        _ => change(store, rt.alloc(), step)?,
     }
     Ok(true)
 }

@@ -42,14 +42,15 @@ impl Bed for Fixed {
 // The first bytes of the root of a database with one write and an entry of metadata.
 const BEGIN: [u8; 8] = [0x30, 0x7d, 0x67, 0x34, 0x8f, 0x10, 0x75, 0x9f];
 
-// The text of a database, whether its root is that one, how many operations from location 1 on are proved, and whether its key is
-// there in a batch of the last block up to which its value is valid, and in one of the next.
+// The text of a database, and whether its root is that one, an operation is proved, and its key is there in a batch of the last block
+// up to which its value is valid, and in none of the next.
 fn text_of<B: Bed>(alloc: Global, db: &mut Database<B>) -> Result<String, Error> {
     let proved = db.proof(alloc, Location::new(1), NonZeroU64::MIN)?.1.len();
-    let is_rooted = db.root().bytes().starts_with(&BEGIN);
-    let is_valid = is_kept::<B>(alloc, db, 10)?;
-    let is_late = is_kept::<B>(alloc, db, 11)?;
-    Ok(format!(in alloc; "{db:?} {is_rooted} {proved} {is_valid} {is_late}")?)
+    let is_right = proved == 1
+        && db.root().bytes().starts_with(&BEGIN)
+        && is_kept::<B>(alloc, db, 10)?
+        && !is_kept::<B>(alloc, db, 11)?;
+    Ok(format!(in alloc; "{db:?} {is_right}")?)
 }
 
 fn told<B: Bed>(alloc: Global) -> Result<String, Error> {
@@ -60,9 +61,6 @@ fn told<B: Bed>(alloc: Global) -> Result<String, Error> {
 #[test]
 fn a_database_is_told(rt: HostRuntime) -> Result<(), Fail> {
     let text = told::<Fixed>(rt.alloc())?;
-    assert_eq!(rt;
-        text.as_str(),
-        "Db { start: 0, size: 4, floor: 2 } true 1 true false"
-    );
+    assert_eq!(rt; text.as_str(), "Db { start: 0, size: 4, floor: 2 } true");
     Ok(())
 }
