@@ -1,5 +1,5 @@
 -- What the checks of head, items and links come to.
-use Rattle.std.proofs.Common.{◌≡◌, ◌≢◌, ◌⊎◌, inl, inr, ◌*◌, Bool, true, false, [], ◌∷◌, eq-eqb, ne_eqb, ◌∙◌, ◌-◌, ◌≤◌, ℕ, List, length, arith, refl, ap, ap₂, sym, subst, Option, Some, None}
+use Rattle.std.proofs.Common.{◌≡◌, ◌≢◌, ◌⊎◌, inl, inr, ◌*◌, Bool, true, false, [], ◌∷◌, eq-eqb, ne_eqb, ◌∙◌, ◌≤◌, ℕ, List, length, arith, refl, ap, ap₂, sym, subst, Option, Some, None}
 use native.Mathlib.Nat.{mul_comm}
 use Rattle.std.specs.Prelude.{not, ◌==◌, is_none, IfSome, OnOk, Result, Ok, Err}
 use Rattle.std.specs.List.{list_any}
@@ -17,7 +17,6 @@ use Rattle.qm_store.specs.Refusals.{IsDue}
 use Rattle.qm_open.specs.Selecting.{any_layout, any_found, content_refusal}
 use Rattle.qm_build.specs.Reads.{items_within, IsRead, IsReadError}
 use Rattle.qm_model.specs.Operations.{Bytes, Operation}
-use Rattle.qm_model.specs.Live.{floor}
 use Rattle.qm_build.proofs.Reading.{operations-then, caused}
 use Rattle.qm_bits.specs.Bitmaps.{Bitmap}
 use Rattle.qm_store.specs.declared.Store as store

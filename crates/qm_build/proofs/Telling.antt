@@ -13,7 +13,7 @@ use Rattle.qm_model.specs.Forms.{Form, IsOf, IsSpelling, spelling}
 use Rattle.qm_model.specs.Operations.{Bytes, Operation, update, delete, commit, fresh}
 use Rattle.qm_model.specs.Proofs.{proof_of, ops_proof}
 use Rattle.qm_model.specs.Refusals.{commit_floor, floor_before, item_refusal, last_refusal, end_refusal, proof_refusal}
-use Rattle.qm_model.specs.Trees.{Shape, Node, leaf, end_of, peaks, row_from, digest_of, leaf_digest, root_of, root, ops_root, inactive_peaks}
+use Rattle.qm_model.specs.Trees.{Shape, Node, leaf, end_of, peaks, row_from, digest_of, leaf_digest, root_of, ops_root, inactive_peaks}
 use Rattle.qm_model.proofs.Forms.{IsSpelling-once}
 use Rattle.qm_model.specs.Families.{Births, IsFamily, HasPeaks, over}
 use Rattle.qm_base.specs.declared.error.Corrupt.TheVariants as corrupt

@@ -576,7 +576,7 @@ fn forget<F: Family, D: Digest>(
     alloc: Global,
     tree: &mut Mem<F, D>,
     to: u64,
-) -> Result<Vec<u8>, Error>
+) -> Result<Vec<u8>, AllocError>
     requires start { tree.old.start ≤ to }
     requires leaves { to ≤ tree.old.leaves }
     ensures start { OnOk result (tree.new.start ≡ to) }
@@ -588,7 +588,7 @@ fn forget<F: Family, D: Digest>(
 {
     let (start, _) = tree.bounds();
     prove!(start.get() <= to);
-    let pins = shown::kept_peaks(alloc, tree, to)?;
+    let pins = shown::kept_peaks(alloc, tree, to).map_err(|_| AllocError)?;
     let head = joined(alloc, &pins)?;
     tree.prune(alloc, Location::new(to))?;
     Ok(head)

@@ -1,4 +1,4 @@
-use Rattle.std.proofs.Common.{◌≡◌, ◌≤◌, ◌<◌, ◌∙◌, ◌-◌, ◌++◌, ap, sym, subst, arith, drop, false, true, replicate, inl, refl, ℕ, IfSome}
+use Rattle.std.proofs.Common.{◌≡◌, ◌≤◌, ◌<◌, ◌∙◌, ◌-◌, ◌++◌, ap, sym, subst, arith, drop, false, replicate, inl, refl, ℕ, IfSome}
 use Rattle.std.specs.Prelude.{All, is_none}
 use Rattle.std.specs.List.{list_any}
 use Rattle.std.proofs.lemmas.Option.{IfSome_then}

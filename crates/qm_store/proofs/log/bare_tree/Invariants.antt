@@ -1,4 +1,4 @@
-use Rattle.std.proofs.Common.{◌≡◌, ◌≤◌, ◌+◌, ◌*◌, ◌++◌, length, map}
+use Rattle.std.proofs.Common.{◌≡◌, ◌+◌, ◌*◌, ◌++◌, length, map}
 use Rattle.std.specs.List.{concat}
 use Rattle.std.specs.Vec.{vec_capacity}
 use Rattle.qm_store.proofs.log.bare_tree.Given as goal
