@@ -68,10 +68,6 @@ returns-in_err-activity g c =
       error = inl (inl refl);
     })
 
-pub last_metadata-requires : goal.last_metadata-requires
-last_metadata-requires g c =
-    subst (λ l. l.tree.start < l.tree.leaves) (sym c.root_of.ensures.same) (subst (λ t. t.start < t.leaves) (sym c.build_snapshot.ensures.read.tree) (omega (arith, c.requires.kept, c.requires.below)))
-
 pub returns-in_err-metadata : goal.returns-in_err-metadata
 returns-in_err-metadata g c =
     let members = g.C.Store in
