@@ -22,8 +22,10 @@ impl<
         batch: Self::Batch,
         keys: &[ByteKey],
     ) -> Result<(Vec<Option<ByteValue>>, Self::Staged), Error> {
-        let keys = twin_keys(alloc, keys)?;
-        batch.stage(alloc, keys, &mut self.db)
+        match twin_keys(alloc, keys) {
+            Ok(keys) => batch.stage(alloc, keys, &mut self.db),
+            Err(_) => Err(Error::Memory),
+        }
     }
 
     fn expand(
@@ -32,8 +34,10 @@ impl<
         batch: Self::Staged,
         keys: &[ByteKey],
     ) -> Result<(Range<usize>, Vec<Option<ByteValue>>, Self::Staged), Error> {
-        let keys = twin_keys(alloc, keys)?;
-        batch.expand(alloc, keys, &mut self.db)
+        match twin_keys(alloc, keys) {
+            Ok(keys) => batch.expand(alloc, keys, &mut self.db),
+            Err(_) => Err(Error::Memory),
+        }
     }
 
     fn staged_count(batch: &Self::Staged) -> usize {

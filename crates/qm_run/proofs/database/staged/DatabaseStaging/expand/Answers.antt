@@ -1,37 +1,34 @@
 use Rattle.qm_model.specs.Mmr.{mmr}
-use Rattle.std.proofs.Common.{◌≡◌, ◌∙◌, sym, map, option_map}
+use Rattle.std.proofs.Common.{◌≡◌, ◌∙◌, sym, map, option_map, refl, Err}
 use Rattle.qm_model.proofs.Results.{err-both, err-then, ok-then}
 use Rattle.qm_model.specs.Writes.{read_through}
 use Rattle.qm_any.specs.Databases.{IsDatabase}
 use Rattle.qm_any.proofs.Reading.{left-database}
 use Rattle.qm_chain.specs.Bounds.{knows}
-use Rattle.qm_base.specs.declared.error.Error.TheVariants.{Journal}
+use Rattle.qm_base.specs.declared.error.Error.TheVariants.{Journal, Memory}
 use Rattle.qm_base.specs.declared.error.JournalError.TheVariants.{Store}
 use Rattle.qm_run.specs.Databases.{hashing, layout}
-use Rattle.std.proofs.lemmas.Result.{IfOk-from_err, err_from_is_err_and}
-use Rattle.qm_run.proofs.Engines.{err-of, left-store, knows-readable, kept-items, read-failure, rose-read, never-read, more-staged, err-memory, memory-failure, memory-not_stale, unread-memory}
+use Rattle.qm_run.proofs.Engines.{err-of, left-store, knows-readable, kept-items, read-failure, rose-read, never-read, more-staged, memory-failure, memory-not_stale, unread-memory}
 use Rattle.qm_run.proofs.database.staged.DatabaseStaging.expand.Goals as goal
 
-pub returns-in_err-keys : goal.returns-in_err-keys
-returns-in_err-keys g c =
-    let exit = err_from_is_err_and c.from_residual.result c.from_residual.ensures.1 in
-    record {
-      readable = IfOk-from_err c.from_residual.result _ c.from_residual.ensures.0;
-      range = IfOk-from_err c.from_residual.result _ c.from_residual.ensures.0;
-      values = IfOk-from_err c.from_residual.result _ c.from_residual.ensures.0;
-      failure = err-memory c.from_residual.result exit.0 _ exit.1 exit.2 (λ list chain above ws keys is batch. memory-failure _ _ _ _ _);
-      reads = unread-memory _ g.C.Store c.args.self.now c.from_residual.result exit.0 exit.1 exit.2;
-      never = err-memory c.from_residual.result exit.0 _ exit.1 exit.2 memory-not_stale;
-    }
+pub returns-in-Err : goal.returns-in-Err
+returns-in-Err g c = record {
+  readable = tt;
+  range = tt;
+  values = tt;
+  failure = λ list chain above ws keys is batch. memory-failure _ _ _ _ _;
+  reads = unread-memory _ g.C.Store c.args.self.now (Err Memory) Memory refl refl;
+  never = memory-not_stale;
+}
 
-pub returns : goal.returns
-returns g c = record {
+pub returns-in-Ok : goal.returns-in-Ok
+returns-in-Ok g c = record {
   readable =
       ok-then c.expand.result c.expand.ensures.readable
       (λ values can list chain above ws keys is batch. sym (knows-readable mmr g.U.Update.form g.met.U.Kind.lengths list above chain.base c.args.self.now.db.commitment c.args.batch.batch.parent.bounds is.commitment batch.0.begun.parent.bounds) ∙ can);
-  range = rw (sym c.in_ok-keys.ensures) c.expand.ensures.range;
+  range = rw (sym c.in-Ok.ensures) c.expand.ensures.range;
   values =
-      rw (sym c.in_ok-keys.ensures) (more-staged mmr g.U.Update.form c.expand.result (IsDatabase g.C.Store (layout mmr g.U.Update.form g.I.Unordered.index_key) c.args.self.now.db) c.args.batch (map (λ k. k) c.in_ok-keys.keys.items) (λ v base ws. map (option_map (λ x. x)) v.items ≡ map (λ k. read_through base ws k) c.in_ok-keys.keys.items)
+      rw (sym c.in-Ok.ensures) (more-staged mmr g.U.Update.form c.expand.result (IsDatabase g.C.Store (layout mmr g.U.Update.form g.I.Unordered.index_key) c.args.self.now.db) c.args.batch (map (λ k. k) c.in-Ok.keys.items) (λ v base ws. map (option_map (λ x. x)) v.items ≡ map (λ k. read_through base ws k) c.in-Ok.keys.items)
       c.expand.ensures.values c.expand.ensures.staged c.expand.ensures.batch c.expand.ensures.keys);
   failure =
       err-both c.expand.result c.expand.ensures.error (kept-items g.C.Store (layout mmr g.U.Update.form g.I.Unordered.index_key) c.args.self.now.db c.expand.result c.expand.ensures.whole)
