@@ -179,34 +179,3 @@ served-bad (inr (inl e)) n none write store some = inl e
 served-bad (inr (inr (inl e))) n none write store some = absurd (write e)
 served-bad (inr (inr (inr (inl e)))) n none write store some = inr e
 served-bad (inr (inr (inr (inr e)))) n none write store some = absurd (store e)
-
--- the status of an ending, when all is written
-pub ended-served : {s : ℕ} (ending : Ending) → s ≡ tail_status ending → Served s
-ended-served Done is = inl is
-ended-served BadLine is = inr (inl is)
-ended-served Memory is = inr (inr (inr (inl is)))
-ended-served StoreFault is = inr (inr (inr (inr is)))
-
-pub ended-not_write : {s : ℕ} (ending : Ending) → s ≡ tail_status ending → s ≡ 4 → ⊥
-ended-not_write Done is e = differ 0 4 refl (sym is ∙ e)
-ended-not_write BadLine is e = differ 2 4 refl (sym is ∙ e)
-ended-not_write Memory is e = differ 5 4 refl (sym is ∙ e)
-ended-not_write StoreFault is e = differ 6 4 refl (sym is ∙ e)
-
-pub ended-fault : {s : ℕ} (ending : Ending) → s ≡ tail_status ending → s ≡ 6 → ending ≡ StoreFault
-ended-fault Done is e = absurd (differ 0 6 refl (sym is ∙ e))
-ended-fault BadLine is e = absurd (differ 2 6 refl (sym is ∙ e))
-ended-fault Memory is e = absurd (differ 5 6 refl (sym is ∙ e))
-ended-fault StoreFault is e = refl
-
-pub ended-bad : {s : ℕ} (ending : Ending) → s ≡ tail_status ending → s ≡ 2 → ending ≡ BadLine
-ended-bad Done is e = absurd (differ 0 2 refl (sym is ∙ e))
-ended-bad BadLine is e = refl
-ended-bad Memory is e = absurd (differ 5 2 refl (sym is ∙ e))
-ended-bad StoreFault is e = absurd (differ 6 2 refl (sym is ∙ e))
-
-pub ended-done : {s : ℕ} (ending : Ending) → s ≡ tail_status ending → s ≡ 0 → ending ≡ Done
-ended-done Done is e = refl
-ended-done BadLine is e = absurd (differ 2 0 refl (sym is ∙ e))
-ended-done Memory is e = absurd (differ 5 0 refl (sym is ∙ e))
-ended-done StoreFault is e = absurd (differ 6 0 refl (sym is ∙ e))

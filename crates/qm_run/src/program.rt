@@ -11,7 +11,7 @@ ghost use Rattle.qm_model.specs.StoreModel.{Turns};
 ghost use Rattle.qm_engine.specs.Stores.{IsBeside};
 ghost use Rattle.qm_run.specs.Schemes.{scheme};
 ghost use Rattle.qm_run.specs.Program.{are_words, kind_word, kind_of_words, machine_of, scheme_of, Says, bad_text};
-ghost use Rattle.qm_run.specs.Endings.{tail_text, tail_status, IsAnswering};
+ghost use Rattle.qm_run.specs.Endings.{tail_text, tail_status};
 
 use crate::database::{Database, Kind, Link, Pair};
 use qm_base::{ByteKey, ByteValue, Gate, Location};
@@ -111,34 +111,39 @@ fn with_tail(
     Ok(text)
 }
 
-// Answers the lines of an input by databases of this kind.
-fn answered<
+// Answers the lines of an input by databases of this kind, and writes the text.
+fn serve<
     C: Store + Drop,
     I: Factory<Value = Location<mmr::Family>, Translator = FourCap> + Drop,
     U: Kind<I, Key = ByteKey, Value = ByteValue>,
+    K: Sink,
     G: Gate,
->(alloc: Global, input: &[u8], store: C, gate: &G) -> Answered<C>
-    ensures answers { IsAnswering C.Store (scheme trees.mmr U.form) input.now store result }
-    ensures bound { result.answered ≤ length input.now }
+>(alloc: Global, input: &[u8], store: C, sink: &mut K, gate: &G) -> (u8, C)
+    ensures headline { IfSome (C.told store) (λ stored. IfSome (K.text sink.old) (λ before.
+        (written : Bytes) × (K.text sink.new ≡ Some (before ++ written))
+        × Says (scheme trees.mmr U.form) stored input.now result.0 (Rose (C.faults store) (C.faults result.1)) written (C.told result.1))) }
+    ensures beside { (choices : List ℕ) × Turns (C.told store) (C.told result.1) (IsBeside choices) }
+    ensures write { result.0 ≡ 4 → Rose (K.faults sink.old) (K.faults sink.new) }
+    ensures store { result.0 ≡ 6 → Rose (C.faults store) (C.faults result.1) }
+    ensures codes { (result.0 ≡ 0) ⊎ ((result.0 ≡ 2) ⊎ ((result.0 ≡ 4) ⊎ ((result.0 ≡ 5) ⊎ (result.0 ≡ 6)))) }
+    ensures bad { result.0 ≡ 2 → IsSome (bad_in input.now) }
+    ensures good { result.0 ≡ 0 → bad_in input.now ≡ None }
+    ensures later { (K.faults sink.old ≤ K.faults sink.new) × (C.faults store ≤ C.faults result.1) }
 {
-    answer_lines::<Database<C, I, U>, C, G>(alloc, store, (), input, gate)
-}
-
-// Answers the lines of an input by ordered databases or by unordered ones.
-fn answers<C: Store + Drop, G: Gate>(
-    is_ordered: bool,
-    alloc: Global,
-    input: &[u8],
-    store: C,
-    gate: &G,
-) -> Answered<C>
-    ensures answers { IsAnswering C.Store (machine_of is_ordered) input.now store result }
-    ensures bound { result.answered ≤ length input.now }
-{
-    if is_ordered {
-        answered::<C, OrderedPlaces, Link, G>(alloc, input, store, gate)
-    } else {
-        answered::<C, Places, Pair, G>(alloc, input, store, gate)
+    let Answered {
+        text,
+        answered,
+        ending,
+        store,
+    } = answer_lines::<Database<C, I, U>, C, G>(alloc, store, (), input, gate);
+    let text = match with_tail(alloc, text, ending, answered) {
+        Ok(text) => text,
+        Err(_) => return (5, store),
+    };
+    match write_all(sink, &text) {
+        Ok(()) => (status_of(ending), store),
+        Err(SinkError::Failed) => (4, store),
+        Err(SinkError::Memory) => (5, store),
     }
 }
 
@@ -162,20 +167,10 @@ fn run<C: Store + Drop, K: Sink, G: Gate>(
     ensures good { result.0 ≡ 0 → bad_in input.now ≡ None }
     ensures later { (K.faults sink.old ≤ K.faults sink.new) × (C.faults store ≤ C.faults result.1) }
 {
-    let Answered {
-        text,
-        answered,
-        ending,
-        store,
-    } = answers(is_ordered, alloc, input, store, gate);
-    let text = match with_tail(alloc, text, ending, answered) {
-        Ok(text) => text,
-        Err(_) => return (5, store),
-    };
-    match write_all(sink, &text) {
-        Ok(()) => (status_of(ending), store),
-        Err(SinkError::Failed) => (4, store),
-        Err(SinkError::Memory) => (5, store),
+    if is_ordered {
+        serve::<C, OrderedPlaces, Link, K, G>(alloc, input, store, sink, gate)
+    } else {
+        serve::<C, Places, Pair, K, G>(alloc, input, store, sink, gate)
     }
 }
 
