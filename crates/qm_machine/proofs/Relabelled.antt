@@ -1,5 +1,5 @@
 -- The same commands, with policies under another name.
-use Rattle.std.specs.Prelude.{length, ◌==◌}
+use Rattle.std.specs.Prelude.{length, ◌==◌, ◌&&◌}
 use Rattle.std.proofs.Common.{◌≡◌, ℕ, List, cond, Option, Some, None, refl, ap}
 use Rattle.qm_model.specs.Operations.{Bytes, Operation}
 use Rattle.qm_model.specs.Walk.{Rules}
@@ -11,7 +11,7 @@ use Rattle.qm_model.specs.Refused.{StaleBatch, SlotCount}
 use Rattle.qm_model.specs.Refusals.{tip_refusal}
 use Rattle.qm_model.specs.Step.{Kind, step}
 use Rattle.qm_machine.specs.Lines.{Line, Open, Batch, Child, Tip, Put, Del, Merkleize, Stage, Expand, Resolve, Apply, Ops, Get, Many, Next, Prev, Span, All, Range, Keys, Info, BatchInfo, Root, BatchRoot, BatchProof, Meta, Prove, Pins, Current, Prune, Commit, Sync, Close, Destroy, Crash}
-use Rattle.qm_machine.specs.Machine.{Scheme, kind_of, choices_after, State, Slot, gone, writing, staged, merkleized, slot_at, with_slot, with_database, refuse, merkleize_tip, merkleize_writes, merkleize_in, merkleize, resolve_in, resolve, turn}
+use Rattle.qm_machine.specs.Machine.{Scheme, kind_of, takes, choices_after, State, Slot, gone, writing, staged, merkleized, slot_at, with_slot, with_database, refuse, merkleize_tip, merkleize_writes, merkleize_in, merkleize, resolve_in, resolve, turn}
 
 -- a line with its policy under this name
 abbrev pub relabelled : {P Q : Type 0} → (P → Q) → Line P → Line Q
@@ -94,7 +94,7 @@ module _ {P Q : Type 0} (f : P → Q) (a : Rules P) (b : Rules Q)
     (same : (kind : Kind) (ops : List Operation) (ws : List Write) (p : P) (meta : Option Bytes) → step kind a ops ws p meta ≡ step kind b ops ws (f p) meta) (m : Scheme) where
   same_writes : (s : State) (h : ℕ) (policy : P) (meta : Option Bytes) (list : List Operation) (chain : Chain) (ws : List Write) → merkleize_writes m a s h policy meta list chain ws ≡ merkleize_writes m b s h (f policy) meta list chain ws
   same_writes s h policy meta list chain ws =
-      ap (λ tip. cond (fits m.root (commitment m.root list) chain) (merkleize_tip s h chain tip (tip_refusal m.form chain tip)) (refuse (with_slot s h gone) StaleBatch)) (same (kind_of m) chain.base ws policy meta)
+      ap (λ tip. cond (takes m.grafts s.opened chain.instance && fits m.root (commitment m.root list) chain) (merkleize_tip s h chain tip (tip_refusal m.form chain tip)) (refuse (with_slot s h gone) StaleBatch)) (same (kind_of m) chain.base ws policy meta)
 
   same_in : (s : State) (h : ℕ) (policy : P) (meta : Option Bytes) (list : List Operation) (slot : Slot) → merkleize_in m a s h policy meta list slot ≡ merkleize_in m b s h (f policy) meta list slot
   same_in s h policy meta list (writing chain above ws) = same_writes s h policy meta list chain ws

@@ -1,6 +1,8 @@
 -- Runs of the machine: one command more, and lists that a run has had stay so.
 use Rattle.std.proofs.Common.{◌≡◌, ℕ, Bool, true, false, cond, List, [], ◌∷◌, ◌++◌, Option, Some, None, refl, ap}
-use Rattle.std.specs.Prelude.{Contains, length, nat_lt, ◌==◌}
+use Rattle.std.specs.Prelude.{Contains, length, nat_lt, ◌==◌, ◌&&◌}
+use Rattle.qm_model.specs.Checks.{Checks}
+use Rattle.qm_model.specs.Live.{Live, live, live_of}
 use Rattle.qm_model.specs.Operations.{Bytes, Operation}
 use Rattle.qm_model.specs.Opening.{Opening, refuses, opens, opening, opened_list}
 use Rattle.qm_model.specs.Walk.{Rules}
@@ -8,12 +10,13 @@ use Rattle.qm_model.specs.Writes.{Write}
 use Rattle.qm_model.specs.Slots.{slotted}
 use Rattle.qm_model.specs.Slots as slots
 use Rattle.qm_model.specs.Batches.{Chain, Apart, commitment, fits, readable}
-use Rattle.qm_machine.specs.Lines.{Line, Open, Batch, Child, Tip, Put, Del, Merkleize, Stage, Expand, Resolve, Apply, Ops, Get, Many, Next, Prev, Span, All, Range, Keys, Info, BatchInfo, Root, BatchRoot, BatchProof, Meta, Prove, Pins, Current, Prune, Commit, Sync, Close, Destroy, Crash, Answer}
+use Rattle.qm_machine.specs.Lines.{Line, Open, Batch, Child, Tip, Put, Del, Merkleize, Stage, Expand, Resolve, Apply, Ops, Get, Many, Next, Prev, Span, All, Range, Keys, Info, BatchInfo, Root, BatchRoot, BatchProof, Meta, Prove, Pins, Question, Held, Absent, Witness, Current, Prune, Commit, Sync, Close, Destroy, Crash, Answer}
+use Rattle.qm_machine.specs.Lines as lines
 use Rattle.qm_model.specs.Refused.{Refused}
-use Rattle.qm_machine.specs.Machine.{Scheme, State, Slot, choices_after, gone, writing, staged, merkleized, turn, answers, state_after, slot_at, start_child, put_in, list_operations, with_database, opened_as, found_in, layout_of, closed, unless, merkleize_tip, merkleize_writes, merkleize_in, resolve_in, apply_in, if_readable, if_staged, stage_in, expand_in, read_in, read, if_ordered, beside_in, beside_of, info_in, root_in, proof_in, prune_in}
+use Rattle.qm_machine.specs.Machine.{Scheme, State, Slot, choices_after, gone, writing, staged, merkleized, turn, answers, state_after, slot_at, start_child, put_in, list_operations, with_database, opened_as, found_in, layout_of, closed, unless, merkleize_tip, merkleize_writes, merkleize_in, resolve_in, apply_in, if_readable, if_staged, stage_in, expand_in, read_in, read, if_ordered, beside_in, beside_of, info_in, root_in, proof_in, prune_in, Grafts, takes, if_any, if_current, if_absences, held_at, absent_at, answered}
 use Rattle.qm_machine.specs.Held.{pins_lacked, proof_lacked}
 use Rattle.qm_model.specs.Ranges.{key_above, key_below}
-use Rattle.qm_model.specs.Refusals.{tip_refusal, proof_refusal}
+use Rattle.qm_model.specs.Refusals.{tip_refusal, proof_refusal, range_refusal}
 use Rattle.qm_model.proofs.Chains.{Contains-more}
 
 pub state_after-push : (m : Scheme) {P : Type 0} (rules : Rules P) (s : State) (lines : List (Line P)) (line : Line P) → state_after m rules s (lines ++ line ∷ []) ≡ (turn m rules (state_after m rules s lines) line).1
@@ -61,6 +64,32 @@ child_keeps s h keep (merkleized chain tip) = (λ x a. a, refl)
 unless_keeps : (s : State) (due : Option Refused) (answer : Answer) → Keeps s (unless s due answer)
 unless_keeps s None answer = (λ x a. a, refl)
 unless_keeps s (Some r) answer = (λ x a. a, refl)
+
+any_keeps : (s : State) (grafts : Option Grafts) (offered : Answer × State) → Keeps s offered → Keeps s (if_any s grafts offered)
+any_keeps s None offered keeps = keeps
+any_keeps s (Some g) offered keeps = (λ x a. a, refl)
+
+current_keeps : (s : State) (grafts : Option Grafts) (offered : Grafts → Answer × State) → ((g : Grafts) → Keeps s (offered g)) → Keeps s (if_current s grafts offered)
+current_keeps s None offered keeps = (λ x a. a, refl)
+current_keeps s (Some g) offered keeps = keeps g
+
+absences_keep : (s : State) (check : Option (List Operation → Bytes → ℕ × Bool)) (offered : (List Operation → Bytes → ℕ × Bool) → Answer × State) → ((c : List Operation → Bytes → ℕ × Bool) → Keeps s (offered c)) → Keeps s (if_absences s check offered)
+absences_keep s None offered keeps = (λ x a. a, refl)
+absences_keep s (Some c) offered keeps = keeps c
+
+held_keeps : (s : State) (checks : Checks) (list : List Operation) (found : Option Live) → Keeps s (held_at s checks list found)
+held_keeps s checks list None = (λ x a. a, refl)
+held_keeps s checks list (Some e) = (λ x a. a, refl)
+
+absent_keeps : (s : State) (proved : ℕ × Bool) (found : Option Live) → Keeps s (absent_at s proved found)
+absent_keeps s proved None = (λ x a. a, refl)
+absent_keeps s proved (Some e) = (λ x a. a, refl)
+
+answered_keeps : (s : State) (g : Grafts) (question : Question) → Keeps s (answered s g question)
+answered_keeps s g (Held key) = with_list s s.database _ (λ list. held_keeps s g.checks list (live_of (live list) key))
+answered_keeps s g (Absent key) = absences_keep s g.checks.absent _ (λ check. with_list s s.database _ (λ list. absent_keeps s (check list key) (live_of (live list) key)))
+answered_keeps s g (lines.Chunks start max) = with_list s s.database _ (λ list. unless_keeps s (range_refusal g.chunks.height s.log.chunks s.log.start list start) _)
+answered_keeps s g Witness = with_list s s.database _ (λ list. (λ x a. a, refl))
 
 tip_keeps : (s : State) (h : ℕ) (chain : Chain) (tip : List Operation) (due : Option Refused) → Keeps s (merkleize_tip s h chain tip due)
 tip_keeps s h chain tip None = (λ x a. Contains-more s.had tip x a, refl)
@@ -137,7 +166,7 @@ module _ (m : Scheme) where
 
 module _ (m : Scheme) {P : Type 0} (rules : Rules P) where
   writes_keep : (s : State) (h : ℕ) (policy : P) (meta : Option Bytes) (list : List Operation) (chain : Chain) (ws : List Write) → Keeps s (merkleize_writes m rules s h policy meta list chain ws)
-  writes_keep s h policy meta list chain ws = either s (fits m.root (commitment m.root list) chain) _ _ (tip_keeps s h chain _ (tip_refusal m.form chain _)) (λ x a. a, refl)
+  writes_keep s h policy meta list chain ws = either s (takes m.grafts s.opened chain.instance && fits m.root (commitment m.root list) chain) _ _ (tip_keeps s h chain _ (tip_refusal m.form chain _)) (λ x a. a, refl)
 
   resolve_keeps : (s : State) (h : ℕ) (policy : P) (meta : Option Bytes) (given : List slots.Slot) (others : List Write) (list : List Operation) (slot : Slot) → Keeps s (resolve_in m rules s h policy meta given others list slot)
   resolve_keeps s h policy meta given others list gone = (λ x a. a, refl)
@@ -180,11 +209,11 @@ module _ (m : Scheme) {P : Type 0} (rules : Rules P) where
   turn_keeps s (BatchInfo h) = info_keeps m s h (slot_at s.table h)
   turn_keeps s Root = with_list s s.database _ (λ list. (λ x a. a, refl))
   turn_keeps s (BatchRoot h) = root_keeps m s h (slot_at s.table h)
-  turn_keeps s (BatchProof h) = with_list s s.database _ (λ list. proof_keeps m s h list (slot_at s.table h))
+  turn_keeps s (BatchProof h) = any_keeps s m.grafts _ (with_list s s.database _ (λ list. proof_keeps m s h list (slot_at s.table h)))
   turn_keeps s Meta = with_list s s.database _ (λ list. (λ x a. a, refl))
   turn_keeps s (Prove size start max) = with_list s s.database _ (λ list. unless_keeps s (proof_refusal s.log.start list size start) _)
   turn_keeps s (Pins n) = with_list s s.database _ (λ list. unless_keeps s (pins_lacked m.shape s.log.start list n) _)
-  turn_keeps s (Current question) = (λ x a. a, refl)
+  turn_keeps s (Current question) = current_keeps s m.grafts _ (λ g. answered_keeps s g question)
   turn_keeps s (Prune to) = with_list s s.database _ (λ list. prune_keeps m s to list)
   turn_keeps s Commit = with_list s s.database _ (λ list. (λ x a. a, refl))
   turn_keeps s Sync = with_list s s.database _ (λ list. (λ x a. a, refl))

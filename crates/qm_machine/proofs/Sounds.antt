@@ -1,14 +1,15 @@
 -- Every command keeps a run over an own store sound.
-use Rattle.std.proofs.Common.{◌≡◌, ◌⊎◌, inl, inr, ℕ, suc, zero, ◌+◌, ◌≤◌, Bool, true, false, cond, List, [], ◌∷◌, ◌++◌, length, take, drop, get_or, set, Option, Some, None, refl, sym, ap, ◌∙◌, subst, arith, le_refl, length-take-le, append_assoc}
-use Rattle.std.specs.Prelude.{Contains, All, ◌==◌, min, max, nat_lt, ◌^◌, map, drop}
+use Rattle.std.proofs.Common.{◌≡◌, ◌⊎◌, inl, inr, ℕ, suc, zero, ◌≤◌, Bool, true, false, cond, List, [], ◌∷◌, ◌++◌, length, take, get_or, set, Option, Some, None, refl, sym, ap, ◌∙◌, subst, arith, le_refl, le_of_eq, length-take-le, append_assoc}
+use Rattle.std.specs.Prelude.{Contains, All, IfSome, ◌==◌, ◌&&◌, ◌*◌, ◌/◌, min, max, nat_lt, ◌^◌, option_map}
 use Rattle.std.specs.Option.{option_or}
+use native.Mathlib.Nat.{zero-div}
 use Rattle.std.proofs.Math.Seq.{take-length, take-append_seam}
 use Rattle.std.proofs.Math.Nat.{le_trans}
-use Rattle.std.proofs.lemmas.Bool.{ltb-false}
-use Rattle.std.proofs.lemmas.List.{length-map, length-drop}
+use Rattle.std.proofs.lemmas.Bool.{cases_lt, ltb-false}
+use Rattle.std.proofs.lemmas.Nat.{div-add-mod'}
 use Rattle.std.proofs.lemmas.List.Elements.{All-nil}
 use Rattle.qm_model.specs.Operations.{Bytes, Operation, fresh, IsCommitEnded}
-use Rattle.qm_model.specs.Forms.{Form, IsOf, spelling}
+use Rattle.qm_model.specs.Forms.{Form, IsOf}
 use Rattle.qm_model.specs.Live.{floor}
 use Rattle.qm_model.specs.Walk.{Rules}
 use Rattle.qm_model.specs.Writes.{Write}
@@ -17,23 +18,25 @@ use Rattle.qm_model.specs.Slots as slots
 use Rattle.qm_model.specs.Ordered.{IsRing}
 use Rattle.qm_model.specs.Step.{Kind, Made, IsGood, first, next, step, ordered, unordered}
 use Rattle.qm_model.specs.Batches.{Chain, Apart, IsAmong, IsRising, Begins, commitment, fits, readable}
-use Rattle.qm_model.specs.Own.{Log, no_log, left_at, any_engine, IsKept, IsOwn, Takes, OpensParts, head_of, settled_list, ended_size, ended_part}
-use Rattle.qm_model.specs.StoreModel.{Stored, IsImage}
-use Rattle.qm_model.specs.StoreModel as stores
-use Rattle.qm_model.specs.Opening.{Opening, refuses, opens, opening, opened_list}
+use Rattle.qm_model.specs.Grafted.{boundary}
+use Rattle.qm_model.specs.Own.{Engine, Log, no_log, left_at, ArePrompt, ArePruned, IsKept, Takes, OpensParts, settled_list, ended_size, ended_part}
+use Rattle.qm_model.specs.Opening.{Chunks, Opening, refuses, opens, opening, opened_list}
 use Rattle.qm_model.specs.Ranges.{key_above, key_below}
 use Rattle.qm_model.specs.Refused.{Refused, Merkle, LocationOverflow}
-use Rattle.qm_model.specs.Refusals.{tip_refusal, proof_refusal, too_many}
+use Rattle.qm_model.specs.Refusals.{tip_refusal, proof_refusal, range_refusal, too_many}
+use Rattle.qm_model.specs.Checks.{Checks}
+use Rattle.qm_model.specs.Live.{Live, live, live_of}
 use Rattle.qm_model.proofs.Chains.{Contains-more, Contains-first, IsAmong-more, begun-among, child-among, take-least, Begins-self, Begins-length, Begins-through, begun-rising, child-rising, known-begins, on_chain-fits}
 use Rattle.qm_model.proofs.Steps as steps
 use Rattle.qm_model.proofs.OrderedSteps.{made-ordered}
 use Rattle.qm_model.proofs.Prefixes.{unordered-begins, ordered-begins}
-use Rattle.qm_model.proofs.Openings.{IsPart, ended-part, ended-whole, unordered-takes, ordered-takes, unordered-image, ordered-image}
-use Rattle.qm_machine.specs.Lines.{Line, Open, Batch, Child, Tip, Put, Del, Merkleize, Stage, Expand, Resolve, Apply, Ops, Get, Many, Next, Prev, Span, Range, Keys, Info, BatchInfo, Root, BatchRoot, BatchProof, Meta, Prove, Pins, Current, Prune, Commit, Sync, Close, Destroy, Crash, Answer}
+use Rattle.qm_model.proofs.Boundaries.{boundary-rises}
+use Rattle.qm_model.proofs.Openings.{IsPart, ended-part, ended-whole, unordered-parts, ordered-parts, unordered-left, ordered-left}
+use Rattle.qm_machine.specs.Lines.{Line, Open, Batch, Child, Tip, Put, Del, Merkleize, Stage, Expand, Resolve, Apply, Ops, Get, Many, Next, Prev, Span, Range, Keys, Info, BatchInfo, Root, BatchRoot, BatchProof, Meta, Prove, Pins, Question, Held, Absent, Witness, Current, Prune, Commit, Sync, Close, Destroy, Crash, Answer}
 use Rattle.qm_machine.specs.Lines as lines
-use Rattle.qm_machine.specs.Machine.{Scheme, State, Slot, gone, writing, staged, merkleized, turn, slot_at, with_slot, initial, started, start_child, put_in, list_operations, with_database, closed, settled, commit, restarted, opened_as, kind_of, engine_of, layout_of, found_in, unless, merkleize_tip, merkleize_writes, merkleize_in, resolve_in, apply_in, if_readable, if_staged, stage_in, expand_in, read_in, read, if_ordered, beside_in, beside_of, info_in, root_in, proof_in, pruned, prune_in}
+use Rattle.qm_machine.specs.Machine.{Scheme, State, Slot, gone, writing, staged, merkleized, turn, slot_at, with_slot, initial, started, start_child, put_in, list_operations, with_database, closed, settled, commit, restarted, opened_as, Grafts, takes, chunks_of, chunks_after, if_any, if_current, if_absences, held_at, absent_at, answered, kind_of, engine_of, layout_of, found_in, unless, merkleize_tip, merkleize_writes, merkleize_in, resolve_in, apply_in, if_readable, if_staged, stage_in, expand_in, read_in, read, if_ordered, beside_in, beside_of, info_in, root_in, proof_in, pruned, prune_in}
 use Rattle.qm_machine.specs.Held.{pins_lacked, proof_lacked}
-use Rattle.qm_machine.specs.Sound.{IsSoundSlot, IsSteady, IsSound}
+use Rattle.qm_machine.specs.Sound.{HasBounds, IsSoundSlot, IsSteady, IsSound}
 
 -- Slots.
 
@@ -91,13 +94,17 @@ take-begins (suc n) [] = refl
 take-begins (suc n) (op ∷ list) = ap (λ ops. op ∷ ops) (take-begins n list)
 
 module _ (m : Scheme) {P : Type 0} (rules : Rules P) where
+  -- databases of a kind, in this layout
+  abbrev of_kind : Bool → Engine P
+  of_kind b = record { kind = cond b ordered unordered; rules = rules; hash = m.hash; layout = layout_of m }
+
   -- an opening takes up a beginning, whichever kind of database it is
-  opens-parts : OpensParts (engine_of m rules)
-  opens-parts = by m.form.ordered
+  opens-parts : ArePrompt (chunks_of m) m.shape → OpensParts (engine_of m rules)
+  opens-parts prompt = by m.form.ordered
     where
-      by : (b : Bool) → OpensParts (any_engine (cond b ordered unordered) rules m.hash m.form m.shape m.digest_size)
-      by true = ordered-takes rules m.hash m.form m.shape m.digest_size
-      by false = unordered-takes rules m.hash m.form m.shape m.digest_size
+      by : (b : Bool) → OpensParts (of_kind b)
+      by true = ordered-parts rules m.hash (layout_of m) prompt
+      by false = unordered-parts rules m.hash (layout_of m) prompt
 
   -- a commit-ended beginning of a made list is one, and its floor is not above the list's
   begins-made : (prefix ops : List Operation) → Made (kind_of m) rules ops → Begins prefix ops → IsCommitEnded prefix → Made (kind_of m) rules prefix × (floor prefix ≤ floor ops)
@@ -122,45 +129,13 @@ module _ (m : Scheme) {P : Type 0} (rules : Rules P) where
       by true e made = (made-ordered rules list made).ring
       by false e made = absurd (cc)
 
-  -- the same log but for the count of pruned chunks, at which an any database doesn't look
-  abbrev counted : ℕ → Log → Log
-  counted chunks log = record log { chunks = chunks }
-
-  kept-counted : (n : ℕ) (log : Log) → IsKept (engine_of m rules) log → IsKept (engine_of m rules) (counted n log)
-  kept-counted n log kept = record {
-    made = record { whole = kept.made.whole; made = kept.made.made; begins = kept.made.begins; of_form = kept.made.of_form };
-    start = kept.start;
-    stable = kept.stable;
-    chunks = tt;
-  }
-
-  -- a store that has this log
-  abbrev store_of : Log → Stored
-  store_of log = record { start = log.start; items = map (spelling m.form) (drop log.start log.list); head = head_of (engine_of m rules) log; metadata = []; stable = log.stable; ends = [] }
-
   -- a crash leaves a log that databases leave
   pub left-kept : (log : Log) (to : ℕ) → IsKept (engine_of m rules) log → log.stable ≤ to → to ≤ length log.list → IsKept (engine_of m rules) (left_at to log)
-  left-kept log to kept low within = kept-counted log.chunks (left_at to (counted 0 log)) (image m.form.ordered).kept
+  left-kept log to = by m.form.ordered
     where
-      plain : IsKept (engine_of m rules) (counted 0 log)
-      plain = kept-counted 0 log kept
-
-      own : IsOwn (engine_of m rules) (counted 0 log) (store_of (counted 0 log))
-      own = record { stored = record { start = refl; items = refl; head = refl; metadata = refl; stable = refl }; kept = plain }
-
-      place : to ≤ log.start + length (map (spelling m.form) (drop log.start log.list))
-      place = le_trans within (omega (arith, length-map (drop log.start log.list) (spelling m.form), length-drop log.start log.list))
-
-      at : IsImage (store_of (counted 0 log)) (stores.left_at to (store_of (counted 0 log)))
-      at = record { to = to; may = record { stable = low; within = place }; same = refl }
-
-      image : (b : Bool) → IsOwn (engine_of m rules) (left_at to (counted 0 log)) (stores.left_at to (store_of (counted 0 log)))
-      image b = by m.form.ordered own
-        where
-          by : (b : Bool) → IsOwn (any_engine (cond b ordered unordered) rules m.hash m.form m.shape m.digest_size) (counted 0 log) (store_of (counted 0 log))
-              → IsOwn (any_engine (cond b ordered unordered) rules m.hash m.form m.shape m.digest_size) (left_at to (counted 0 log)) (stores.left_at to (store_of (counted 0 log)))
-          by true is = ordered-image rules m.hash m.form m.shape m.digest_size (counted 0 log) (store_of (counted 0 log)) (stores.left_at to (store_of (counted 0 log))) is at
-          by false is = unordered-image rules m.hash m.form m.shape m.digest_size (counted 0 log) (store_of (counted 0 log)) (stores.left_at to (store_of (counted 0 log))) is at
+      by : (b : Bool) → IsKept (of_kind b) log → log.stable ≤ to → to ≤ length log.list → IsKept (of_kind b) (left_at to log)
+      by true = ordered-left rules m.hash (layout_of m) log to
+      by false = unordered-left rules m.hash (layout_of m) log to
 
   -- so does a commit
   pub settled-kept : (log : Log) → IsKept (engine_of m rules) log → IsKept (engine_of m rules) (settled log)
@@ -190,20 +165,48 @@ module _ (m : Scheme) {P : Type 0} (rules : Rules P) where
           let inside = good.floor_within in
           omega (arith, start, inside, short, length-take-le (ended_size whole) whole short, length-take-le log.stable log.list kept.stable)
 
-  -- a prune of a made list to its floor at most
-  pub pruned-kept : (log : Log) (to : ℕ) → IsKept (engine_of m rules) log → Made (kind_of m) rules log.list → to ≤ floor log.list → IsKept (engine_of m rules) (pruned to log)
-  pruned-kept log to kept made low = record {
+  -- where a list takes the place of a log's, as many chunks may be pruned, if it settles no less
+  pruned-more : (chunks : Option Chunks) (log : Log) (list : List Operation) → floor (settled_list log) ≤ floor (ended_part (take log.stable list)) → length (settled_list log) ≤ length (ended_part (take log.stable list))
+      → ArePruned (engine_of m rules) chunks log → ArePruned (engine_of m rules) chunks (record log { list = list })
+  pruned-more None log list low few is = tt
+  pruned-more (Some c) log list low few is = (is.0, le_trans is.1 (boundary-rises m.shape c.height (floor (settled_list log)) (floor (ended_part (take log.stable list))) (length (settled_list log)) (length (ended_part (take log.stable list))) low few))
+
+  -- a prune to a location of the boundary at most
+  pruned-chunks : (grafts : Option Grafts) (log : Log) (to : ℕ) → IfSome (option_map (λ (g : Grafts). g.chunks) grafts) (λ c. to ≤ boundary m.shape c.height (settled_list log))
+      → ArePruned (engine_of m rules) (option_map (λ (g : Grafts). g.chunks) grafts) log
+      → ArePruned (engine_of m rules) (option_map (λ (g : Grafts). g.chunks) grafts) (record log { start = max log.start to; chunks = chunks_after grafts log.chunks to })
+  pruned-chunks None log to low is = tt
+  pruned-chunks (Some g) log to low is = (by (max log.start to) (most log.start to), below (max log.chunks (to / 2 ^ g.chunks.height)) (most log.chunks (to / 2 ^ g.chunks.height)))
+    where
+      most : (a b : ℕ) → (max a b ≡ a) ⊎ (max a b ≡ b)
+      most a b = elim (cases_lt a b) [ inl less ↦ inr (omega (arith, less)) | inr more ↦ inl (omega (arith, more)) ]
+
+      by : (n : ℕ) → (n ≡ log.start) ⊎ (n ≡ to) → n / 2 ^ g.chunks.height ≤ max log.chunks (to / 2 ^ g.chunks.height)
+      by n (inl e) = let low = is.0 in subst (λ k. k / 2 ^ g.chunks.height ≤ max log.chunks (to / 2 ^ g.chunks.height)) (sym e) (omega (arith, low))
+      by n (inr e) = subst (λ k. k / 2 ^ g.chunks.height ≤ max log.chunks (to / 2 ^ g.chunks.height)) (sym e) (omega arith)
+
+      below : (n : ℕ) → (n ≡ log.chunks) ⊎ (n ≡ to / 2 ^ g.chunks.height) → n * 2 ^ g.chunks.height ≤ boundary m.shape g.chunks.height (settled_list log)
+      below n (inl e) = subst (λ k. k * 2 ^ g.chunks.height ≤ boundary m.shape g.chunks.height (settled_list log)) (sym e) is.1
+      below n (inr e) = let split = div-add-mod' to (2 ^ g.chunks.height) in subst (λ k. k * 2 ^ g.chunks.height ≤ boundary m.shape g.chunks.height (settled_list log)) (sym e) (le_trans (omega arith) low)
+
+  -- a prune of a made list to its boundary at most
+  pub pruned-kept : HasBounds m → (log : Log) (to : ℕ) → IsKept (engine_of m rules) log → Made (kind_of m) rules log.list → to ≤ m.boundary log.list → IsKept (engine_of m rules) (pruned m.grafts to log)
+  pruned-kept bounds log to kept made low = record {
     made = settled_is.made;
-    start = let start = settled_is.start in omega (arith, start, whole, low);
+    start = let start = settled_is.start in let below = bounds.low log.list in omega (arith, start, ap floor whole, low, below);
     stable = settled_is.stable;
-    chunks = tt;
+    chunks = pruned-chunks m.grafts (settled log) to (within (chunks_of m) bounds.chunks) settled_is.chunks;
   }
     where
       settled_is : IsKept (engine_of m rules) (settled log)
       settled_is = settled-kept log kept
 
-      whole : floor (settled_list (settled log)) ≡ floor log.list
-      whole = ap (λ list. floor (ended_part list)) (take-length log.list) ∙ ap floor (ended-whole log.list (made-good log.list made).commit_ended)
+      whole : settled_list (settled log) ≡ log.list
+      whole = ap ended_part (take-length log.list) ∙ ended-whole log.list (made-good log.list made).commit_ended
+
+      within : (chunks : Option Chunks) → IfSome chunks (λ c. (list : List Operation) → m.boundary list ≤ boundary m.shape c.height list) → IfSome chunks (λ c. to ≤ boundary m.shape c.height (settled_list (settled log)))
+      within None above = tt
+      within (Some c) above = subst (λ list. to ≤ boundary m.shape c.height list) (sym whole) (le_trans low (above log.list))
 
   -- a crash that chose an end
   pub restarted-kept : (chosen : ℕ) (log : Log) → IsKept (engine_of m rules) log → IsKept (engine_of m rules) (restarted chosen log)
@@ -217,8 +220,12 @@ module _ (m : Scheme) {P : Type 0} (rules : Rules P) where
     made = record { whole = fresh; made = first; begins = refl; of_form = All-nil (IsOf m.form) };
     start = omega arith;
     stable = omega arith;
-    chunks = tt;
+    chunks = by (chunks_of m);
   }
+    where
+      by : (chunks : Option Chunks) → ArePruned (engine_of m rules) chunks no_log
+      by None = tt
+      by (Some c) = (omega (arith, zero-div (2 ^ c.height)), omega arith)
 
   -- and a list that begins with the log's
   pub grown-kept : (log : Log) (tip : List Operation) → IsKept (engine_of m rules) log → Begins log.list tip → Made (kind_of m) rules tip → All (IsOf m.form) tip → IsKept (engine_of m rules) (record log { list = tip })
@@ -226,7 +233,7 @@ module _ (m : Scheme) {P : Type 0} (rules : Rules P) where
     made = record { whole = tip; made = made; begins = Begins-self tip; of_form = of };
     start = subst (λ list. log.start ≤ floor (ended_part list)) same kept.start;
     stable = le_trans kept.stable (Begins-length log.list tip begins);
-    chunks = tt;
+    chunks = pruned-more (chunks_of m) log tip (le_of_eq (ap (λ list. floor (ended_part list)) same)) (le_of_eq (ap (λ list. length (ended_part list)) same)) kept.chunks;
   }
     where
       same : take log.stable log.list ≡ take log.stable tip
@@ -256,9 +263,36 @@ module _ (m : Scheme) {P : Type 0} (rules : Rules P) where
   ordered_only : (s : State) (offered : Answer × State) → IsSound m rules s → Sound offered → Sound (if_ordered m s offered)
   ordered_only s offered is sound = either m.form.ordered offered _ (λ yes. sound) (λ not. (λ apart formed. is))
 
+  any_only : (s : State) (grafts : Option Grafts) (offered : Answer × State) → IsSound m rules s → Sound offered → Sound (if_any s grafts offered)
+  any_only s None offered is sound = sound
+  any_only s (Some g) offered is sound = (λ apart formed. is)
+
+  current_only : (s : State) (grafts : Option Grafts) (offered : Grafts → Answer × State) → IsSound m rules s → ((g : Grafts) → Sound (offered g)) → Sound (if_current s grafts offered)
+  current_only s None offered is sound = (λ apart formed. is)
+  current_only s (Some g) offered is sound = sound g
+
   unless_due : (s : State) (due : Option Refused) (answer : Answer) → IsSound m rules s → Sound (unless s due answer)
   unless_due s None answer is = same s answer is
   unless_due s (Some r) answer is = (λ apart formed. is)
+
+  held_sound : (s : State) (checks : Checks) (list : List Operation) (found : Option Live) → IsSound m rules s → Sound (held_at s checks list found)
+  held_sound s checks list None is = (λ apart formed. is)
+  held_sound s checks list (Some e) is = (λ apart formed. is)
+
+  absent_sound : (s : State) (proved : ℕ × Bool) (found : Option Live) → IsSound m rules s → Sound (absent_at s proved found)
+  absent_sound s proved None is = (λ apart formed. is)
+  absent_sound s proved (Some e) is = (λ apart formed. is)
+
+  absences_sound : (s : State) (check : Option (List Operation → Bytes → ℕ × Bool)) (key : Bytes) → IsSound m rules s
+      → Sound (if_absences s check (λ c. with_database s s.database (λ list. absent_at s (c list key) (live_of (live list) key))))
+  absences_sound s None key is = (λ apart formed. is)
+  absences_sound s (Some c) key is = with_list s s.database _ is (λ list e. absent_sound s (c list key) (live_of (live list) key) is)
+
+  answered_sound : (s : State) (g : Grafts) (question : Question) → IsSound m rules s → Sound (answered s g question)
+  answered_sound s g (Held key) is = with_list s s.database _ is (λ list e. held_sound s g.checks list (live_of (live list) key) is)
+  answered_sound s g (Absent key) is = absences_sound s g.checks.absent key is
+  answered_sound s g (lines.Chunks start max) is = with_list s s.database _ is (λ list e. unless_due s (range_refusal g.chunks.height s.log.chunks s.log.start list start) _ is)
+  answered_sound s g Witness is = with_list s s.database _ is (λ list e. (λ apart formed. is))
 
   -- another slot of the table
   slotted_sound : (s : State) (h : ℕ) (slot : Slot) → IsSoundSlot s.had slot → IsSound m rules s → IsSound m rules (with_slot s h slot)
@@ -279,27 +313,27 @@ module _ (m : Scheme) {P : Type 0} (rules : Rules P) where
   made_more had new one each list (suc k, within, at) = each list (k, omega (arith, within), at)
 
   -- what an opening takes up, steps made
-  pub opened-made : (s : State) (bound : Option ℕ) (size : ℕ) → IsSound m rules s → opening (layout_of m) (found_in m s.log) bound ≡ opens size → Made (kind_of m) rules (opened_list size s.log.list)
-  opened-made s bound size is e = let takes : Takes (engine_of m rules) s.log bound size = opens-parts s.log bound size is.kept e in by takes.part takes.ended
+  pub opened-made : ArePrompt (chunks_of m) m.shape → (s : State) (bound : Option ℕ) (size : ℕ) → IsSound m rules s → opening (layout_of m) (found_in m s.log) bound ≡ opens size → Made (kind_of m) rules (opened_list size s.log.list)
+  opened-made prompt s bound size is e = let takes : Takes (engine_of m rules) s.log bound size = opens-parts prompt s.log bound size is.kept e in by takes.part takes.ended
     where
       by : Begins (opened_list size s.log.list) s.log.list ⊎ ((s.log.list ≡ []) × (opened_list size s.log.list ≡ fresh)) → IsCommitEnded (opened_list size s.log.list) → Made (kind_of m) rules (opened_list size s.log.list)
       by (inl begins) ended = (begins-made (opened_list size s.log.list) is.kept.made.whole is.kept.made.made (Begins-through (opened_list size s.log.list) s.log.list is.kept.made.whole begins is.kept.made.begins) ended).0
       by (inr none) ended = subst (Made (kind_of m) rules) (sym none.1) first
 
   -- and not of a lower floor than the start
-  opened-low : (s : State) → IsSound m rules s → (bound : Option ℕ) (size : ℕ) → opening (layout_of m) (found_in m s.log) bound ≡ opens size → s.log.start ≤ floor (opened_list size s.log.list)
-  opened-low s is bound size e =
-      let takes : Takes (engine_of m rules) s.log bound size = opens-parts s.log bound size is.kept e in
+  opened-low : ArePrompt (chunks_of m) m.shape → (s : State) → IsSound m rules s → (bound : Option ℕ) (size : ℕ) → opening (layout_of m) (found_in m s.log) bound ≡ opens size → s.log.start ≤ floor (opened_list size s.log.list)
+  opened-low prompt s is bound size e =
+      let takes : Takes (engine_of m rules) s.log bound size = opens-parts prompt s.log bound size is.kept e in
       let list = opened_list size s.log.list in
       subst (λ ops. s.log.start ≤ floor ops) (ap ended_part (take-length list) ∙ ended-whole list takes.ended) takes.kept.start
 
   -- what a command has to know
-  pub sound-steady : (s : State) → IsSound m rules s → IsSteady m s
-  sound-steady s is = record {
+  pub sound-steady : ArePrompt (chunks_of m) m.shape → (s : State) → IsSound m rules s → IsSteady m s
+  sound-steady prompt s is = record {
     of_form = is.kept.made.of_form;
-    good = λ bound size e. made-good (opened_list size s.log.list) (opened-made s bound size is e);
-    ring = λ bound size e ordered_form. made-ring (opened_list size s.log.list) ordered_form (opened-made s bound size is e);
-    low = opened-low s is;
+    good = λ bound size e. made-good (opened_list size s.log.list) (opened-made prompt s bound size is e);
+    ring = λ bound size e ordered_form. made-ring (opened_list size s.log.list) ordered_form (opened-made prompt s bound size is e);
+    low = opened-low prompt s is;
     few = le_trans (Begins-length s.log.list is.kept.made.whole is.kept.made.begins) (made-few (kind_of m) rules is.kept.made.whole is.kept.made.made);
     held = is.held;
     within = λ list open_here. (made-good list (is.made list (is.held list open_here).1)).floor_within;
@@ -307,15 +341,15 @@ module _ (m : Scheme) {P : Type 0} (rules : Rules P) where
     slots = is.slots;
   }
 
-  opened_sound : (s : State) (bound : Option ℕ) (o : Opening) → opening (layout_of m) (found_in m s.log) bound ≡ o → IsSound m rules s → Sound (opened_as (closed s) o)
-  opened_sound s bound (refuses r) e is = λ apart formed. closed_sound s s.log s.choices is.kept is
-  opened_sound s bound (opens size) e is = λ apart formed.
+  opened_sound : ArePrompt (chunks_of m) m.shape → (s : State) (bound : Option ℕ) (o : Opening) → opening (layout_of m) (found_in m s.log) bound ≡ o → IsSound m rules s → Sound (opened_as (closed s) o)
+  opened_sound prompt s bound (refuses r) e is = λ apart formed. closed_sound s s.log s.choices is.kept is
+  opened_sound prompt s bound (opens size) e is = λ apart formed.
       let list = opened_list size s.log.list in
-      let takes : Takes (engine_of m rules) s.log bound size = opens-parts s.log bound size is.kept e in
+      let takes : Takes (engine_of m rules) s.log bound size = opens-parts prompt s.log bound size is.kept e in
       record {
         kept = takes.kept;
         held = λ other some. (cc, subst (Contains (list ∷ s.had)) (cc) (Contains-first list s.had));
-        made = made_more s.had list (opened-made s bound size is e) is.made;
+        made = made_more s.had list (opened-made prompt s bound size is e) is.made;
         slots = λ h. slot-more s.had list (slot_at s.table h) (is.slots h);
       }
 
@@ -425,7 +459,7 @@ module _ (m : Scheme) {P : Type 0} (rules : Rules P) where
   writes_sound : (s : State) (h : ℕ) (policy : P) (meta : Option Bytes) (list : List Operation) (chain : Chain) (ws : List Write) → IsAmong s.had chain → IsRising chain → IsSound m rules s → Sound (merkleize_writes m rules s h policy meta list chain ws)
   writes_sound s h policy meta list chain ws among rising is =
       let tip = step (kind_of m) rules chain.base ws policy meta in
-      either (fits m.root (commitment m.root list) chain) _ _
+      either (takes m.grafts s.opened chain.instance && fits m.root (commitment m.root list) chain) _ _
       (λ fit. tip_sound s h chain tip (tip_refusal m.form chain tip) among rising (step-begins (kind_of m) rules chain.base ws policy meta) (λ due. next chain.base ws policy meta (is.made chain.base among.base) (short-tip m.form chain tip due)) is)
       (λ unfit apart formed. slotted_sound s h gone tt is)
 
@@ -445,57 +479,57 @@ module _ (m : Scheme) {P : Type 0} (rules : Rules P) where
   commit_sound : (s : State) → IsSound m rules s → Sound (commit s)
   commit_sound s is = with_list s s.database _ is (λ list e apart formed. record { kept = settled-kept s.log is.kept; held = is.held; made = is.made; slots = is.slots })
 
-  prune_sound : ((list : List Operation) → m.boundary list ≤ floor list) → (s : State) (to : ℕ) (list : List Operation) → s.database ≡ Some list → IsSound m rules s → Sound (prune_in m s to list)
-  prune_sound low s to list e is = either (nat_lt (m.boundary list) to) _ _ (λ past apart formed. is) done
+  prune_sound : HasBounds m → (s : State) (to : ℕ) (list : List Operation) → s.database ≡ Some list → IsSound m rules s → Sound (prune_in m s to list)
+  prune_sound bounds s to list e is = either (nat_lt (m.boundary list) to) _ _ (λ past apart formed. is) done
     where
-      done : nat_lt (m.boundary list) to ≡ false → Sound (lines.Done, record s { log = pruned to s.log })
+      done : nat_lt (m.boundary list) to ≡ false → Sound (lines.Done, record s { log = pruned m.grafts to s.log })
       done within apart formed =
           let held = is.held list e in
-          let below = le_trans (ltb-false (m.boundary list) to within) (low list) in
+          let below = ltb-false (m.boundary list) to within in
           record {
-            kept = pruned-kept s.log to is.kept (subst (Made (kind_of m) rules) (sym held.0) (is.made list held.1)) (subst (λ ops. to ≤ floor ops) (sym held.0) below);
+            kept = pruned-kept bounds s.log to is.kept (subst (Made (kind_of m) rules) (sym held.0) (is.made list held.1)) (subst (λ ops. to ≤ m.boundary ops) (sym held.0) below);
             held = is.held;
             made = is.made;
             slots = is.slots;
           }
 
-  -- where no list's boundary is above its floor
-  pub turn-sound : (low : (list : List Operation) → m.boundary list ≤ floor list) (s : State) (line : Line P) → IsSound m rules s → Sound (turn m rules s line)
-  turn-sound below s (Open bound) is = opened_sound s bound (opening (layout_of m) (found_in m s.log) bound) refl is
-  turn-sound below s Batch is = with_list s s.database _ is (λ list e. started_sound s _ (begun-among s.had list (is.held list e).1, begun-rising list) is)
-  turn-sound below s (Child h keep) is = child_sound s h keep (slot_at s.table h) (is.slots h) is
-  turn-sound below s Tip is = with_list s s.database _ is (λ list e. started_sound s _ (begun-among s.had list (is.held list e).1, begun-rising list, (is.held list e).1, Begins-self list) is)
-  turn-sound below s (Put h key value) is = put_sound s h _ (slot_at s.table h) (is.slots h) is
-  turn-sound below s (Del h key) is = put_sound s h _ (slot_at s.table h) (is.slots h) is
-  turn-sound below s (Merkleize h policy meta) is = with_list s s.database _ is (λ list e. merkleize_sound s h policy meta list (slot_at s.table h) (is.slots h) is)
-  turn-sound below s (Stage h keys) is = with_list s s.database _ is (λ list e. stage_sound s h keys list (slot_at s.table h) (is.slots h) is)
-  turn-sound below s (Expand h keys) is = with_list s s.database _ is (λ list e. expand_sound s h keys list (slot_at s.table h) (is.slots h) is)
-  turn-sound below s (Resolve h policy meta given others) is = with_list s s.database _ is (λ list e. resolve_sound s h policy meta given others list (slot_at s.table h) (is.slots h) is)
-  turn-sound below s (Apply h) is = with_list s s.database _ is (λ list e. apply_sound s h list (slot_at s.table h) e (is.slots h) is)
-  turn-sound below s (Ops h) is = listed_sound s h (slot_at s.table h) is
-  turn-sound below s (Get key from) is = read_sound s (key ∷ []) from is
-  turn-sound below s (Many keys from) is = read_sound s keys from is
-  turn-sound below s (Next key from) is = ordered_only s _ is (beside_sound s (λ keys. key_above keys key) from is)
-  turn-sound below s (Prev key from) is = ordered_only s _ is (beside_sound s (λ keys. key_below keys key) from is)
-  turn-sound below s (Span key) is = ordered_only s _ is (with_list s s.database _ is (λ list e. (λ apart formed. is)))
-  turn-sound below s (lines.All key) is = ordered_only s _ is (with_list s s.database _ is (λ list e. (λ apart formed. is)))
-  turn-sound below s (Range low high) is = ordered_only s _ is (with_list s s.database _ is (λ list e. (λ apart formed. is)))
-  turn-sound below s (Keys low high) is = ordered_only s _ is (with_list s s.database _ is (λ list e. (λ apart formed. is)))
-  turn-sound below s Info is = with_list s s.database _ is (λ list e. (λ apart formed. is))
-  turn-sound below s (BatchInfo h) is = info_sound s h (slot_at s.table h) is
-  turn-sound below s Root is = with_list s s.database _ is (λ list e. (λ apart formed. is))
-  turn-sound below s (BatchRoot h) is = root_sound s h (slot_at s.table h) is
-  turn-sound below s (BatchProof h) is = with_list s s.database _ is (λ list e. proof_sound s h list (slot_at s.table h) is)
-  turn-sound below s Meta is = with_list s s.database _ is (λ list e. (λ apart formed. is))
-  turn-sound below s (Prove size start count) is = with_list s s.database _ is (λ list e. unless_due s (proof_refusal s.log.start list size start) _ is)
-  turn-sound below s (Pins n) is = with_list s s.database _ is (λ list e. unless_due s (pins_lacked m.shape s.log.start list n) _ is)
-  turn-sound below s (Current question) is = (λ apart formed. is)
-  turn-sound below s (Prune to) is = with_list s s.database _ is (λ list e. prune_sound below s to list e is)
-  turn-sound below s Commit is = commit_sound s is
-  turn-sound below s Sync is = commit_sound s is
-  turn-sound below s Close is = with_list s s.database _ is (λ list e apart formed. closed_sound s s.log s.choices is.kept is)
-  turn-sound below s Destroy is = with_list s s.database _ is (λ list e apart formed. closed_sound s no_log s.choices empty-kept is)
-  turn-sound below s (Crash keep) is = λ apart formed. closed_sound s _ _ (restarted-kept _ s.log is.kept) is
+  -- where boundaries are where they are to be
+  pub turn-sound : (bounds : HasBounds m) (s : State) (line : Line P) → IsSound m rules s → Sound (turn m rules s line)
+  turn-sound bounds s (Open bound) is = opened_sound bounds.prompt s bound (opening (layout_of m) (found_in m s.log) bound) refl is
+  turn-sound bounds s Batch is = with_list s s.database _ is (λ list e. started_sound s _ (begun-among s.had s.opened list (is.held list e).1, begun-rising s.opened list) is)
+  turn-sound bounds s (Child h keep) is = child_sound s h keep (slot_at s.table h) (is.slots h) is
+  turn-sound bounds s Tip is = with_list s s.database _ is (λ list e. started_sound s _ (begun-among s.had s.opened list (is.held list e).1, begun-rising s.opened list, (is.held list e).1, Begins-self list) is)
+  turn-sound bounds s (Put h key value) is = put_sound s h _ (slot_at s.table h) (is.slots h) is
+  turn-sound bounds s (Del h key) is = put_sound s h _ (slot_at s.table h) (is.slots h) is
+  turn-sound bounds s (Merkleize h policy meta) is = with_list s s.database _ is (λ list e. merkleize_sound s h policy meta list (slot_at s.table h) (is.slots h) is)
+  turn-sound bounds s (Stage h keys) is = with_list s s.database _ is (λ list e. stage_sound s h keys list (slot_at s.table h) (is.slots h) is)
+  turn-sound bounds s (Expand h keys) is = with_list s s.database _ is (λ list e. expand_sound s h keys list (slot_at s.table h) (is.slots h) is)
+  turn-sound bounds s (Resolve h policy meta given others) is = with_list s s.database _ is (λ list e. resolve_sound s h policy meta given others list (slot_at s.table h) (is.slots h) is)
+  turn-sound bounds s (Apply h) is = with_list s s.database _ is (λ list e. apply_sound s h list (slot_at s.table h) e (is.slots h) is)
+  turn-sound bounds s (Ops h) is = listed_sound s h (slot_at s.table h) is
+  turn-sound bounds s (Get key from) is = read_sound s (key ∷ []) from is
+  turn-sound bounds s (Many keys from) is = read_sound s keys from is
+  turn-sound bounds s (Next key from) is = ordered_only s _ is (beside_sound s (λ keys. key_above keys key) from is)
+  turn-sound bounds s (Prev key from) is = ordered_only s _ is (beside_sound s (λ keys. key_below keys key) from is)
+  turn-sound bounds s (Span key) is = ordered_only s _ is (with_list s s.database _ is (λ list e. (λ apart formed. is)))
+  turn-sound bounds s (lines.All key) is = ordered_only s _ is (with_list s s.database _ is (λ list e. (λ apart formed. is)))
+  turn-sound bounds s (Range low high) is = ordered_only s _ is (with_list s s.database _ is (λ list e. (λ apart formed. is)))
+  turn-sound bounds s (Keys low high) is = ordered_only s _ is (with_list s s.database _ is (λ list e. (λ apart formed. is)))
+  turn-sound bounds s Info is = with_list s s.database _ is (λ list e. (λ apart formed. is))
+  turn-sound bounds s (BatchInfo h) is = info_sound s h (slot_at s.table h) is
+  turn-sound bounds s Root is = with_list s s.database _ is (λ list e. (λ apart formed. is))
+  turn-sound bounds s (BatchRoot h) is = root_sound s h (slot_at s.table h) is
+  turn-sound bounds s (BatchProof h) is = any_only s m.grafts _ is (with_list s s.database _ is (λ list e. proof_sound s h list (slot_at s.table h) is))
+  turn-sound bounds s Meta is = with_list s s.database _ is (λ list e. (λ apart formed. is))
+  turn-sound bounds s (Prove size start count) is = with_list s s.database _ is (λ list e. unless_due s (proof_refusal s.log.start list size start) _ is)
+  turn-sound bounds s (Pins n) is = with_list s s.database _ is (λ list e. unless_due s (pins_lacked m.shape s.log.start list n) _ is)
+  turn-sound bounds s (Current question) is = current_only s m.grafts _ is (λ g. answered_sound s g question is)
+  turn-sound bounds s (Prune to) is = with_list s s.database _ is (λ list e. prune_sound bounds s to list e is)
+  turn-sound bounds s Commit is = commit_sound s is
+  turn-sound bounds s Sync is = commit_sound s is
+  turn-sound bounds s Close is = with_list s s.database _ is (λ list e apart formed. closed_sound s s.log s.choices is.kept is)
+  turn-sound bounds s Destroy is = with_list s s.database _ is (λ list e apart formed. closed_sound s no_log s.choices empty-kept is)
+  turn-sound bounds s (Crash keep) is = λ apart formed. closed_sound s _ _ (restarted-kept _ s.log is.kept) is
 
   -- a run begins so
   pub initial-sound : (log : Log) (choices : List ℕ) → IsKept (engine_of m rules) log → IsSound m rules (initial log choices)

@@ -5,3 +5,4 @@ pub mod Sound
 pub mod Grammar
 pub mod Text
 pub mod LineRows
+pub mod CurrentLineRows

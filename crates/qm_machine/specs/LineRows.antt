@@ -25,7 +25,7 @@ same bytes = 0x00 ∷ 0x2a ∷ []
 
 -- a root under which lists of one length collide, which these rows do not tell from a real one
 abbrev toy : Scheme
-toy = record { form = variable; shape = mmr; hash = same; digest_size = 2; root = λ ops. same []; boundary = floor; proof = ops_proof same mmr variable; pins = pins_at same mmr variable }
+toy = record { form = variable; shape = mmr; hash = same; digest_size = 2; root = λ ops. same []; canonical = λ ops. same []; boundary = floor; proof = ops_proof same mmr variable; pins = pins_at same mmr variable; grafts = None }
 
 -- the keys and values of a list's operations, which tell its lists apart here
 abbrev said : Operation → Bytes
@@ -34,7 +34,7 @@ said (delete k) = k
 said (commit m f) = []
 
 abbrev telling : Scheme
-telling = record toy { root = λ ops. flat_map said ops }
+telling = record toy { root = λ ops. flat_map said ops; canonical = λ ops. flat_map said ops }
 
 abbrev lines : List Bytes → Bytes
 lines ls = join_with_byte 10 ls ++ 10 ∷ []

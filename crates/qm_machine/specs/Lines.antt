@@ -104,4 +104,11 @@ pub data Answer : Type 0 where
   -- a proof of a batch's own operations, and the pins at its base
   BatchProved : Proof → List Bytes → Answer
   Pinned : List Bytes → Answer
+  -- the location of what proves a key, or its absence, and the verdict on the proof
+  HeldAt : ℕ → Bool → Answer
+  AbsentAt : ℕ → Bool → Answer
+  -- how many operations and chunks were proved, and the verdict on the proof
+  Chunked : ℕ → ℕ → Bool → Answer
+  -- the verdict on the witness
+  Witnessed : Bool → Answer
   Refuses : Refused → Answer

@@ -1,10 +1,10 @@
 -- The machine: databases and batches are operation lists, and each command is a function of the state.
-use Rattle.std.specs.Prelude.{ℕ, ◌+◌, min, max, nat_lt, ◌==◌, if◌then◌else◌, List, [], ◌∷◌, ◌++◌, length, map, take, drop, slice_index_or, slice_set, Option, Some, None, option_map}
+use Rattle.std.specs.Prelude.{ℕ, ◌+◌, ◌/◌, ◌^◌, min, max, nat_lt, ◌==◌, ◌&&◌, Bool, true, if◌then◌else◌, List, [], ◌∷◌, ◌++◌, length, map, take, drop, slice_index_or, slice_set, Option, Some, None, option_map}
 use Rattle.std.specs.List.{concat}
 use Rattle.qm_model.specs.Operations.{Bytes, Operation}
 use Rattle.qm_model.specs.Forms.{Form}
 use Rattle.qm_model.specs.Trees.{Shape}
-use Rattle.qm_model.specs.Live.{live, live_of, live_keys, floor, value_of, last_metadata}
+use Rattle.qm_model.specs.Live.{Live, live, live_of, live_keys, floor, value_of, last_metadata}
 use Rattle.qm_model.specs.Ranges.{Limit, key_above, key_below, span_of, keys_in, pairs_in}
 use Rattle.qm_model.specs.Writes.{Write, read_through}
 use Rattle.qm_model.specs.Slots.{slotted}
@@ -13,38 +13,64 @@ use Rattle.qm_model.specs.Walk.{Rules}
 use Rattle.qm_model.specs.Step.{Kind, ordered, unordered}
 use Rattle.qm_model.specs.Step as steps
 use Rattle.qm_model.specs.Proofs.{Proof, pins_at}
-use Rattle.qm_model.specs.Opening.{Layout, Found, Opening, refuses, opens, opening, opened_list}
-use Rattle.qm_model.specs.Own.{Engine, Log, no_log, taken_up, any_engine}
+use Rattle.qm_model.specs.Checks.{Checks}
+use Rattle.qm_model.specs.Opening.{Chunks, Layout, Found, Opening, refuses, opens, opening, opened_list}
+use Rattle.qm_model.specs.Own.{Engine, Log, no_log, taken_up}
 use Rattle.qm_model.specs.Batches.{Chain, begun_on, child_of, commitment, fits, readable, own_operations}
-use Rattle.qm_machine.specs.Lines.{Line, Open, Batch, Child, Tip, Put, Del, Merkleize, Stage, Expand, Resolve, Apply, Ops, Get, Many, Next, Prev, Span, All, Range, Keys, Info, BatchInfo, Root, BatchRoot, BatchProof, Meta, Prove, Pins, Current, Prune, Commit, Sync, Close, Destroy, Crash, Answer, Opened, Started, Done, Merkleized, Applied, Listed, Read, Expanded, Beside, Spanning, Whole, Ranged, Keyed, Told, BatchTold, Rooted, Metadata, Proved, BatchProved, Pinned, Refuses}
-use Rattle.qm_model.specs.Refused.{Refused, NotOffered, NoDatabase, NoSuchHandle, SlotCount, StaleBatch, StaleRead, PruneBeyondMinRequired}
-use Rattle.qm_model.specs.Refusals.{tip_refusal, proof_refusal, proof_count}
+use Rattle.qm_machine.specs.Lines.{Line, Open, Batch, Child, Tip, Put, Del, Merkleize, Stage, Expand, Resolve, Apply, Ops, Get, Many, Next, Prev, Span, All, Range, Keys, Info, BatchInfo, Root, BatchRoot, BatchProof, Meta, Prove, Pins, Question, Held, Absent, Witness, Current, Prune, Commit, Sync, Close, Destroy, Crash, Answer, Opened, Started, Done, Merkleized, Applied, Listed, Read, Expanded, Beside, Spanning, Whole, Ranged, Keyed, Told, BatchTold, Rooted, Metadata, Proved, BatchProved, Pinned, HeldAt, AbsentAt, Chunked, Witnessed, Refuses}
+use Rattle.qm_machine.specs.Lines as lines
+use Rattle.qm_model.specs.Refused.{Refused, NotOffered, NoDatabase, NoSuchHandle, SlotCount, StaleBatch, StaleRead, KeyNotFound, KeyExists, PruneBeyondMinRequired}
+use Rattle.qm_model.specs.Refusals.{tip_refusal, proof_refusal, proof_count, range_refusal}
 use Rattle.qm_machine.specs.Held.{pins_lacked, proof_lacked}
 
+-- what a current database has over an any one: chunks of activity bits, grafted onto its trees, and the checks of its proofs
+pub record Grafts : Type 0 where
+  pub chunks : Chunks
+  pub checks : Checks
+
 -- what a machine stands on: how operations are spelled and hashed, over which family of trees, and how many bytes a digest
--- has; a list's operations root and boundary, the proofs of its operations and its pins
+-- has; a list's roots and boundary, the proofs of its operations and its pins
 pub record Scheme : Type 0 where
   pub form : Form
   pub shape : Shape
   pub hash : Bytes → Bytes
   pub digest_size : ℕ
+  -- the operations root, which tells a batch whether it fits
   pub root : List Operation → Bytes
+  -- the root: of a current database the canonical root, of an any one the operations root
+  pub canonical : List Operation → Bytes
   pub boundary : List Operation → ℕ
   -- of the whole list, for the operations from a up to b
   pub proof : List Operation → ℕ → ℕ → Proof
   pub pins : List Operation → ℕ → List Bytes
+  -- none in an any database
+  pub grafts : Option Grafts
 
 -- the kind of its databases
 abbrev pub kind_of : Scheme → Kind
 kind_of m = if m.form.ordered then ordered else unordered
 
--- what makes its databases' lists under policies with these rules, and how they lie in a store
-abbrev pub engine_of : Scheme → {P : Type 0} → Rules P → Engine P
-engine_of m rules = any_engine (kind_of m) rules m.hash m.form m.shape m.digest_size
+-- the chunks of its databases' bits, if they are current ones
+abbrev pub chunks_of : Scheme → Option Chunks
+chunks_of m = option_map (λ g. g.chunks) m.grafts
 
--- how they lie in a store
+-- how its databases lie in a store
 abbrev pub layout_of : Scheme → Layout
-layout_of m = record { form = m.form; shape = m.shape; digest_size = m.digest_size; chunks = None }
+layout_of m = record { form = m.form; shape = m.shape; digest_size = m.digest_size; chunks = chunks_of m }
+
+-- what makes their lists under policies with these rules, and how they lie in a store
+abbrev pub engine_of : Scheme → {P : Type 0} → Rules P → Engine P
+engine_of m rules = record { kind = kind_of m; rules = rules; hash = m.hash; layout = layout_of m }
+
+-- whether a database of the first instance number makes lists of batches of the second: an any one of all, a current one of its own
+abbrev pub takes : Option Grafts → ℕ → ℕ → Bool
+takes None own other = true
+takes (Some g) own other = own == other
+
+-- how many chunks are pruned after a prune to a location, of which so many were: an any database has none
+abbrev pub chunks_after : Option Grafts → ℕ → ℕ → ℕ
+chunks_after None pruned to = pruned
+chunks_after (Some g) pruned to = max pruned (to / 2 ^ g.chunks.height)
 
 -- a batch number: used up; a batch with the chain of its parent, which made its base, and its writes; the same with the
 -- keys that were staged; a merkleized batch with its tip list. The parent of a batch that was begun on a database is that as
@@ -99,9 +125,9 @@ closed s = record s { database = None }
 abbrev pub settled : Log → Log
 settled log = record log { stable = length log.list }
 
--- the store after a prune to a location, which makes the list stable first; the start does not fall
-abbrev pub pruned : ℕ → Log → Log
-pruned to log = record (settled log) { start = max log.start to }
+-- the store after a prune to a location, which makes the list stable first; neither the start nor the count of pruned chunks falls
+abbrev pub pruned : Option Grafts → ℕ → Log → Log
+pruned grafts to log = record (settled log) { start = max log.start to; chunks = chunks_after grafts log.chunks to }
 
 -- the store after a crash at which it chose this end: one from the stable length to the list's
 abbrev pub restarted : ℕ → Log → Log
@@ -131,8 +157,9 @@ crash s = (Done, record (closed s) { log = restarted (slice_index_or s.choices 0
 abbrev pub started : State → Slot → Answer × State
 started s slot = (Started (length s.table), record s { table = s.table ++ slot ∷ [] })
 
+-- a batch is of the database's instance: the number of its opening, the last one
 abbrev pub start_batch : State → Answer × State
-start_batch s = with_database s s.database (λ list. started s (writing (begun_on list) (begun_on list) []))
+start_batch s = with_database s s.database (λ list. started s (writing (begun_on s.opened list) (begun_on s.opened list) []))
 
 abbrev pub start_child : State → ℕ → Option ℕ → Slot → Answer × State
 start_child s h keep (merkleized chain tip) = started s (writing (child_of keep chain tip) chain [])
@@ -144,7 +171,7 @@ abbrev pub child : State → ℕ → Option ℕ → Answer × State
 child s h keep = start_child s h keep (slot_at s.table h)
 
 abbrev pub start_tip : State → Answer × State
-start_tip s = with_database s s.database (λ list. started s (merkleized (begun_on list) list))
+start_tip s = with_database s s.database (λ list. started s (merkleized (begun_on s.opened list) list))
 
 abbrev pub put_in : State → ℕ → Write → Slot → Answer × State
 put_in s h w (writing chain parent ws) = (Done, with_slot s h (writing chain parent (ws ++ w ∷ [])))
@@ -176,6 +203,45 @@ abbrev pub merkleize_tip : State → ℕ → Chain → List Operation → Option
 merkleize_tip s h chain tip None =
     (Merkleized h (length chain.base) (length tip) (floor tip), record (with_slot s h (merkleized chain tip)) { had = tip ∷ s.had })
 merkleize_tip s h chain tip (Some r) = refuse (with_slot s h gone) r
+
+-- what only an any database offers, open or not
+abbrev pub if_any : State → Option Grafts → Answer × State → Answer × State
+if_any s None offered = offered
+if_any s (Some g) offered = refuse s NotOffered
+
+-- what only a current one does
+abbrev pub if_current : State → Option Grafts → (Grafts → Answer × State) → Answer × State
+if_current s None offered = refuse s NotOffered
+if_current s (Some g) offered = offered g
+
+-- what only an ordered current one does
+abbrev pub if_absences : State → Option (List Operation → Bytes → ℕ × Bool) → ((List Operation → Bytes → ℕ × Bool) → Answer × State) → Answer × State
+if_absences s None offered = refuse s NotOffered
+if_absences s (Some check) offered = offered check
+
+-- the proof of a key's live update, checked against the root
+abbrev pub held_at : State → Checks → List Operation → Option Live → Answer × State
+held_at s checks list None = refuse s KeyNotFound
+held_at s checks list (Some e) = (HeldAt e.location (checks.held list e), s)
+
+-- the proof that a key is absent, checked
+abbrev pub absent_at : State → ℕ × Bool → Option Live → Answer × State
+absent_at s proved None = (AbsentAt proved.0 proved.1, s)
+absent_at s proved (Some e) = refuse s KeyExists
+
+-- up to `max` operations from `start` on with their chunks, and their proof, checked
+abbrev pub chunks_in : State → Grafts → ℕ → ℕ → List Operation → Answer × State
+chunks_in s g start max list =
+    let n = proof_count (length list) start max in
+    let proved = g.checks.range list start (start + n) in
+    unless s (range_refusal g.chunks.height s.log.chunks s.log.start list start) (Chunked n proved.0 proved.1)
+
+-- the answer to a question that only a current database is asked
+abbrev pub answered : State → Grafts → Question → Answer × State
+answered s g (Held key) = with_database s s.database (λ list. held_at s g.checks list (live_of (live list) key))
+answered s g (Absent key) = if_absences s g.checks.absent (λ check. with_database s s.database (λ list. absent_at s (check list key) (live_of (live list) key)))
+answered s g (lines.Chunks start max) = with_database s s.database (chunks_in s g start max)
+answered s g Witness = with_database s s.database (λ list. (Witnessed (g.checks.witness list), s))
 
 module _ (m : Scheme) where
   -- what an opening finds in a store, by its list
@@ -292,12 +358,12 @@ module _ (m : Scheme) where
   abbrev pub batch_info : State → ℕ → Answer × State
   batch_info s h = info_in s h (slot_at s.table h)
 
-  -- the root, which is the operations root in this kind of database
+  -- the root and the operations root
   abbrev pub root : State → Answer × State
-  root s = with_database s s.database (λ list. (Rooted (m.root list) (m.root list), s))
+  root s = with_database s s.database (λ list. (Rooted (m.canonical list) (m.root list), s))
 
   abbrev pub root_in : State → ℕ → Slot → Answer × State
-  root_in s h (merkleized chain tip) = (Rooted (m.root tip) (m.root tip), s)
+  root_in s h (merkleized chain tip) = (Rooted (m.canonical tip) (m.root tip), s)
   root_in s h gone = refuse s (NoSuchHandle h)
   root_in s h (staged chain parent ws keys) = refuse s (NoSuchHandle h)
   root_in s h (writing chain parent ws) = refuse s (NoSuchHandle h)
@@ -316,7 +382,7 @@ module _ (m : Scheme) where
   proof_in s h list (writing chain parent ws) = refuse s (NoSuchHandle h)
 
   abbrev pub batch_proof : State → ℕ → Answer × State
-  batch_proof s h = with_database s s.database (λ list. proof_in s h list (slot_at s.table h))
+  batch_proof s h = if_any s m.grafts (with_database s s.database (λ list. proof_in s h list (slot_at s.table h)))
 
   -- up to `max` operations from `start` on, and their proof among the list's first `size` operations
   abbrev pub prove : State → ℕ → ℕ → ℕ → Answer × State
@@ -329,10 +395,13 @@ module _ (m : Scheme) where
   -- up to the list's boundary
   abbrev pub prune_in : State → ℕ → List Operation → Answer × State
   prune_in s to list =
-      if nat_lt (m.boundary list) to then refuse s (PruneBeyondMinRequired to (m.boundary list)) else (Done, record s { log = pruned to s.log })
+      if nat_lt (m.boundary list) to then refuse s (PruneBeyondMinRequired to (m.boundary list)) else (Done, record s { log = pruned m.grafts to s.log })
 
   abbrev pub prune : State → ℕ → Answer × State
   prune s to = with_database s s.database (λ list. prune_in s to list)
+
+  abbrev pub current : State → Question → Answer × State
+  current s question = if_current s m.grafts (λ g. answered s g question)
 
 -- what a command leaves of the choices to come: a crash takes the first, and no other command takes one
 abbrev pub choices_after : {P : Type 0} → Line P → List ℕ → List ℕ
@@ -341,11 +410,11 @@ choices_after line choices = choices
 
 -- under policies with these rules
 module _ (m : Scheme) {P : Type 0} (rules : Rules P) where
-  -- writes make a batch's tip list; the batch is also used up where the database has moved on
+  -- writes make a batch's tip list; the batch is also used up where it is of another instance, or the database has moved on
   abbrev pub merkleize_writes : State → ℕ → P → Option Bytes → List Operation → Chain → List Write → Answer × State
   merkleize_writes s h policy meta list chain ws =
       let tip = steps.step (kind_of m) rules chain.base ws policy meta in
-      if fits m.root (commitment m.root list) chain
+      if takes m.grafts s.opened chain.instance && fits m.root (commitment m.root list) chain
       then merkleize_tip s h chain tip (tip_refusal m.form chain tip)
       else refuse (with_slot s h gone) StaleBatch
 
@@ -401,7 +470,7 @@ module _ (m : Scheme) {P : Type 0} (rules : Rules P) where
   turn s Meta = meta s
   turn s (Prove size start max) = prove m s size start max
   turn s (Pins n) = pins m s n
-  turn s (Current question) = refuse s NotOffered
+  turn s (Current question) = current m s question
   turn s (Prune to) = prune m s to
   turn s Commit = commit s
   turn s Sync = commit s

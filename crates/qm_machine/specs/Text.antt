@@ -3,8 +3,8 @@ use Rattle.std.specs.Prelude.{Bool, true, false, List, [], ◌∷◌, ◌++◌, 
 use Rattle.hex.specs.Hex.{encode_lower}
 use Rattle.qm_model.specs.Live.{Live}
 use Rattle.qm_model.specs.Operations.{Bytes, Operation, update, delete, commit}
-use Rattle.qm_machine.specs.Lines.{Answer, Opened, Started, Done, Merkleized, Applied, Listed, Read, Expanded, Beside, Spanning, Whole, Ranged, Keyed, Told, BatchTold, Rooted, Metadata, Proved, BatchProved, Pinned, Refuses}
-use Rattle.qm_model.specs.Refused.{corrupt_text, TreeRefused, RangeOutOfBounds, ElementPruned, MissingNode, LocationOverflow, LogRefused, ItemPruned, ItemTooLarge, Refused, NotOffered, NoDatabase, NoSuchHandle, SlotCount, InvalidInitializationBound, StaleBatch, StaleRead, PruneBeyondMinRequired, HistoricalFloorPruned, DataCorrupted, Merkle, Journal}
+use Rattle.qm_machine.specs.Lines.{Answer, Opened, Started, Done, Merkleized, Applied, Listed, Read, Expanded, Beside, Spanning, Whole, Ranged, Keyed, Told, BatchTold, Rooted, Metadata, Proved, BatchProved, Pinned, HeldAt, AbsentAt, Chunked, Witnessed, Refuses}
+use Rattle.qm_model.specs.Refused.{corrupt_text, TreeRefused, RangeOutOfBounds, ElementPruned, MissingNode, LocationOverflow, LogRefused, ItemPruned, ItemTooLarge, Refused, NotOffered, NoDatabase, NoSuchHandle, SlotCount, InvalidInitializationBound, StaleBatch, StaleRead, KeyNotFound, KeyExists, OperationPruned, PruneBeyondMinRequired, HistoricalFloorPruned, DataCorrupted, Merkle, Journal}
 
 -- bytes in hexadecimal, and the empty ones as a dash
 abbrev pub hex_text : Bytes → Bytes
@@ -42,6 +42,9 @@ refused_text (SlotCount staged given) = codes "SlotCount " ++ (decimal staged ++
 refused_text InvalidInitializationBound = codes "InvalidInitializationBound"
 refused_text StaleBatch = codes "StaleBatch"
 refused_text StaleRead = codes "StaleRead"
+refused_text KeyNotFound = codes "KeyNotFound"
+refused_text KeyExists = codes "KeyExists"
+refused_text (OperationPruned i) = codes "OperationPruned " ++ decimal i
 refused_text (PruneBeyondMinRequired p m) = codes "PruneBeyondMinRequired " ++ (decimal p ++ (codes " " ++ decimal m))
 refused_text (HistoricalFloorPruned n) = codes "HistoricalFloorPruned " ++ decimal n
 refused_text (DataCorrupted c) = codes "DataCorrupted " ++ corrupt_text c
@@ -87,6 +90,11 @@ abbrev pub live_text : Bool → Bytes
 live_text true = codes "live"
 live_text false = codes "empty"
 
+-- the verdict on a proof
+abbrev pub verdict_text : Bool → Bytes
+verdict_text true = codes "yes"
+verdict_text false = codes "no"
+
 -- a reply without its line feed
 abbrev pub reply_line : Answer → Bytes
 reply_line (Opened i start size) = codes "open " ++ (decimal i ++ (codes " " ++ (decimal start ++ (codes " " ++ decimal size))))
@@ -114,6 +122,10 @@ reply_line (Proved proof ops) =
 reply_line (BatchProved proof pins) =
     codes "proof " ++ (decimal proof.leaves ++ (codes " " ++ (decimal proof.inactive ++ (digests_text proof.digests ++ (codes " /" ++ digests_text pins)))))
 reply_line (Pinned digests) = codes "pins" ++ digests_text digests
+reply_line (HeldAt i verdict) = codes "held " ++ (decimal i ++ (codes " " ++ verdict_text verdict))
+reply_line (AbsentAt i verdict) = codes "absent " ++ (decimal i ++ (codes " " ++ verdict_text verdict))
+reply_line (Chunked ops chunks verdict) = codes "chunks " ++ (decimal ops ++ (codes " " ++ (decimal chunks ++ (codes " " ++ verdict_text verdict))))
+reply_line (Witnessed verdict) = codes "witness " ++ verdict_text verdict
 reply_line (Refuses r) = codes "refused " ++ refused_text r
 
 -- the replies, one line each

@@ -184,7 +184,7 @@ byte_clear (b ∷ bs) clear =
     let rest = byte_clear bs (λ j. clear (suc j)) in
     ap₂ (λ t n. (if t then 1 else 0) + 2 * n) (clear 0) rest
 
-packed_clear : (n : ℕ) (bs : List Bool) → ((j : ℕ) → j < 8 * n → get_or bs j false ≡ false) → packed n bs ≡ replicate n 0
+pub packed_clear : (n : ℕ) (bs : List Bool) → ((j : ℕ) → j < 8 * n → get_or bs j false ≡ false) → packed n bs ≡ replicate n 0
 packed_clear zero bs clear = refl
 packed_clear (suc n) bs clear = ap₂ (λ b rest. b ∷ rest)
     (byte_clear (take 8 bs) (λ j. ⊎_elim (λ (here : j < 8). get_or-take 8 bs j false here ∙ clear j (omega arith)) (λ (past : 8 ≤ j). get_or_past (take 8 bs) j false (short j past)) (cases_lt j 8)))

@@ -33,6 +33,8 @@ pub mod BitLemmas
 pub mod RangeSpeaking
 pub mod KeySpeaking
 pub mod GraftedLemmas
+pub mod Boundaries
+pub mod Pins
 pub mod CheckProving
 pub mod Stores
 pub mod Openings

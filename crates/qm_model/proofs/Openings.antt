@@ -21,19 +21,20 @@ use Rattle.qm_model.proofs.LastWrites.{bytes_same}
 use Rattle.qm_model.proofs.Floors.{live_from-front}
 use Rattle.std.specs.Option.{option_map_or}
 use Rattle.qm_model.specs.Trees.{Shape, peaks, digest_of, leaves_from}
-use Rattle.qm_model.specs.Grafted.{chunk_of, value_over}
+use Rattle.qm_model.specs.Grafted.{boundary, chunk_of, value_over}
 use Rattle.qm_model.specs.Refused.{Refused, HistoricalFloorPruned, DataCorrupted, FloorExceedsCommit, HeadDoesNotMatch, ItemDoesNotDecode, LinksFormNoRing, CountNotValid, CountTooLarge, MissingPin, InvalidPin}
 use Rattle.qm_model.specs.Proofs.{pins_at}
 use Rattle.qm_model.specs.Walk.{Rules}
 use Rattle.qm_model.specs.Step.{IsOrderedGood, Kind, unordered, ordered, Made, first, next, walk_after}
 use Rattle.qm_model.specs.Batches.{Begins}
 use Rattle.qm_model.specs.StoreModel.{Stored, empty, IsImage, end_of}
-use Rattle.qm_model.specs.Opening.{Chunks, Selected, Opening, refuses, opens, commit_at, last_commit, below_bound, selected, size_of, floor_of, is_empty, when, first_refusal, is_wrong_size, pruned_bits, pins_found, numbered_pins, commit_refusal, checks, opening_refusal, opening_of, opened_list, found, found_with}
-use Rattle.qm_model.specs.Own.{Engine, OpensWhole, head_of, settled_list, any_engine, Log, no_log, ArePruned, taken_up, left_at, ended_size, ended_part, MetadataIs, IsStored, IsPartMade, IsKept, IsOwn, found_in, Takes, OpensParts}
+use Rattle.qm_model.specs.Opening.{Chunks, Layout, Selected, is_unabsorbed, Opening, refuses, opens, commit_at, last_commit, below_bound, selected, size_of, floor_of, is_empty, when, first_refusal, is_wrong_size, pruned_bits, pins_found, numbered_pins, commit_refusal, checks, opening_refusal, opening_of, opened_list, found, found_with}
+use Rattle.qm_model.specs.Own.{ArePrompt, Engine, OpensWhole, head_of, settled_list, any_engine, Log, no_log, ArePruned, taken_up, left_at, ended_size, ended_part, MetadataIs, IsStored, IsPartMade, IsKept, IsOwn, found_in, Takes, OpensParts}
 use Rattle.qm_model.proofs.Forms.{decoded-spelling}
 use Rattle.qm_model.proofs.Chains.{take-least, Begins-self, Begins-length, Begins-through}
 use Rattle.qm_model.proofs.Steps.{made-good}
 use Rattle.qm_model.proofs.OrderedSteps.{made-ordered}
+use Rattle.qm_model.proofs.Boundaries.{boundary-rises, may-go}
 use Rattle.qm_model.proofs.Prefixes.{unordered-begins, ordered-begins}
 
 -- What an opening finds.
@@ -184,9 +185,9 @@ begins_both a b xs low = subst (λ ys. Begins ys (take b xs)) (take-least a b xs
 -- Settled lists of made ones.
 
 -- the commit-ended beginnings of a kind's made lists are made, and their floors don't fall and are inside
-record Keeps {P : Type 0} (kind : Kind) (rules : Rules P) : Type 0 where
-  begins : (prefix ops : List Operation) → Made kind rules ops → Begins prefix ops → IsCommitEnded prefix → Made kind rules prefix × (floor prefix ≤ floor ops)
-  within : (ops : List Operation) → Made kind rules ops → floor ops < length ops
+pub record Keeps {P : Type 0} (kind : Kind) (rules : Rules P) : Type 0 where
+  pub begins : (prefix ops : List Operation) → Made kind rules ops → Begins prefix ops → IsCommitEnded prefix → Made kind rules prefix × (floor prefix ≤ floor ops)
+  pub within : (ops : List Operation) → Made kind rules ops → floor ops < length ops
 
 unordered-keeps : {P : Type 0} (rules : Rules P) → Keeps unordered rules
 unordered-keeps rules = record { begins = unordered-begins rules; within = λ ops made. (made-good rules ops made).floor_within }
@@ -368,12 +369,47 @@ module _ {P : Type 0} (e : Engine P) (log : Log) where
       let up = longest log.start k None l.ops (omega arith) few behind in
       subst (λ items. n ≤ size_of (last_commit log.start None items)) (sym l.are) (omega (arith, up, place))
 
--- Any databases of both kinds.
+-- A longer list's longest commit-ended beginning is no shorter.
+pub length-rises : (xs ys : List Operation) → Begins xs ys → length (ended_part xs) ≤ length (ended_part ys)
+length-rises xs ys front = cases (ended-part xs)
+  where
+    cases : IsPart xs (ended_size xs) → length (ended_part xs) ≤ length (ended_part ys)
+    cases (inl z) = let none : length (ended_part xs) ≡ 0 = ap (λ k. length (take k xs)) z in omega (arith, none)
+    cases (inr (some, less, ended)) =
+        let n = ended_size xs in
+        let same : take n xs ≡ take n ys = ap (take n) (sym front) ∙ take-least n (length xs) ys less in
+        let up : n ≤ ended_size ys = ended-longest ys n (le_trans less (Begins-length xs ys front)) (subst IsCommitEnded same ended) in
+        next up (ended-part ys) (length-take-le n xs less)
+      where
+        next : ended_size xs ≤ ended_size ys → IsPart ys (ended_size ys) → length (ended_part xs) ≡ ended_size xs → length (ended_part xs) ≤ length (ended_part ys)
+        next up (inl z) size = absurd (omega (arith, up, z, some))
+        next up (inr (more, inside, last_is)) size = let whole = length-take-le (ended_size ys) ys inside in omega (arith, up, size, whole)
 
-module _ {P : Type 0} {kind : Kind} {rules : Rules P} (keeps : Keeps kind rules) (hash : Bytes → Bytes) (form : Form) (shape : Shape) (digest_size : ℕ) where
+-- Databases of both kinds, with chunks or without.
+
+module _ {P : Type 0} {kind : Kind} {rules : Rules P} (keeps : Keeps kind rules) (hash : Bytes → Bytes) (layout : Layout) where
   abbrev own : Engine P
-  own = any_engine kind rules hash form shape digest_size
+  own = record { kind = kind; rules = rules; hash = hash; layout = layout }
 
+  -- where the settled list gets longer, as many chunks may be pruned
+  pruned-rises : (chunks : Option Chunks) (log : Log) (list : List Operation) (stable : ℕ) → floor (settled_list log) ≤ floor (ended_part (take stable list)) → length (settled_list log) ≤ length (ended_part (take stable list))
+      → ArePruned own chunks log → ArePruned own chunks (record log { list = list; stable = stable })
+  pruned-rises None log list stable low few is = tt
+  pruned-rises (Some c) log list stable low few is = (is.0, le_trans is.1 (boundary-rises layout.shape c.height (floor (settled_list log)) (floor (ended_part (take stable list))) (length (settled_list log)) (length (ended_part (take stable list))) low few))
+
+  -- as many as an opening accepts may be pruned of the list that it takes up
+  pruned-opened : (chunks : Option Chunks) (log : Log) (list : List Operation) → ArePrompt chunks layout.shape → ArePruned own chunks log → ended_part (take (length list) list) ≡ list
+      → nat_lt (length list) (pruned_bits chunks log.chunks) ≡ false → nat_lt (floor list) (pruned_bits chunks log.chunks) ≡ false → is_unabsorbed layout.shape chunks (length list) log.chunks ≡ false
+      → ArePruned own chunks (taken_up list log)
+  pruned-opened None log list prompt is same inside low absorbed = tt
+  pruned-opened (Some c) log list prompt is same inside low absorbed =
+      (is.0, subst (λ xs. log.chunks * 2 ^ c.height ≤ boundary layout.shape c.height xs) (sym same)
+      (may-go layout.shape c.height (floor list) (length list) log.chunks prompt (ltb-false (floor list) (log.chunks * 2 ^ c.height) low) (ltb-false (length list) (log.chunks * 2 ^ c.height) inside) absorbed))
+
+  -- and of a list for which none are
+  pruned-none : (chunks : Option Chunks) (log : Log) (list : List Operation) → ArePruned own chunks log → nat_lt 0 (pruned_bits chunks log.chunks) ≡ false → ArePruned own chunks (taken_up list log)
+  pruned-none None log list is none = tt
+  pruned-none (Some c) log list is none = (is.0, le_trans (ltb-false 0 (log.chunks * 2 ^ c.height) none) (omega arith))
   settled-begins : (log : Log) (kept : IsKept own log) → Begins (take log.stable log.list) kept.made.whole
   settled-begins log kept = Begins-through (take log.stable log.list) log.list kept.made.whole (begins_take log.stable log.list) kept.made.begins
 
@@ -391,78 +427,101 @@ module _ {P : Type 0} {kind : Kind} {rules : Rules P} (keeps : Keeps kind rules)
     whole = kept.made.whole;
     made = kept.made.made;
     begins = Begins-through (take n log.list) log.list kept.made.whole (begins_take n log.list) kept.made.begins;
-    of_form = All-take (IsOf form) n log.list kept.made.of_form;
+    of_form = All-take (IsOf layout.form) n log.list kept.made.of_form;
   }
 
-  crash-keeps : (log : Log) (to : ℕ) → IsKept own log → log.stable ≤ to → to ≤ length log.list → IsKept own (left_at to log)
-  crash-keeps log to kept low within = record {
-    made = part-made log to kept;
-    start =
-        let up = floor-rises keeps (take log.stable log.list) (take to log.list) kept.made.whole kept.made.made (begins_both log.stable to log.list low)
-        (Begins-through (take to log.list) log.list kept.made.whole (begins_take to log.list) kept.made.begins) in
-        subst (λ xs. log.start ≤ floor (ended_part xs)) (sym (take-least to to log.list (le_refl to))) (le_trans kept.start up);
-    stable = omega (arith, length-take-le to log.list within);
-    chunks = tt;
-  }
+  pub crash-keeps : (log : Log) (to : ℕ) → IsKept own log → log.stable ≤ to → to ≤ length log.list → IsKept own (left_at to log)
+  crash-keeps log to kept low within =
+      let same : take to (take to log.list) ≡ take to log.list = take-least to to log.list (le_refl to) in
+      let begins : Begins (take log.stable log.list) (take to log.list) = begins_both log.stable to log.list low in
+      let up = floor-rises keeps (take log.stable log.list) (take to log.list) kept.made.whole kept.made.made begins (Begins-through (take to log.list) log.list kept.made.whole (begins_take to log.list) kept.made.begins) in
+      let rise : floor (settled_list log) ≤ floor (ended_part (take to (take to log.list))) = subst (λ xs. floor (settled_list log) ≤ floor (ended_part xs)) (sym same) up in
+      let long : length (settled_list log) ≤ length (ended_part (take to (take to log.list))) = subst (λ xs. length (settled_list log) ≤ length (ended_part xs)) (sym same) (length-rises (take log.stable log.list) (take to log.list) begins) in
+      record {
+        made = part-made log to kept;
+        start = le_trans kept.start rise;
+        stable = omega (arith, length-take-le to log.list within);
+        chunks = pruned-rises layout.chunks log (take to log.list) to rise long kept.chunks;
+      }
 
-  cut-keeps : (log : Log) (n : ℕ) → IsKept own log → IsCommitEnded (take n log.list) → log.start ≤ floor (take n log.list) → IsKept own (taken_up (take n log.list) log)
-  cut-keeps log n kept ended low = record {
+  cut-keeps : (log : Log) (n : ℕ) → IsKept own log → IsCommitEnded (take n log.list) → log.start ≤ floor (take n log.list) → ArePruned own layout.chunks (taken_up (take n log.list) log) → IsKept own (taken_up (take n log.list) log)
+  cut-keeps log n kept ended low pruned = record {
     made = part-made log n kept;
     start = subst (λ xs. log.start ≤ floor xs) (sym (ap ended_part (take-length (take n log.list)) ∙ ended-whole (take n log.list) ended)) low;
     stable = le_refl (length (take n log.list));
-    chunks = tt;
+    chunks = pruned;
   }
 
-  fresh-keeps : (log : Log) → log.start ≤ 0 → IsKept own (taken_up fresh log)
-  fresh-keeps log low = record {
-    made = record { whole = fresh; made = first; begins = refl; of_form = All-from_recursion (IsOf form) fresh ((tt, omega arith), tt) };
+  fresh-keeps : (log : Log) → log.start ≤ 0 → ArePruned own layout.chunks (taken_up fresh log) → IsKept own (taken_up fresh log)
+  fresh-keeps log low pruned = record {
+    made = record { whole = fresh; made = first; begins = refl; of_form = All-from_recursion (IsOf layout.form) fresh ((tt, omega arith), tt) };
     start = low;
     stable = le_refl 1;
-    chunks = tt;
+    chunks = pruned;
   }
 
   bounded_zero : (bound : Option ℕ) → IfSome bound (λ b. 0 ≤ b)
   bounded_zero None = tt
   bounded_zero (Some b) = omega arith
 
-  takes : (log : Log) (bound : Option ℕ) (at : Option Selected) (r : Refused) → IsKept own log → selected (found_in own log) bound ≡ at
-      → option_map DataCorrupted (commit_refusal (is_empty (found_in own log)) at) ≡ None → when (nat_lt (floor_of at) log.start) r ≡ None → Takes own log bound (size_of at)
-  takes log bound None r kept is passed low =
-      record {
-        kept = fresh-keeps log (ltb-false 0 log.start (not_when _ r low));
-        part = inr (none_left log.start log.list (found_empty _ passed), refl);
-        ended = tt;
-        bounded = bounded_zero bound;
-        longest = λ n past less within ended. subst (λ at. n ≤ size_of at) is (selected-longest own log bound n past less within ended);
-      }
-  takes log bound (Some c) r kept is passed low =
-      let l = looks own log bound in
-      let t = from_last own log bound l c (start-within log kept) (last log.start None l.ops c (ap (last_commit log.start None) (sym l.are) ∙ is)) in
-      let list_is = opened_some c.size log.list t.some in
-      record {
-        kept = subst (λ xs. IsKept own (taken_up xs log)) (sym list_is) (cut-keeps log c.size kept t.ended (subst (λ k. log.start ≤ k) (sym t.floor_is) (ltb-false c.floor log.start (not_when _ r low))));
-        part = inl (subst (λ xs. Begins xs log.list) (sym list_is) (begins_take c.size log.list));
-        ended = subst IsCommitEnded (sym list_is) t.ended;
-        bounded = t.bounded;
-        longest = λ n past less within ended. subst (λ at. n ≤ size_of at) is (selected-longest own log bound n past less within ended);
-      }
+  -- the checks of a commit that is selected, but for its content
+  record ArePassed (log : Log) (at : Option Selected) : Type 0 where
+    commit_is : option_map DataCorrupted (commit_refusal (is_empty (found_in own log)) at) ≡ None
+    low : nat_lt (floor_of at) log.start ≡ false
+    inside : nat_lt (size_of at) (pruned_bits layout.chunks log.chunks) ≡ false
+    above : nat_lt (floor_of at) (pruned_bits layout.chunks log.chunks) ≡ false
+    absorbed : is_unabsorbed layout.shape layout.chunks (size_of at) log.chunks ≡ false
 
-  any-takes : OpensParts own
-  any-takes log bound size kept e =
-      let f = found_in own log in
-      let at = selected f bound in
-      let a = accepted (opening_refusal own.layout f bound) (size_of at) size e in
-      subst (Takes own log bound) a.1
-      (takes log bound at (HistoricalFloorPruned (size_of at)) kept refl (all_pass (checks own.layout f bound) 3 a.0) (all_pass (checks own.layout f bound) 4 a.0))
+  module _ (prompt : ArePrompt layout.chunks layout.shape) where
+    takes : (log : Log) (bound : Option ℕ) (at : Option Selected) → IsKept own log → selected (found_in own log) bound ≡ at → ArePassed log at → Takes own log bound (size_of at)
+    takes log bound None kept is passed =
+        record {
+          kept = fresh-keeps log (ltb-false 0 log.start passed.low) (pruned-none layout.chunks log fresh kept.chunks passed.inside);
+          part = inr (none_left log.start log.list (found_empty _ passed.commit_is), refl);
+          ended = tt;
+          bounded = bounded_zero bound;
+          longest = λ n past less within ended. subst (λ at. n ≤ size_of at) is (selected-longest own log bound n past less within ended);
+        }
+    takes log bound (Some c) kept is passed =
+        let l = looks own log bound in
+        let t = from_last own log bound l c (start-within log kept) (last log.start None l.ops c (ap (last_commit log.start None) (sym l.are) ∙ is)) in
+        let list_is = opened_some c.size log.list t.some in
+        let list = take c.size log.list in
+        let size : c.size ≡ length list = sym (length-take-le c.size log.list t.within) in
+        let whole : ended_part (take (length list) list) ≡ list = ap ended_part (take-length list) ∙ ended-whole list t.ended in
+        let pruned : ArePruned own layout.chunks (taken_up list log) =
+        pruned-opened layout.chunks log list prompt kept.chunks whole (subst (λ n. nat_lt n (pruned_bits layout.chunks log.chunks) ≡ false) size passed.inside)
+        (subst (λ f. nat_lt f (pruned_bits layout.chunks log.chunks) ≡ false) (sym t.floor_is) passed.above) (subst (λ n. is_unabsorbed layout.shape layout.chunks n log.chunks ≡ false) size passed.absorbed) in
+        record {
+          kept = subst (λ xs. IsKept own (taken_up xs log)) (sym list_is) (cut-keeps log c.size kept t.ended (subst (λ k. log.start ≤ k) (sym t.floor_is) (ltb-false c.floor log.start passed.low)) pruned);
+          part = inl (subst (λ xs. Begins xs log.list) (sym list_is) (begins_take c.size log.list));
+          ended = subst IsCommitEnded (sym list_is) t.ended;
+          bounded = t.bounded;
+          longest = λ n past less within ended. subst (λ at. n ≤ size_of at) is (selected-longest own log bound n past less within ended);
+        }
 
-  -- what a crash leaves of an own store is one, of a beginning of its list
-  any-image : (log : Log) (s image : Stored) → IsOwn own log s → (i : IsImage s image) → IsOwn own (left_at i.to log) image
-  any-image log s image is i = record {
+    pub parts-taken : OpensParts own
+    parts-taken log bound size kept e =
+        let f = found_in own log in
+        let at = selected f bound in
+        let a = accepted (opening_refusal own.layout f bound) (size_of at) size e in
+        let pass : (k : ℕ) → slice_index_or (checks own.layout f bound) k None ≡ None = λ k. all_pass (checks own.layout f bound) k a.0 in
+        subst (Takes own log bound) a.1 (takes log bound at kept refl (record {
+          commit_is = pass 3;
+          low = not_when _ (HistoricalFloorPruned (size_of at)) (pass 4);
+          inside = not_when _ (HistoricalFloorPruned (size_of at)) (pass 2);
+          above = not_when _ (HistoricalFloorPruned (size_of at)) (pass 5);
+          absorbed = not_when _ (HistoricalFloorPruned (size_of at)) (pass 6);
+        }))
+
+  -- what a crash leaves of an own store is one, of a beginning of its list, whose pins the metadata has
+  pub image-own : (log : Log) (s image : Stored) → IsOwn own log s → (i : IsImage s image) → MetadataIs own layout.chunks (left_at i.to log) image → IsOwn own (left_at i.to log) image
+  image-own log s image is i metadata = record {
     stored = record {
       start = ap (λ t. t.start) i.same ∙ stored.start;
       items = ap (λ t. t.items) i.same ∙ items;
-      head = ap (λ t. t.head) i.same ∙ (stored.head ∙ ap (λ xs. concat (pins_at hash shape form xs log.start)) (sym (take-least log.start i.to log.list start_to)));
-      metadata = stored.metadata;
+      head = ap (λ t. t.head) i.same ∙ (stored.head ∙ ap (λ xs. concat (pins_at hash layout.shape layout.form xs log.start)) (sym (take-least log.start i.to log.list start_to)));
+      metadata = metadata;
       stable = ap (λ t. t.stable) i.same;
     };
     kept = crash-keeps log i.to is.kept low within;
@@ -481,15 +540,31 @@ module _ {P : Type 0} {kind : Kind} {rules : Rules P} (keeps : Keeps kind rules)
       size =
           let fits = start-within log is.kept in
           ap (λ n. n + length s.items) stored.start ∙ (ap (λ xs. log.start + length xs) stored.items
-          ∙ omega (arith, fits, length-map (drop log.start log.list) (spelling form), length-drop log.start log.list))
+          ∙ omega (arith, fits, length-map (drop log.start log.list) (spelling layout.form), length-drop log.start log.list))
 
       within : i.to ≤ length log.list
       within = subst (λ n. i.to ≤ n) size i.may.within
 
-      items : take (i.to - s.start) s.items ≡ map (spelling form) (drop log.start (take i.to log.list))
+      items : take (i.to - s.start) s.items ≡ map (spelling layout.form) (drop log.start (take i.to log.list))
       items =
-          ap (λ n. take (i.to - n) s.items) stored.start ∙ (ap (take (i.to - log.start)) stored.items ∙ (take-map (spelling form) (i.to - log.start) (drop log.start log.list)
-          ∙ ap (map (spelling form)) (sym (drop-take log.start (i.to - log.start) log.list) ∙ ap (λ k. drop log.start (take k log.list)) (omega (arith, start_to)))))
+          ap (λ n. take (i.to - n) s.items) stored.start ∙ (ap (take (i.to - log.start)) stored.items ∙ (take-map (spelling layout.form) (i.to - log.start) (drop log.start log.list)
+          ∙ ap (map (spelling layout.form)) (sym (drop-take log.start (i.to - log.start) log.list) ∙ ap (λ k. drop log.start (take k log.list)) (omega (arith, start_to)))))
+
+-- Any databases of both kinds.
+
+-- how they lie in a store
+abbrev without_chunks : Form → Shape → ℕ → Layout
+without_chunks form shape digest_size = record { form = form; shape = shape; digest_size = digest_size; chunks = None }
+
+module _ {P : Type 0} {kind : Kind} {rules : Rules P} (keeps : Keeps kind rules) (hash : Bytes → Bytes) (form : Form) (shape : Shape) (digest_size : ℕ) where
+  abbrev plain : Engine P
+  plain = any_engine kind rules hash form shape digest_size
+
+  any-takes : OpensParts plain
+  any-takes = parts-taken keeps hash (without_chunks form shape digest_size) tt
+
+  any-image : (log : Log) (s image : Stored) → IsOwn plain log s → (i : IsImage s image) → IsOwn plain (left_at i.to log) image
+  any-image log s image is i = image-own keeps hash (without_chunks form shape digest_size) log s image is i is.stored.metadata
 
 -- An opening without a bound.
 
@@ -597,7 +672,7 @@ module _ {P : Type 0} {kind : Kind} {rules : Rules P} (keeps : Keeps kind rules)
     settled (inl z) = inl z
     settled (inr (some, less, ended)) =
         let n = settled_size log in
-        let is_made = (keeps.begins (settled_list log) kept.made.whole kept.made.made (Begins-through (settled_list log) (take log.stable log.list) kept.made.whole (begins_take n (take log.stable log.list)) (settled-begins keeps hash form shape digest_size log kept)) ended).0 in
+        let is_made = (keeps.begins (settled_list log) kept.made.whole kept.made.made (Begins-through (settled_list log) (take log.stable log.list) kept.made.whole (begins_take n (take log.stable log.list)) (settled-begins keeps hash (without_chunks form shape digest_size) log kept)) ended).0 in
         let low = keeps.within (settled_list log) is_made in
         let start = kept.start in
         let size = length-take-le log.stable log.list kept.stable in
@@ -630,7 +705,7 @@ module _ {P : Type 0} {kind : Kind} {rules : Rules P} (keeps : Keeps kind rules)
         (ap (λ b. option_map DataCorrupted (commit_refusal b None)) found_bare, omega (arith, at))
     commits (Some c) is =
         let l = looks whole log None in
-        let t = from_last whole log None l c (start-within keeps hash form shape digest_size log kept) (last log.start None l.ops c (ap (last_commit log.start None) (sym l.are) ∙ is)) in
+        let t = from_last whole log None l c (start-within keeps hash (without_chunks form shape digest_size) log kept) (last log.start None l.ops c (ap (last_commit log.start None) (sym l.are) ∙ is)) in
         let begins = Begins-through (take c.size log.list) log.list kept.made.whole (begins_take c.size log.list) kept.made.begins in
         let is_made = (keeps.begins (take c.size log.list) kept.made.whole kept.made.made begins t.ended).0 in
         let low = keeps.within (take c.size log.list) is_made in
@@ -654,7 +729,7 @@ module _ {P : Type 0} {kind : Kind} {rules : Rules P} (keeps : Keeps kind rules)
         ap (λ n. is_ring (filter_map (λ item. item) (drop n (take n (map (λ (op : Operation). Some op) (drop log.start log.list)))))) none
     found-ring rings (Some c) is low =
         let l = looks whole log None in
-        let t = from_last whole log None l c (start-within keeps hash form shape digest_size log kept) (last log.start None l.ops c (ap (last_commit log.start None) (sym l.are) ∙ is)) in
+        let t = from_last whole log None l c (start-within keeps hash (without_chunks form shape digest_size) log kept) (last log.start None l.ops c (ap (last_commit log.start None) (sym l.are) ∙ is)) in
         let begins = Begins-through (take c.size log.list) log.list kept.made.whole (begins_take c.size log.list) kept.made.begins in
         let is_made = (keeps.begins (take c.size log.list) kept.made.whole kept.made.made begins t.ended).0 in
         let inside = keeps.within (take c.size log.list) is_made in
@@ -739,3 +814,17 @@ module _ {P : Type 0} (rules : Rules P) (hash : Bytes → Bytes) (form : Form) (
   pub ordered-whole : (log : Log) → IsKept (any_engine ordered rules hash form shape digest_size) log
       → length (head_of (any_engine ordered rules hash form shape digest_size) log) ≡ digest_size * length (peaks shape log.start) → OpensWhole (any_engine ordered rules hash form shape digest_size) log
   ordered-whole log kept pinned = opens-whole (ordered-keeps rules) hash form shape digest_size log kept (inr (λ ops made. ring-from ops (made-ordered rules ops made))) pinned
+
+-- Of a layout with chunks or without.
+module _ {P : Type 0} (rules : Rules P) (hash : Bytes → Bytes) (layout : Layout) where
+  pub unordered-parts : ArePrompt layout.chunks layout.shape → OpensParts (record { kind = unordered; rules = rules; hash = hash; layout = layout })
+  unordered-parts = parts-taken (unordered-keeps rules) hash layout
+
+  pub ordered-parts : ArePrompt layout.chunks layout.shape → OpensParts (record { kind = ordered; rules = rules; hash = hash; layout = layout })
+  ordered-parts = parts-taken (ordered-keeps rules) hash layout
+
+  pub unordered-left : (log : Log) (to : ℕ) → IsKept (record { kind = unordered; rules = rules; hash = hash; layout = layout }) log → log.stable ≤ to → to ≤ length log.list → IsKept (record { kind = unordered; rules = rules; hash = hash; layout = layout }) (left_at to log)
+  unordered-left = crash-keeps (unordered-keeps rules) hash layout
+
+  pub ordered-left : (log : Log) (to : ℕ) → IsKept (record { kind = ordered; rules = rules; hash = hash; layout = layout }) log → log.stable ≤ to → to ≤ length log.list → IsKept (record { kind = ordered; rules = rules; hash = hash; layout = layout }) (left_at to log)
+  ordered-left = crash-keeps (ordered-keeps rules) hash layout

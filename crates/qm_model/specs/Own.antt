@@ -1,12 +1,12 @@
 -- Own stores: those that a database of one kind, family and spelling leaves.
-use Rattle.std.specs.Prelude.{◌≡◌, ◌⊎◌, ◌≤◌, ◌<◌, ℕ, ◌*◌, ◌/◌, ◌^◌, List, [], length, map, take, drop, All, Option, None, Some, IfSome, ⊤}
+use Rattle.std.specs.Prelude.{◌≡◌, ◌⊎◌, ◌≤◌, ◌<◌, ℕ, suc, ◌*◌, ◌/◌, ◌^◌, List, [], length, map, take, drop, All, Option, None, Some, IfSome, ⊤}
 use Rattle.std.specs.List.{concat}
 use Rattle.qm_model.specs.Operations.{Bytes, Operation, fresh, IsCommitEnded}
 use Rattle.qm_model.specs.Forms.{Form, IsOf, spelling}
 use Rattle.qm_model.specs.Live.{floor}
 use Rattle.qm_model.specs.Trees.{Shape}
 use Rattle.qm_model.specs.Proofs.{pins_at}
-use Rattle.qm_model.specs.Grafted.{boundary, grafted_pins}
+use Rattle.qm_model.specs.Grafted.{boundary, chunk_node, pair_absorption_threshold, grafted_pins}
 use Rattle.qm_model.specs.Walk.{Rules}
 use Rattle.qm_model.specs.Step.{Kind, Made}
 use Rattle.qm_model.specs.Batches.{Begins}
@@ -36,6 +36,11 @@ pub record Log : Type 0 where
 -- the empty store
 abbrev pub no_log : Log
 no_log = record { list = []; start = 0; chunks = 0; stable = 0 }
+
+-- no node over a chunk waits whose pair is born with its last location
+abbrev pub ArePrompt : Option Chunks → Shape → Type 0
+ArePrompt None shape = ⊤
+ArePrompt (Some c) shape = (k : ℕ) → pair_absorption_threshold shape c.height (suc k) ≡ None → shape.birth (chunk_node c.height k) ≤ suc k * 2 ^ c.height
 
 -- after an opening that takes up this list
 abbrev pub taken_up : List Operation → Log → Log

@@ -1,10 +1,10 @@
 -- Why a database refuses, by its operation list alone.
-use Rattle.std.specs.Prelude.{ℕ, zero, suc, ◌-◌, ◌^◌, min, nat_lt, if◌then◌else◌, List, [], ◌∷◌, length, map, slice_get, Option, Some, None, option_map, option_and_then}
+use Rattle.std.specs.Prelude.{ℕ, zero, suc, ◌-◌, ◌/◌, ◌^◌, min, nat_lt, if◌then◌else◌, List, [], ◌∷◌, length, map, slice_get, Option, Some, None, option_map, option_and_then}
 use Rattle.std.specs.Option.{option_or}
 use Rattle.qm_model.specs.Operations.{Bytes, Operation, update, delete, commit}
 use Rattle.qm_model.specs.Forms.{Form, spelling}
 use Rattle.qm_model.specs.Batches.{Chain, own_operations}
-use Rattle.qm_model.specs.Refused.{Refused, HistoricalFloorPruned, DataCorrupted, Merkle, Journal, FloorExceedsCommit, RangeOutOfBounds, LocationOverflow, ItemPruned, ItemTooLarge}
+use Rattle.qm_model.specs.Refused.{Refused, HistoricalFloorPruned, DataCorrupted, Merkle, Journal, OperationPruned, FloorExceedsCommit, RangeOutOfBounds, LocationOverflow, ItemPruned, ItemTooLarge}
 
 -- the most bytes of a spelling
 abbrev pub max_spelling : ℕ
@@ -64,3 +64,11 @@ proof_count size start max = min max (size - start)
 -- why there are no pins at n
 abbrev pub pins_refusal : List Operation → ℕ → Option Refused
 pins_refusal list n = if nat_lt (length list) n then Some (Merkle (RangeOutOfBounds n)) else None
+
+-- why there is no range proof from `start` on, over bits of which so many chunks are pruned, and a log that has the items from
+-- `kept` on; a chunk has 2 ^ g locations
+abbrev pub range_refusal : ℕ → ℕ → ℕ → List Operation → ℕ → Option Refused
+range_refusal g chunks kept list start =
+    if nat_lt start (length list)
+    then (if nat_lt (start / 2 ^ g) chunks then Some (OperationPruned start) else item_refusal kept start)
+    else Some (Merkle (RangeOutOfBounds start))

@@ -38,6 +38,11 @@ pub data Refused : Type 0 where
   InvalidInitializationBound : Refused
   StaleBatch : Refused
   StaleRead : Refused
+  -- a key that was to be proved has no value, or one that was to be proved absent has one
+  KeyNotFound : Refused
+  KeyExists : Refused
+  -- a location whose chunk of activity bits is pruned
+  OperationPruned : ℕ → Refused
   -- where a list was to be pruned to, and up to where it may be
   PruneBeyondMinRequired : ℕ → ℕ → Refused
   HistoricalFloorPruned : ℕ → Refused
