@@ -57,6 +57,10 @@ abbrev pub AreStacked : ℕ → List Overlay → Bitmap → Type 0
 AreStacked size [] base = ⊤
 AreStacked size (overlay ∷ newer) base = (bit_count size base ≤ overlay.count) × AreStacked size newer (laid size overlay base)
 
+-- the step changes no chunk before this one
+abbrev pub IsFrom : ℕ → Overlay → Type 0
+IsFrom least overlay = (c : ℕ) → c < least → changed_at overlay.changed c ≡ None
+
 -- behind the last bit, the changed chunks have clear ones
 abbrev pub IsClearBehind : ℕ → Overlay → Type 0
 IsClearBehind size overlay = (c : ℕ) (bits : List Bool) → changed_at overlay.changed c ≡ Some bits → (i : ℕ) → i < 8 * size → overlay.count ≤ c * (8 * size) + i → slice_index_or bits i false ≡ false

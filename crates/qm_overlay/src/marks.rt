@@ -2,7 +2,7 @@
 
 ghost use Rattle.std.specs.Prelude.{◌≡◌, ◌^◌, ◌≤◌, true, false, ⊤, set, OnOk, OnErr};
 ghost use Rattle.qm_bits.specs.Bitmaps.{Bitmap, start, bit_count, all_bits};
-ghost use Rattle.qm_overlay.specs.Layers.{laid, longer};
+ghost use Rattle.qm_overlay.specs.Layers.{laid, longer, IsFrom};
 
 use crate::overlay::ChunkOverlay;
 use qm_bits::{Chunks, Prunable, Readable};
@@ -89,13 +89,13 @@ pub(crate) struct Laying<'a, N: Chunks, B: Readable<N>> {
 impl<'a, N: Chunks, B: Readable<N>> Model for Laying<'a, N, B> {
     ghost use Rattle.std.specs.Prelude.{◌≤◌};
     ghost use Rattle.qm_bits.specs.Bitmaps.{bit_count};
-    ghost use Rattle.qm_overlay.specs.Layers.{Laid};
+    ghost use Rattle.qm_overlay.specs.Layers.{Laid, IsFrom};
 
     ghost Value = { Laid };
 
     ghost view = { λ l. record { base = B.bitmap l.base.now; overlay = l.overlay } };
 
-    ghost invariant = { λ l. bit_count N.LEN (B.bitmap l.base.now) ≤ l.overlay.count };
+    ghost invariant = { λ l. (bit_count N.LEN (B.bitmap l.base.now) ≤ l.overlay.count) × IsFrom (B.bitmap l.base.now).pruned l.overlay };
 }
 
 impl<'a, N: Chunks, B: Readable<N>> Laying<'a, N, B> {
@@ -116,6 +116,7 @@ impl<'a, N: Chunks, B: Readable<N>> Laying<'a, N, B> {
     pub(crate) fn into_overlay(self) -> ChunkOverlay<N>
         ensures value { result ≡ self.entry.overlay }
         ensures not_below { bit_count N.LEN self.entry.base ≤ result.count }
+        ensures from { IsFrom self.entry.base.pruned result }
     {
         self.overlay
     }

@@ -1,10 +1,10 @@
 //! The chunks that one step changes.
 
-ghost use Rattle.std.specs.Prelude.{◌≡◌, ◌≢◌, ℕ, ◌^◌, ◌+◌, ◌-◌, ◌*◌, ◌/◌, ◌%◌, ◌<◌, ◌≤◌, true, false, [], ◌++◌, Some, set, length, replicate, slice_index_or, IsSome, IfSome, IfOk, OnOk, OnErr};
+ghost use Rattle.std.specs.Prelude.{◌≡◌, ◌≢◌, ℕ, map, ◌^◌, ◌+◌, ◌-◌, ◌*◌, ◌/◌, ◌%◌, ◌<◌, ◌≤◌, true, false, [], ◌++◌, Some, set, length, replicate, slice_index_or, IsSome, IfSome, IfOk, OnOk, OnErr};
 ghost use Rattle.std.specs.Option.{option_map};
 ghost use Rattle.qm_model.specs.Bits.{packed};
 ghost use Rattle.qm_bits.specs.Bitmaps.{Bitmap, start, bit_count, all_bits};
-ghost use Rattle.qm_overlay.specs.Layers.{Overlay, changed_at, bit_over, laid, longer, IsClearBehind};
+ghost use Rattle.qm_overlay.specs.Layers.{Overlay, changed_at, bit_over, laid, longer, IsClearBehind, IsFrom};
 
 use crate::apply::write_chunk;
 use crate::chunk::Chunk;
@@ -58,6 +58,7 @@ impl<N: Chunks> ChunkOverlay<N> {
         requires not_below { self.old.count ≤ len }
         requires bounded { len ≤ 2 ^ 62 }
         ensures count { self.new.count ≡ len }
+        ensures from { (least : ℕ) → IsFrom least self.old → IsFrom least self.new }
         ensures bits { (base : Bitmap) → bit_count N.LEN base ≤ self.old.count → laid N.LEN self.new base ≡ longer N.LEN (laid N.LEN self.old base) len }
     {
         self.len = len;
@@ -79,6 +80,18 @@ impl<N: Chunks> ChunkOverlay<N> {
             Some(bits) => Some(bits.bytes()),
             None => None,
         }
+    }
+
+    /// The numbers of the chunks that the step changes, in order. Want of memory is the only error.
+    pub fn chunks(&self, alloc: Global) -> Result<Vec<u64>, AllocError>
+        ensures items { IfOk result (λ v. v.items ≡ map (λ e. e.0) self.now.changed) }
+        ensures clear { IsClearBehind N.LEN self.now }
+    {
+        let mut found = Vec::with_capacity(alloc, self.changed.len())?;
+        for (at, _) in &self.changed {
+            found.push(*at as u64)?;
+        }
+        Ok(found)
     }
 
     // The bit at a place, where the step changes its chunk.
@@ -110,6 +123,7 @@ impl<N: Chunks> ChunkOverlay<N> {
         requires within { at < self.old.count }
         requires held { IsSome (changed_at self.old.changed (at / (8 * N.LEN))) }
         ensures count { self.new.count ≡ self.old.count }
+        ensures from { (least : ℕ) → IsFrom least self.old → IsFrom least self.new }
         ensures bits { (base : Bitmap) → start N.LEN base ≤ at → all_bits N.LEN (laid N.LEN self.new base) ≡ set (all_bits N.LEN (laid N.LEN self.old base)) at value }
     {
         let span = N::span();
@@ -133,6 +147,7 @@ impl<N: Chunks> ChunkOverlay<N> {
         ensures count { self.new.count ≡ self.old.count }
         ensures held { OnOk result (IsSome (changed_at self.new.changed chunk)) }
         ensures same { laid N.LEN self.new (B.bitmap base.now) ≡ laid N.LEN self.old (B.bitmap base.now) }
+        ensures from { (least : ℕ) → least ≤ chunk → IsFrom least self.old → IsFrom least self.new }
         ensures err { OnErr result (self.new ≡ self.old) }
     {
         if self.changed.contains_key(&chunk) {
@@ -155,6 +170,7 @@ impl<N: Chunks> ChunkOverlay<N> {
         ensures count { self.new.count ≡ self.old.count }
         ensures kept { start N.LEN (B.bitmap base.now) ≤ at → OnOk result (all_bits N.LEN (laid N.LEN self.new (B.bitmap base.now)) ≡ set (all_bits N.LEN (laid N.LEN self.old (B.bitmap base.now))) at value) }
         ensures pruned { at < start N.LEN (B.bitmap base.now) → self.new ≡ self.old }
+        ensures from { IsFrom (B.bitmap base.now).pruned self.old → IsFrom (B.bitmap base.now).pruned self.new }
         ensures err { OnErr result (self.new ≡ self.old) }
     {
         let chunk = (at / N::span()) as usize;
@@ -178,6 +194,7 @@ impl<N: Chunks> ChunkOverlay<N> {
         ensures count { self.new.count ≡ self.old.count }
         ensures bits { start N.LEN (B.bitmap base.now) ≤ at → OnOk result (all_bits N.LEN (laid N.LEN self.new (B.bitmap base.now)) ≡ set (all_bits N.LEN (laid N.LEN self.old (B.bitmap base.now))) at true) }
         ensures pruned { at < start N.LEN (B.bitmap base.now) → self.new ≡ self.old }
+        ensures from { IsFrom (B.bitmap base.now).pruned self.old → IsFrom (B.bitmap base.now).pruned self.new }
         ensures err { OnErr result (self.new ≡ self.old) }
     {
         self.change(alloc, base, at, true)
@@ -195,6 +212,7 @@ impl<N: Chunks> ChunkOverlay<N> {
         ensures count { self.new.count ≡ self.old.count }
         ensures bits { OnOk result (all_bits N.LEN (laid N.LEN self.new (B.bitmap base.now)) ≡ set (all_bits N.LEN (laid N.LEN self.old (B.bitmap base.now))) at false) }
         ensures pruned { at < start N.LEN (B.bitmap base.now) → self.new ≡ self.old }
+        ensures from { IsFrom (B.bitmap base.now).pruned self.old → IsFrom (B.bitmap base.now).pruned self.new }
         ensures err { OnErr result (self.new ≡ self.old) }
     {
         self.change(alloc, base, at, false)

@@ -7,7 +7,7 @@ ghost use Rattle.qm_model.specs.Operations.{Operation, IsCommitEnded};
 ghost use Rattle.qm_bits.specs.Bitmaps.{start, all_bits, bit_count};
 ghost use Rattle.qm_step.specs.Changes.{AreChanges, LeadTo};
 ghost use Rattle.qm_step.specs.Views.{changes_view};
-ghost use Rattle.qm_overlay.specs.Layers.{laid};
+ghost use Rattle.qm_overlay.specs.Layers.{laid, IsFrom};
 ghost use Rattle.qm_overlay.specs.Marks.{HasLive, IsAlike, cleared, marked};
 
 use crate::marks::{Laying, Marks};
@@ -54,6 +54,7 @@ pub fn overlay_of<F, K: ByteString, V: ByteString, N: Chunks, B: Readable<N>>(
     requires not_below { bit_count N.LEN (B.bitmap base.now) ≤ size }
     requires few { size ≤ 2 ^ 62 }
     ensures count { IfOk result (λ overlay. overlay.count ≡ size) }
+    ensures from { IfOk result (IsFrom (B.bitmap base.now).pruned) }
     ensures active { (from tip : List Operation) → LeadTo (map (λ d. changes_view K.bytes V.bytes d.value) diffs.now) from tip → IsCommitEnded from → size ≡ length tip → all_bits N.LEN (B.bitmap base.now) ≡ bits from
         → IfOk result (λ overlay. all_bits N.LEN (laid N.LEN overlay (B.bitmap base.now)) ≡ bits tip) }
 {

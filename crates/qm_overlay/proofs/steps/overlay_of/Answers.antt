@@ -2,7 +2,7 @@ use Rattle.std.proofs.Common.{ap, arith, ◌∙◌, ◌≤◌, ap₂, sym, subst
 use Rattle.qm_overlay.proofs.Laying.{count-laid}
 use Rattle.std.proofs.lemmas.Result.{IfOk-from_err}
 use Rattle.qm_bits.specs.Bitmaps.{all_bits, bit_count}
-use Rattle.qm_overlay.specs.Layers.{laid}
+use Rattle.qm_overlay.specs.Layers.{laid, IsFrom}
 use Rattle.qm_overlay.proofs.steps.overlay_of.Goals as goal
 
 pub returns : goal.returns
@@ -15,6 +15,7 @@ returns g c = record {
       let least = c.into_overlay.ensures.not_below in
       let count = count-laid size now.overlay now.base (omega (arith, same, least)) in
       omega (arith, total, same, count);
+  from = subst (λ m. IsFrom m.pruned c.into_overlay.result) (c.in_ok-apply_bits.ensures.below ∙ c.new-laying.ensures.base) c.into_overlay.ensures.from;
   active = λ from tip lead ended long is.
       let size = g.N.Chunks.LEN in
       ap₂ (λ o b. all_bits size (laid size o b)) c.into_overlay.ensures.value (sym (c.in_ok-apply_bits.ensures.below ∙ c.new-laying.ensures.base))
@@ -24,6 +25,7 @@ returns g c = record {
 pub returns-in_err-apply_bits : goal.returns-in_err-apply_bits
 returns-in_err-apply_bits g c = record {
   count = IfOk-from_err c.from_residual.result _ c.from_residual.ensures.0;
+  from = IfOk-from_err c.from_residual.result _ c.from_residual.ensures.0;
   active = λ from tip lead ended long is. IfOk-from_err c.from_residual.result _ c.from_residual.ensures.0;
 }
 

@@ -14,6 +14,7 @@ returns-then-chunk-pruned_chunks g c = record {
       let low = place_pruned g.N.Chunks.LEN (g.B.Readable.bitmap c.args.base.now) c.span.result c.args.at c.span.ensures (some_bits g.N.Chunks.LEN g.met.N.Chunks.least) (omega (arith, c.if-chunk-pruned_chunks.true, c.pruned_chunks.ensures)) in
       absurd (omega arith);
   pruned = λ low. refl;
+  from = λ is. is;
   err = tt;
 }
 
@@ -28,6 +29,7 @@ returns-in_err-hold g c = record {
   count = c.hold.ensures.count;
   kept = λ from. ok_of_err _ c.from_residual.result c.from_residual.ensures.0;
   pruned = λ low. c.in_err-hold.ensures.err;
+  from = λ is. c.hold.ensures.from (g.B.Readable.bitmap c.args.base.now).pruned (subst (λ p. p ≤ c.args.at / c.span.result) c.pruned_chunks.ensures c.if-chunk-pruned_chunks.false) is;
   err = on_err c.from_residual.result c.in_err-hold.ensures.err;
 }
 
@@ -44,5 +46,6 @@ returns g c = record {
   pruned = λ low.
       let from = place_kept g.N.Chunks.LEN (g.B.Readable.bitmap c.args.base.now) c.span.result c.args.at c.span.ensures (some_bits g.N.Chunks.LEN g.met.N.Chunks.least) (subst (λ p. p ≤ c.args.at / c.span.result) c.pruned_chunks.ensures c.if-chunk-pruned_chunks.false) in
       absurd (omega arith);
+  from = λ is. c.put.ensures.from (g.B.Readable.bitmap c.args.base.now).pruned (c.hold.ensures.from (g.B.Readable.bitmap c.args.base.now).pruned (subst (λ p. p ≤ c.args.at / c.span.result) c.pruned_chunks.ensures c.if-chunk-pruned_chunks.false) is);
   err = tt;
 }

@@ -1,8 +1,8 @@
-use Rattle.std.proofs.Common.{◌≡◌, ◌∙◌, ◌≤◌, ap, refl, sym, subst, IsSome, false}
+use Rattle.std.proofs.Common.{◌≡◌, ◌∙◌, ◌≤◌, ap, refl, sym, subst, arith, None, IsSome, false}
 use Rattle.std.specs.Option.{is_some}
 use Rattle.std.proofs.lemmas.Result.{on_err_weaker, on_ok_weaker}
 use Rattle.qm_bits.specs.Bitmaps.{bit_count}
-use Rattle.qm_overlay.specs.Layers.{Overlay, IsClearBehind, changed_at, laid}
+use Rattle.qm_overlay.specs.Layers.{Overlay, IsClearBehind, IsFrom, changed_at, laid}
 use Rattle.qm_overlay.proofs.Laying.{some_bits, hold_same, hold_clear, none_there, either, ok_of_err, on_err, on_ok_both}
 use Rattle.qm_overlay.proofs.overlay.ChunkOverlay.hold.Goals as goal
 
@@ -14,6 +14,7 @@ returns-in_err-bits g c = record {
   count = refl;
   held = ok_of_err _ c.from_residual.result c.from_residual.ensures.0;
   same = refl;
+  from = λ least low is. is;
   err = on_err c.from_residual.result refl;
 }
 
@@ -48,6 +49,10 @@ returns g c =
           hold_same g.N.Chunks.LEN base old new c.args.chunk c.in_ok-bits.bits (some_bits g.N.Chunks.LEN g.met.N.Chunks.least) refl least (none_there (changed_at old.changed c.args.chunk) absent) here other c.in_ok-bits.ensures
           ∙ ap (λ o. laid g.N.Chunks.LEN o base) c.self.view_is))
           (on_err_weaker c.insert_in.result (ap (λ o. laid g.N.Chunks.LEN o base)) left);
+      from = λ least low is.
+          either c.insert_in.result
+          (on_ok_weaker c.insert_in.result (λ other k lt. other k (λ same. omega (arith, lt, low, same)) ∙ subst (λ o. changed_at o.changed k ≡ None) (sym c.self.view_is) (is k lt)) c.insert_in.ensures.other)
+          (on_err_weaker c.insert_in.result (λ same. subst (IsFrom least) (sym same) is) left);
       err = left;
     }
 
@@ -56,5 +61,6 @@ returns-then-contains_key g c = record {
   count = refl;
   held = subst (λ o. IsSome (changed_at o.changed c.args.chunk)) c.self.view_is (sym c.contains_key.ensures ∙ c.if-contains_key.true);
   same = refl;
+  from = λ least low is. is;
   err = tt;
 }
