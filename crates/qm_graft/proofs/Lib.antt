@@ -1,7 +1,7 @@
-mod Begun
+pub mod Begun
 mod Peaks
-mod Rooting
+pub mod Rooting
 mod Following
-mod Fitting
+pub mod Fitting
 mod There
 mod Viewing

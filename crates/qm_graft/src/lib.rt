@@ -4,6 +4,7 @@
 pub mod grafted;
 pub mod places;
 pub mod root;
+pub mod step;
 pub mod tree;
 pub mod trees;
 pub mod view;
