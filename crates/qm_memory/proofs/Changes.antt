@@ -1,5 +1,5 @@
 -- What a store in memory notes of its calls tells each earlier state.
-use Rattle.std.proofs.Common.{◌≡◌, ◌∙◌, ℕ, suc, ◌+◌, ◌-◌, ◌<◌, ◌≤◌, Bool, true, false, List, [], ◌∷◌, ◌++◌, length, take, get_or, refl, sym, ap, ap₂, subst, arith, append-nil, Option, Some, None}
+use Rattle.std.proofs.Common.{◌≡◌, ◌∙◌, ℕ, suc, ◌+◌, ◌-◌, ◌<◌, ◌≤◌, Bool, true, false, List, [], ◌∷◌, ◌++◌, length, take, drop, min, get_or, refl, sym, ap, ap₂, subst, arith, append-nil, Option, Some, None}
 use Rattle.std.specs.Prelude.{All, bytes_eq, filter, not, slice_get}
 use Rattle.std.specs.List.{insert, remove}
 use Rattle.std.proofs.lemmas.List.{take_all, take-append-drop, length-append}
@@ -10,9 +10,8 @@ use Rattle.std.proofs.lemmas.Option.{slice_get_read}
 use Rattle.std.proofs.lemmas.List.Elements.{All-filter, filter_passes, All-tail}
 use Rattle.std.proofs.lemmas.Slice.Eq.{bytes_eq-Decides}
 use Rattle.qm_model.specs.Operations.{Bytes}
-use Rattle.qm_model.specs.StoreModel.{Entry, Named, Stored, appended, settled, rewound, pruned, with_metadata, restarted, destroyed}
-use Rattle.qm_memory.specs.Changes.{Change, put_over, AreNamedOnce, appending, settling, rewinding, pruning, restarting, emptying, place_of, replaced, putting, undone, before}
-use Rattle.qm_memory.specs.Mem.{Mem, made}
+use Rattle.qm_model.specs.StoreModel.{Entry, Named, Rest, Stored, rest_of, found_by, cut_by, appended, settled, rewound, pruned, with_metadata, restarted, destroyed}
+use Rattle.qm_memory.specs.Changes.{Change, grew, settled_from, rewound_from, pruned_from, put_new, put_over, restarted_from, emptied, AreNamedOnce, appending, settling, rewinding, pruning, restarting, emptying, place_of, replaced, putting, undone, found_at, past_of}
 
 -- Metadata by name.
 
@@ -87,27 +86,31 @@ once-put name entries ms once = (differ name (others name ms) (filter_passes _ m
 
 -- Each call undone.
 
-pub undone-append : (more : List Bytes) (s : Stored) → undone (appending more s) (appended more s) ≡ s
+-- a store with another past
+abbrev pub passed : List Rest → Stored → Stored
+passed past s = record s { past = past }
+
+pub undone-append : (more : List Bytes) (s : Stored) → undone (appending more s) (appended more s) ≡ passed (found_by s) s
 undone-append more s =
     let count : length (s.items ++ more) - length more ≡ length s.items = omega (arith, length-append s.items more) in
-    ap {B = Stored} (λ items. record s { items = items }) (ap (λ n. take n (s.items ++ more)) count ∙ take-append_seam s.items more)
+    ap {B = Stored} (λ items. record s { items = items; past = found_by s }) (ap (λ n. take n (s.items ++ more)) count ∙ take-append_seam s.items more)
 
-pub undone-settle : (s : Stored) → undone (settling s) (settled s) ≡ s
+pub undone-settle : (s : Stored) → undone (settling s) (settled s) ≡ passed (found_by s) s
 undone-settle s = refl
 
-pub undone-rewind : (to : ℕ) (s : Stored) → undone (rewinding to s) (rewound to s) ≡ s
-undone-rewind to s = ap {B = Stored} (λ items. record s { items = items }) (take-append-drop (to - s.start) s.items)
+pub undone-rewind : (to : ℕ) (s : Stored) → undone (rewinding to s) (rewound to s) ≡ passed (rewound to s).past s
+undone-rewind to s = ap {B = Stored} (λ items. record s { items = items; past = (rewound to s).past }) (take-append-drop (to - s.start) s.items)
 
-pub undone-prune : (to : ℕ) (head : Bytes) (s : Stored) → undone (pruning to s) (pruned to head s) ≡ s
-undone-prune to head s = ap {B = Stored} (λ items. record s { items = items }) (take-append-drop (to - s.start) s.items)
+pub undone-prune : (to : ℕ) (head : Bytes) (s : Stored) → undone (pruning to s) (pruned to head s) ≡ passed (found_by s) s
+undone-prune to head s = ap {B = Stored} (λ items. record s { items = items; past = found_by s }) (take-append-drop (to - s.start) s.items)
 
-pub undone-restart : (to : ℕ) (s : Stored) → undone (restarting to s) (restarted to s) ≡ s
+pub undone-restart : (to : ℕ) (s : Stored) → undone (restarting to s) (restarted to s) ≡ passed (found_by s) s
 undone-restart to s =
     let count : length (s.ends ++ to ∷ []) - 1 ≡ length s.ends = omega (arith, length-append s.ends (to ∷ [])) in
-    ap {B = Stored} (λ items. record s { items = items; ends = take (length (s.ends ++ to ∷ []) - 1) (s.ends ++ to ∷ []) }) (take-append-drop (to - s.start) s.items)
-    ∙ ap {B = Stored} (λ ends. record s { ends = ends }) (ap (λ n. take n (s.ends ++ to ∷ [])) count ∙ take-append_seam s.ends (to ∷ []))
+    ap {B = Stored} (λ items. record s { items = items; ends = take (length (s.ends ++ to ∷ []) - 1) (s.ends ++ to ∷ []); past = found_by s }) (take-append-drop (to - s.start) s.items)
+    ∙ ap {B = Stored} (λ ends. record s { ends = ends; past = found_by s }) (ap (λ n. take n (s.ends ++ to ∷ [])) count ∙ take-append_seam s.ends (to ∷ []))
 
-pub undone-destroy : (s : Stored) → undone (emptying s) (destroyed s) ≡ s
+pub undone-destroy : (s : Stored) → undone (emptying s) (destroyed s) ≡ passed [] s
 undone-destroy s = refl
 
 undone-replaced : (place : ℕ) (o : Option Named) (m : Named) (ms : List Named) (s : Stored) → undone (replaced place o) (record s { metadata = m ∷ ms }) ≡ record s { metadata = put_back place o ms }
@@ -115,11 +118,86 @@ undone-replaced place None m ms s = refl
 undone-replaced place (Some named) m ms s = refl
 
 -- of a store whose names differ
-pub undone-put : (name : Bytes) (entries : List Entry) (s : Stored) → AreNamedOnce s.metadata → undone (putting name s.metadata) (with_metadata name entries s) ≡ s
+pub undone-put : (name : Bytes) (entries : List Entry) (s : Stored) → AreNamedOnce s.metadata → undone (putting name s.metadata) (with_metadata name entries s) ≡ passed (found_by s) s
 undone-put name entries s once =
-    undone-replaced (place_of name s.metadata) (slice_get s.metadata (place_of name s.metadata)) (record { name = name; entries = entries }) (others name s.metadata) s
-    ∙ ap {B = Stored} (λ ms. record s { metadata = ms }) (others-back name s.metadata once)
+    undone-replaced (place_of name s.metadata) (slice_get s.metadata (place_of name s.metadata)) (record { name = name; entries = entries }) (others name s.metadata) (passed (found_by s) s)
+    ∙ ap {B = Stored} (λ ms. record s { metadata = ms; past = found_by s }) (others-back name s.metadata once)
 
--- The states before a call's state are the state that it was made in, and those before that.
-pub before-made : (change : Stored → Change) (f : Stored → Stored) (m : Mem) → undone (change m.held) (f m.held) ≡ m.held → before (made change f m).changes (made change f m).held ≡ m.held ∷ before m.changes m.held
-before-made change f m is = ap (λ s. s ∷ before m.changes s) is
+-- What was noted does not depend on the past that is told.
+
+undone-passed : (change : Change) (past : List Rest) (s : Stored) → rest_of (undone change (passed past s)) ≡ rest_of (undone change s)
+undone-passed (grew count) past s = refl
+undone-passed (settled_from stable) past s = refl
+undone-passed (rewound_from gone stable) past s = refl
+undone-passed (pruned_from start head gone) past s = refl
+undone-passed put_new past s = refl
+undone-passed (put_over place named) past s = refl
+undone-passed (restarted_from gone stable) past s = refl
+undone-passed (emptied held) past s = refl
+
+-- of stores that a crash finds alike
+undone-alike : (change : Change) (s t : Stored) → rest_of s ≡ rest_of t → rest_of (undone change s) ≡ rest_of (undone change t)
+undone-alike (grew count) s t same = ap (λ (r : Rest). record r { items = take (length r.items - count) r.items }) same
+undone-alike (settled_from stable) s t same = ap (λ (r : Rest). record r { stable = stable }) same
+undone-alike (rewound_from gone stable) s t same = ap (λ (r : Rest). record r { items = r.items ++ gone; stable = stable }) same
+undone-alike (pruned_from start head gone) s t same = ap (λ (r : Rest). record r { start = start; head = head; items = gone ++ r.items }) same
+undone-alike put_new s t same = ap (λ (r : Rest). record r { metadata = drop 1 r.metadata }) same
+undone-alike (put_over place named) s t same = ap (λ (r : Rest). record r { metadata = insert (drop 1 r.metadata) place named }) same
+undone-alike (restarted_from gone stable) s t same = ap (λ (r : Rest). record r { items = r.items ++ gone; stable = stable }) same
+undone-alike (emptied held) s t same = refl
+
+found-alike : (change : Change) (s t : Stored) (after : ℕ) (past : List Rest) → rest_of s ≡ rest_of t → found_at change s after past ≡ found_at change t after past
+found-alike (grew count) s t after past same = ap (λ r. r ∷ past) same
+found-alike (settled_from stable) s t after past same = ap (λ r. r ∷ past) same
+found-alike (rewound_from [] stable) s t after past same = refl
+found-alike (rewound_from (gone ∷ more) stable) s t after past same = ap (λ (r : Rest). record r { stable = after } ∷ past) same
+found-alike (pruned_from start head gone) s t after past same = ap (λ r. r ∷ past) same
+found-alike put_new s t after past same = ap (λ r. r ∷ past) same
+found-alike (put_over place named) s t after past same = ap (λ r. r ∷ past) same
+found-alike (restarted_from gone stable) s t after past same = ap (λ r. r ∷ past) same
+found-alike (emptied held) s t after past same = ap (λ r. r ∷ past) same
+
+pub past-alike : (changes : List Change) (s t : Stored) → rest_of s ≡ rest_of t → past_of changes s ≡ past_of changes t
+past-alike [] s t same = refl
+past-alike (change ∷ changes) s t same =
+    let back = undone-alike change s t same in
+    found-alike change (undone change s) (undone change t) s.stable (past_of changes (undone change s)) back
+    ∙ ap₂ (λ n past. found_at change (undone change t) n past) (ap (λ (r : Rest). r.stable) same) (past-alike changes (undone change s) (undone change t) back)
+
+-- A call that came off notes what it found.
+pub past-made : (change : Change) (f : Stored → Stored) (changes : List Change) (s : Stored) (past : List Rest) → undone change (f s) ≡ passed past s → found_at change s (f s).stable s.past ≡ (f s).past → s.past ≡ past_of changes s
+    → past_of (change ∷ changes) (f s) ≡ (f s).past
+past-made change f changes s past back noted was =
+    ap (λ t. found_at change t (f s).stable (past_of changes t)) back
+    ∙ (found-alike change (passed past s) s (f s).stable (past_of changes (passed past s)) refl
+    ∙ (ap (found_at change s (f s).stable) (past-alike changes (passed past s) s refl ∙ sym was) ∙ noted))
+
+-- so a store in memory tells each call as the definitions do
+pub past-append : (more : List Bytes) (changes : List Change) (s : Stored) → s.past ≡ past_of changes s → past_of (appending more s ∷ changes) (appended more s) ≡ (appended more s).past
+past-append more changes s was = past-made (appending more s) (appended more) changes s (found_by s) (undone-append more s) refl was
+
+pub past-settle : (changes : List Change) (s : Stored) → s.past ≡ past_of changes s → past_of (settling s ∷ changes) (settled s) ≡ (settled s).past
+past-settle changes s was = past-made (settling s) settled changes s (found_by s) (undone-settle s) refl was
+
+pub past-rewind : (to : ℕ) (changes : List Change) (s : Stored) → s.past ≡ past_of changes s → past_of (rewinding to s ∷ changes) (rewound to s) ≡ (rewound to s).past
+past-rewind to changes s was = past-made (rewinding to s) (rewound to) changes s (rewound to s).past (undone-rewind to s) (by (drop (to - s.start) s.items)) was
+  where
+    by : (gone : List Bytes) → found_at (rewound_from gone s.stable) s (min s.stable to) s.past ≡ cut_by to s gone
+    by [] = refl
+    by (item ∷ items) = refl
+
+pub past-prune : (to : ℕ) (head : Bytes) (changes : List Change) (s : Stored) → s.past ≡ past_of changes s → past_of (pruning to s ∷ changes) (pruned to head s) ≡ (pruned to head s).past
+past-prune to head changes s was = past-made (pruning to s) (pruned to head) changes s (found_by s) (undone-prune to head s) refl was
+
+pub past-put : (name : Bytes) (entries : List Entry) (changes : List Change) (s : Stored) → AreNamedOnce s.metadata → s.past ≡ past_of changes s → past_of (putting name s.metadata ∷ changes) (with_metadata name entries s) ≡ (with_metadata name entries s).past
+past-put name entries changes s once was = past-made (putting name s.metadata) (with_metadata name entries) changes s (found_by s) (undone-put name entries s once) (by (place_of name s.metadata) (slice_get s.metadata (place_of name s.metadata))) was
+  where
+    by : (place : ℕ) (o : Option Named) → found_at (replaced place o) s s.stable s.past ≡ found_by s
+    by place None = refl
+    by place (Some named) = refl
+
+pub past-restart : (to : ℕ) (changes : List Change) (s : Stored) → s.past ≡ past_of changes s → past_of (restarting to s ∷ changes) (restarted to s) ≡ (restarted to s).past
+past-restart to changes s was = past-made (restarting to s) (restarted to) changes s (found_by s) (undone-restart to s) refl was
+
+pub past-destroy : (changes : List Change) (s : Stored) → s.past ≡ past_of changes s → past_of (emptying s ∷ changes) (destroyed s) ≡ (destroyed s).past
+past-destroy changes s was = past-made (emptying s) destroyed changes s [] (undone-destroy s) refl was

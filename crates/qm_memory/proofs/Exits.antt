@@ -9,10 +9,11 @@ use Rattle.std.proofs.lemmas.List.{reverse-append, length-take}
 use Rattle.std.specs.Prelude.{⊤, OnOk, OnErr, IsErrOf, Contains}
 use Rattle.qm_model.specs.Causes.{IsCause}
 use Rattle.qm_model.specs.Operations.{Bytes}
-use Rattle.qm_model.specs.StoreModel.{Stored}
+use Rattle.qm_model.specs.StoreModel.{Stored, rest_of}
 use Rattle.qm_store.specs.declared.StoreError.{StoreError}
 use Rattle.qm_store.specs.declared.StoreError.TheVariants as stores
-use Rattle.qm_memory.specs.Changes.{Change}
+use Rattle.qm_memory.specs.Changes.{Change, AreNamedOnce, past_of, with_past}
+use Rattle.qm_memory.proofs.Changes.{passed, past-alike}
 use Rattle.qm_memory.specs.Mem.{Mem, IsInside, one_more, called, failed, made}
 
 -- the clauses that these calls share, of one that is to have done this
@@ -65,9 +66,9 @@ module _ (counted : Result ⊤ StoreError) (old now : Mem) (inside : IsInside ol
 
   module _ (m : Mem) (x : ⊤) (was : counted ≡ Ok x) (view : m ≡ now) (is : now ≡ called old) where
     -- there was no memory, and nothing has changed but the counts
-    pub unmade : (Done : Type 0) (result : Result ⊤ StoreError) (held : Stored) (changes : List Change) → ((y : StoreError) × (result ≡ Err y) × (y ≡ stores.Memory)) → held ≡ m.held → changes ≡ m.changes →
-        Told result old (record m { held = held; changes = changes }) Done
-    unmade Done result held changes exit here before =
+    pub unmade : (Done : Type 0) (result : Result ⊤ StoreError) (bare before : Stored) (changes : List Change) → ((y : StoreError) × (result ≡ Err y) × (y ≡ stores.Memory)) → bare ≡ before → changes ≡ m.changes → m.held ≡ with_past m.changes before →
+        Told result old (record m { held = with_past changes bare; changes = changes }) Done
+    unmade Done result bare before changes exit here noted held =
         let same : result ≡ Err stores.Memory = exit.1 ∙ ap Err exit.2 in
         let faults : m.faults ≡ old.faults = ap (λ s. s.faults) (view ∙ is) in
         record {
@@ -76,20 +77,25 @@ module _ (counted : Result ⊤ StoreError) (old now : Mem) (inside : IsInside ol
           fails = (λ fault. absurd cc, λ contains. let never = listed.1 contains in absurd cc);
           fault = λ fault. absurd cc;
           ok = rw same tt;
-          memory = λ memory. ap₂ {C = Mem} (λ h cs. record m { held = h; changes = cs }) here before ∙ view ∙ is;
+          memory = λ memory. ap₂ {C = Mem} (λ h cs. record m { held = h; changes = cs }) (ap₂ with_past noted here ∙ sym held) noted ∙ view ∙ is;
         }
 
     -- the call came off
-    pub come_off : (f : Stored → Stored) (change : Stored → Change) (held : Stored) (changes : List Change) → held ≡ f m.held → changes ≡ change m.held ∷ m.changes →
-        Told (Ok tt) old (record m { held = held; changes = changes }) (record m { held = held; changes = changes } ≡ made change f old)
-    come_off f change held changes here more =
+    pub come_off : (f : Stored → Stored) (change : Stored → Change) (bare before : Stored) (changes : List Change) → bare ≡ passed [] (f m.held) → changes ≡ change m.held ∷ m.changes → m.held ≡ with_past m.changes before
+        → ((cs : List Change) (s : Stored) → AreNamedOnce s.metadata → s.past ≡ past_of cs s → past_of (change s ∷ cs) (f s) ≡ (f s).past) →
+        Told (Ok tt) old (record m { held = with_past changes bare; changes = changes }) (record m { held = with_past changes bare; changes = changes } ≡ made change f old)
+    come_off f change bare before changes here more held law =
         let faults : m.faults ≡ old.faults = ap (λ s. s.faults) (view ∙ is) in
+        let known : m.held.past ≡ past_of m.changes m.held = ap (λ (s : Stored). s.past) held ∙ past-alike m.changes before m.held (sym (ap rest_of held)) in
+        let once : AreNamedOnce m.held.metadata = subst (λ (x : Mem). AreNamedOnce x.held.metadata) (sym (view ∙ is)) inside.once in
+        let told : past_of (change m.held ∷ m.changes) (passed [] (f m.held)) ≡ (f m.held).past = past-alike (change m.held ∷ m.changes) (passed [] (f m.held)) (f m.held) refl ∙ law m.changes m.held once known in
+        let there : with_past changes bare ≡ f m.held = ap₂ with_past more here ∙ ap (λ past. passed past (f m.held)) told in
         record {
           inside = inside;
           cause = record { later = omega arith; failed = λ fault. absurd cc };
           fails = (λ fault. absurd cc, λ contains. let never = listed.1 contains in absurd cc);
           fault = λ fault. absurd cc;
-          ok = ap₂ {C = Mem} (λ h cs. record m { held = h; changes = cs }) here more ∙ ap {B = Mem} (λ s. record s { held = f s.held; changes = change s.held ∷ s.changes }) (view ∙ is);
+          ok = ap₂ {C = Mem} (λ h cs. record m { held = h; changes = cs }) there more ∙ ap {B = Mem} (λ s. record s { held = f s.held; changes = change s.held ∷ s.changes }) (view ∙ is);
           memory = λ memory. absurd cc;
         }
 

@@ -12,4 +12,4 @@ change_of (kinds.PrunedFrom gone) = pruned_from gone.value.start gone.value.head
 change_of kinds.PutNew = put_new
 change_of (kinds.PutOver place named) = put_over place named.value
 change_of (kinds.RestartedFrom cut) = restarted_from cut.value.items cut.value.stable
-change_of (kinds.Emptied dropped) = emptied (record { start = dropped.value.start; items = dropped.value.items; head = dropped.value.head.items; metadata = dropped.value.metadata.items; stable = dropped.value.stable; ends = [] })
+change_of (kinds.Emptied dropped) = emptied (record { start = dropped.value.start; items = dropped.value.items; head = dropped.value.head.items; metadata = dropped.value.metadata.items; stable = dropped.value.stable; ends = []; past = [] })

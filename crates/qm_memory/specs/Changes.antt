@@ -2,7 +2,7 @@
 use Rattle.std.specs.Prelude.{◌≡◌, ℕ, ◌-◌, false, List, [], ◌∷◌, ◌++◌, length, take, drop, All, Option, None, Some, slice_get, bytes_eq, ⊤}
 use Rattle.std.specs.List.{insert, position_or_len}
 use Rattle.qm_model.specs.Operations.{Bytes}
-use Rattle.qm_model.specs.StoreModel.{Named, Stored}
+use Rattle.qm_model.specs.StoreModel.{Named, Rest, Stored, rest_of}
 
 -- What a call changed: so many items were put behind; all became stable, which was so up to here; these items were cut off, and
 -- this was the stable length; the start, the head, and the items that were taken away at the beginning; metadata were put under a
@@ -36,7 +36,7 @@ abbrev pub restarting : ℕ → Stored → Change
 restarting to s = restarted_from (drop (to - s.start) s.items) s.stable
 
 abbrev pub emptying : Stored → Change
-emptying s = emptied (record s { ends = [] })
+emptying s = emptied (record s { ends = []; past = [] })
 
 -- the place of the metadata of a name, or how many metadata there are
 abbrev pub place_of : Bytes → List Named → ℕ
@@ -66,6 +66,24 @@ undone (emptied held) s = record held { ends = s.ends }
 abbrev pub before : List Change → Stored → List Stored
 before [] s = []
 before (change ∷ changes) s = undone change s ∷ before changes (undone change s)
+
+-- What a crash may have found.
+
+-- what a call noted that found a store so, with this past, and of which so much was stable after it; a rewind that took nothing away
+-- took no time
+abbrev pub found_at : Change → Stored → ℕ → List Rest → List Rest
+found_at (rewound_from [] stable) s after past = past
+found_at (rewound_from (gone ∷ more) stable) s after past = rest_of (record s { stable = after }) ∷ past
+found_at change s after past = rest_of s ∷ past
+
+-- the past of a store that these changes made, the newest first
+abbrev pub past_of : List Change → Stored → List Rest
+past_of [] s = []
+past_of (change ∷ changes) s = found_at change (undone change s) s.stable (past_of changes (undone change s))
+
+-- the store with it
+abbrev pub with_past : List Change → Stored → Stored
+with_past changes s = record s { past = past_of changes s }
 
 -- no two have the same name
 abbrev pub AreNamedOnce : List Named → Type 0

@@ -37,13 +37,13 @@ pub struct MemStore {
 }
 
 impl Model for MemStore {
-    ghost use Rattle.std.specs.Prelude.{◌+◌, ◌^◌, ◌≤◌, length, reverse};
-    ghost use Rattle.qm_memory.specs.Changes.{AreNamedOnce};
+    ghost use Rattle.std.specs.Prelude.{◌+◌, ◌^◌, ◌≤◌, [], length, reverse};
+    ghost use Rattle.qm_memory.specs.Changes.{AreNamedOnce, with_past};
     ghost use Rattle.qm_memory.specs.Mem.{Mem};
 
     ghost Value = { Mem };
 
-    ghost view = { λ s. record { held = record { start = s.first; items = s.kept; head = s.head.items; metadata = s.metadata.items; stable = s.stable; ends = s.ends.items }; changes = reverse s.changes.items; fail = s.listed.items; calls = s.called; faults = s.failed } };
+    ghost view = { λ s. record { held = with_past (reverse s.changes.items) (record { start = s.first; items = s.kept; head = s.head.items; metadata = s.metadata.items; stable = s.stable; ends = s.ends.items; past = [] }); changes = reverse s.changes.items; fail = s.listed.items; calls = s.called; faults = s.failed } };
 
     ghost invariant = { λ s. (s.first ≤ s.stable) × (s.stable ≤ s.first + length s.kept) × (s.first + length s.kept ≤ 2 ^ 62) × AreNamedOnce s.metadata.items };
 }

@@ -38,3 +38,4 @@ pub mod Pins
 pub mod CheckProving
 pub mod Stores
 pub mod Openings
+pub mod Crashes

@@ -165,7 +165,7 @@ part_of ops (Some c) is = of (last 0 None ops c is)
 pub ended-part : (ops : List Operation) → IsPart ops (ended_size ops)
 ended-part ops = part_of ops (last_commit 0 None (map (λ op. Some op) ops)) refl
 
-ended-longest : (ops : List Operation) (n : ℕ) → n ≤ length ops → IsCommitEnded (take n ops) → n ≤ ended_size ops
+pub ended-longest : (ops : List Operation) (n : ℕ) → n ≤ length ops → IsCommitEnded (take n ops) → n ≤ ended_size ops
 ended-longest ops zero less ended = omega arith
 ended-longest ops (suc n) less ended = let up = longest 0 n None ops (le_refl 0) less ended in omega (arith, up)
 
@@ -173,13 +173,13 @@ ended-longest ops (suc n) less ended = let up = longest 0 n None ops (le_refl 0)
 pub ended-whole : (ops : List Operation) → IsCommitEnded ops → ended_part ops ≡ ops
 ended-whole ops ended = take_all (ended_size ops) ops (ended-longest ops (length ops) (le_refl (length ops)) (subst IsCommitEnded (sym (take-length ops)) ended))
 
-begins_take : (n : ℕ) (xs : List Operation) → Begins (take n xs) xs
+pub begins_take : (n : ℕ) (xs : List Operation) → Begins (take n xs) xs
 begins_take zero xs = refl
 begins_take (suc n) [] = refl
 begins_take (suc n) (x ∷ xs) = ap (λ ys. x ∷ ys) (begins_take n xs)
 
 -- a shorter beginning begins a longer one
-begins_both : (a b : ℕ) (xs : List Operation) → a ≤ b → Begins (take a xs) (take b xs)
+pub begins_both : (a b : ℕ) (xs : List Operation) → a ≤ b → Begins (take a xs) (take b xs)
 begins_both a b xs low = subst (λ ys. Begins ys (take b xs)) (take-least a b xs low) (begins_take a (take b xs))
 
 -- Settled lists of made ones.
@@ -189,10 +189,10 @@ pub record Keeps {P : Type 0} (kind : Kind) (rules : Rules P) : Type 0 where
   pub begins : (prefix ops : List Operation) → Made kind rules ops → Begins prefix ops → IsCommitEnded prefix → Made kind rules prefix × (floor prefix ≤ floor ops)
   pub within : (ops : List Operation) → Made kind rules ops → floor ops < length ops
 
-unordered-keeps : {P : Type 0} (rules : Rules P) → Keeps unordered rules
+pub unordered-keeps : {P : Type 0} (rules : Rules P) → Keeps unordered rules
 unordered-keeps rules = record { begins = unordered-begins rules; within = λ ops made. (made-good rules ops made).floor_within }
 
-ordered-keeps : {P : Type 0} (rules : Rules P) → Keeps ordered rules
+pub ordered-keeps : {P : Type 0} (rules : Rules P) → Keeps ordered rules
 ordered-keeps rules = record { begins = ordered-begins rules; within = λ ops made. (made-ordered rules ops made).good.floor_within }
 
 -- a list without a commit has the floor 0
@@ -210,7 +210,7 @@ module _ {P : Type 0} {kind : Kind} {rules : Rules P} (keeps : Keeps kind rules)
           let low = keeps.within (ended_part part) is_made in
           omega (arith, low, less, length-take-le (ended_size part) part less)
 
-  floor-rises : (xs ys whole : List Operation) → Made kind rules whole → Begins xs ys → Begins ys whole → floor (ended_part xs) ≤ floor (ended_part ys)
+  pub floor-rises : (xs ys whole : List Operation) → Made kind rules whole → Begins xs ys → Begins ys whole → floor (ended_part xs) ≤ floor (ended_part ys)
   floor-rises xs ys whole made front begins = cases (ended-part xs) (ended-part ys)
     where
       n : ℕ
@@ -410,19 +410,20 @@ module _ {P : Type 0} {kind : Kind} {rules : Rules P} (keeps : Keeps kind rules)
   pruned-none : (chunks : Option Chunks) (log : Log) (list : List Operation) → ArePruned own chunks log → nat_lt 0 (pruned_bits chunks log.chunks) ≡ false → ArePruned own chunks (taken_up list log)
   pruned-none None log list is none = tt
   pruned-none (Some c) log list is none = (is.0, le_trans (ltb-false 0 (log.chunks * 2 ^ c.height) none) (omega arith))
+
   settled-begins : (log : Log) (kept : IsKept own log) → Begins (take log.stable log.list) kept.made.whole
   settled-begins log kept = Begins-through (take log.stable log.list) log.list kept.made.whole (begins_take log.stable log.list) kept.made.begins
 
-  start-stable : (log : Log) → IsKept own log → log.start ≤ log.stable
+  pub start-stable : (log : Log) → IsKept own log → log.start ≤ log.stable
   start-stable log kept =
       let low = floor-within keeps (take log.stable log.list) kept.made.whole kept.made.made (settled-begins log kept) in
       let start = kept.start in
       omega (arith, start, low, length-take-le log.stable log.list kept.stable)
 
-  start-within : (log : Log) → IsKept own log → log.start ≤ length log.list
+  pub start-within : (log : Log) → IsKept own log → log.start ≤ length log.list
   start-within log kept = le_trans (start-stable log kept) kept.stable
 
-  part-made : (log : Log) (n : ℕ) → IsKept own log → IsPartMade own (take n log.list)
+  pub part-made : (log : Log) (n : ℕ) → IsKept own log → IsPartMade own (take n log.list)
   part-made log n kept = record {
     whole = kept.made.whole;
     made = kept.made.made;
@@ -444,7 +445,7 @@ module _ {P : Type 0} {kind : Kind} {rules : Rules P} (keeps : Keeps kind rules)
         chunks = pruned-rises layout.chunks log (take to log.list) to rise long kept.chunks;
       }
 
-  cut-keeps : (log : Log) (n : ℕ) → IsKept own log → IsCommitEnded (take n log.list) → log.start ≤ floor (take n log.list) → ArePruned own layout.chunks (taken_up (take n log.list) log) → IsKept own (taken_up (take n log.list) log)
+  pub cut-keeps : (log : Log) (n : ℕ) → IsKept own log → IsCommitEnded (take n log.list) → log.start ≤ floor (take n log.list) → ArePruned own layout.chunks (taken_up (take n log.list) log) → IsKept own (taken_up (take n log.list) log)
   cut-keeps log n kept ended low pruned = record {
     made = part-made log n kept;
     start = subst (λ xs. log.start ≤ floor xs) (sym (ap ended_part (take-length (take n log.list)) ∙ ended-whole (take n log.list) ended)) low;
@@ -452,7 +453,7 @@ module _ {P : Type 0} {kind : Kind} {rules : Rules P} (keeps : Keeps kind rules)
     chunks = pruned;
   }
 
-  fresh-keeps : (log : Log) → log.start ≤ 0 → ArePruned own layout.chunks (taken_up fresh log) → IsKept own (taken_up fresh log)
+  pub fresh-keeps : (log : Log) → log.start ≤ 0 → ArePruned own layout.chunks (taken_up fresh log) → IsKept own (taken_up fresh log)
   fresh-keeps log low pruned = record {
     made = record { whole = fresh; made = first; begins = refl; of_form = All-from_recursion (IsOf layout.form) fresh ((tt, omega arith), tt) };
     start = low;
@@ -553,17 +554,17 @@ module _ {P : Type 0} {kind : Kind} {rules : Rules P} (keeps : Keeps kind rules)
 -- Any databases of both kinds.
 
 -- how they lie in a store
-abbrev without_chunks : Form → Shape → ℕ → Layout
+abbrev pub without_chunks : Form → Shape → ℕ → Layout
 without_chunks form shape digest_size = record { form = form; shape = shape; digest_size = digest_size; chunks = None }
 
 module _ {P : Type 0} {kind : Kind} {rules : Rules P} (keeps : Keeps kind rules) (hash : Bytes → Bytes) (form : Form) (shape : Shape) (digest_size : ℕ) where
   abbrev plain : Engine P
   plain = any_engine kind rules hash form shape digest_size
 
-  any-takes : OpensParts plain
+  pub any-takes : OpensParts plain
   any-takes = parts-taken keeps hash (without_chunks form shape digest_size) tt
 
-  any-image : (log : Log) (s image : Stored) → IsOwn plain log s → (i : IsImage s image) → IsOwn plain (left_at i.to log) image
+  pub any-image : (log : Log) (s image : Stored) → IsOwn plain log s → (i : IsImage s image) → IsOwn plain (left_at i.to log) image
   any-image log s image is i = image-own keeps hash (without_chunks form shape digest_size) log s image is i is.stored.metadata
 
 -- An opening without a bound.

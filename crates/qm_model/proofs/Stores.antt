@@ -1,10 +1,11 @@
 -- Laws of what the calls of a store make of it.
-use Rattle.std.proofs.Common.{◌≡◌, ◌∙◌, inl, ℕ, ◌+◌, ◌-◌, ◌≤◌, min, Bool, true, false, List, [], ◌∷◌, length, refl, sym, ap, subst, arith, append-nil}
+use Rattle.std.proofs.Common.{◌≡◌, ◌∙◌, inl, ℕ, ◌+◌, ◌-◌, ◌≤◌, min, Bool, true, false, List, [], ◌∷◌, length, drop, refl, sym, ap, subst, arith, append-nil, Option, Some, None}
 use Rattle.std.specs.Prelude.{bytes_eq, filter, not}
 use Rattle.std.proofs.lemmas.Slice.Eq.{bytes_eq-Decides}
-use Rattle.std.proofs.lemmas.List.{take_all, length-append, length-take, length-drop}
+use Rattle.std.proofs.lemmas.List.Elements.{All-nil, All-cons, All-contains}
+use Rattle.std.proofs.lemmas.List.{take_all, drop_all, take-append-le, length-append, length-take, length-drop}
 use Rattle.qm_model.specs.Operations.{Bytes}
-use Rattle.qm_model.specs.StoreModel.{Entry, Named, Stored, end_of, metadata_in, appended, settled, cut, rewound, pruned, with_metadata, left_at, restarted, destroyed, MayEnd, IsImage, IsOldOrNew, RewindLeaves, HasRestarted, ReadsAs, HasAppended, DestroyLeaves}
+use Rattle.qm_model.specs.StoreModel.{Entry, Named, Rest, Stored, end_of, rest_of, at_rest, metadata_in, appended, settled, cut, cut_by, rewound, pruned, with_metadata, left_at, restarted, destroyed, MayEnd, IsImage, IsOldOrNew, RewindLeaves, HasRestarted, ReadsAs, HasAppended, DestroyLeaves, Turns, MayBeLeft, Fails}
 
 -- Where a store ends.
 
@@ -56,7 +57,9 @@ pub inside-destroyed : (s : Stored) → IsInside (destroyed s)
 inside-destroyed s = record { start = omega arith; stable = omega arith }
 
 pub inside-image : (s image : Stored) → IsImage s image → IsInside s → IsInside image
-inside-image s image is inside = subst IsInside (sym is.same) (inside-left_at is.to s is.may inside)
+inside-image s image is inside =
+    let left = inside-left_at is.to s is.may inside in
+    subst IsInside (sym is.same) (record { start = left.start; stable = left.stable })
 
 pub inside-has_restarted : (s new : Stored) → HasRestarted s new → IsInside s → IsInside new
 inside-has_restarted s new is inside = subst IsInside (sym is.same) (inside-restarted is.to s is.may inside)
@@ -71,7 +74,9 @@ cut-whole s = take_all (end_of s - s.start) s.items (omega arith)
 pub rewound-whole : (s : Stored) → s.stable ≤ end_of s → rewound (end_of s) s ≡ s
 rewound-whole s within =
     let least : min s.stable (end_of s) ≡ s.stable = omega (arith, within) in
-    ap {B = Stored} (λ items. record s { items = items; stable = min s.stable (end_of s) }) (cut-whole s) ∙ ap {B = Stored} (λ n. record s { stable = n }) least
+    let none : drop (end_of s - s.start) s.items ≡ [] = drop_all (end_of s - s.start) s.items (omega arith) in
+    ap {B = Stored} (λ gone. record s { items = cut (end_of s) s; stable = min s.stable (end_of s); past = cut_by (end_of s) s gone }) none
+    ∙ (ap {B = Stored} (λ items. record s { items = items; stable = min s.stable (end_of s) }) (cut-whole s) ∙ ap {B = Stored} (λ n. record s { stable = n }) least)
 
 -- a crash may leave all of it
 pub image-whole : (s : Stored) → s.stable ≤ end_of s → IsImage s (left_at (end_of s) s)
@@ -106,6 +111,58 @@ reads-kept-append more s inside = record {
 
 pub reads-kept-destroy : (s : Stored) → IsInside s → DestroyLeaves s s
 reads-kept-destroy s inside = inl (reads-kept s inside)
+
+-- Crashes at any moment.
+
+-- a call that notes nothing
+pub fails-unmoved : (R Q : Stored → Stored → Type 0) (s : Stored) → R s s → Fails R Q s s
+fails-unmoved R Q s kept = record { now = kept; notes = []; past = refl; each = λ image may. let none = may.among.1 in absurd (omega (arith, none)) }
+
+-- what holds of more holds of a call that failed
+pub fails-weaker : (R Q S T : Stored → Stored → Type 0) (s new : Stored) → ((t : Stored) → R s t → S s t) → ((t : Stored) → Q s t → T s t) → Fails R Q s new → Fails S T s new
+fails-weaker R Q S T s new now each fails = record { now = now new fails.now; notes = fails.notes; past = fails.past; each = λ image may. each (record image { ends = s.ends }) (fails.each image may) }
+
+-- one that found the store as it was
+pub found-image : (s image : Stored) → MayBeLeft (rest_of s ∷ []) image → IsImage s (record image { ends = s.ends })
+found-image s image may = by may.found is may.left
+  where
+    is : may.found ≡ rest_of s
+    is = All-contains (λ r. r ≡ rest_of s) (rest_of s ∷ []) may.found (All-cons (λ r. r ≡ rest_of s) (rest_of s) [] refl (All-nil (λ r. r ≡ rest_of s))) may.among
+
+    by : (r : Rest) → r ≡ rest_of s → IsImage (at_rest r) image → IsImage s (record image { ends = s.ends })
+    by r same i =
+        let j : IsImage (at_rest (rest_of s)) image = subst (λ r. IsImage (at_rest r) image) same i in
+        record { to = j.to; may = record { stable = j.may.stable; within = j.may.within }; same = ap (λ (x : Stored). record x { ends = s.ends }) j.same }
+
+-- an image of a store is one of it with items behind
+pub image-grown : (more : List Bytes) (s image : Stored) → IsImage s image → IsImage (appended more s) image
+image-grown more s image i =
+    let within = i.may.within in
+    record {
+      to = i.to;
+      may = record { stable = i.may.stable; within = omega (arith, within, length-append s.items more) };
+      same = i.same ∙ ap {B = Stored} (λ items. record s { items = items; stable = i.to; past = image.past }) (sym (take-append-le (i.to - s.start) s.items more (omega (arith, within))));
+    }
+
+-- what a crash leaves is what a call may leave that failed
+pub reads-image : (least : ℕ) (s image : Stored) → s.start ≤ s.stable → least ≤ s.stable → IsImage s image → ReadsAs least (IsImage s) image
+reads-image least s image start low i =
+    let stable = ap (λ (x : Stored). x.stable) i.same in
+    let from = i.may.stable in
+    let within = i.may.within in
+    record {
+      image = image;
+      left = i;
+      reads = refl;
+      least_stable = omega (arith, low, from, stable);
+      within = omega (arith, stable, start, from, within, ap (λ (x : Stored). x.start) i.same, ap (λ (x : Stored). length x.items) i.same, length-take (i.to - s.start) s.items);
+    }
+
+-- what is left now of a call that failed
+pub leaves-now : (o n : Option Stored) (R Q : Stored → Stored → Type 0) → Turns o n (Fails R Q) → Turns o n R
+leaves-now None n R Q fails = fails
+leaves-now (Some s) None R Q fails = absurd fails
+leaves-now (Some s) (Some t) R Q fails = fails.now
 
 -- Metadata.
 

@@ -30,7 +30,7 @@ delayed = record current { shape = mmb }
 
 -- a store with these items from a location on
 abbrev store : ℕ → List Bytes → Stored
-store start items = record { start = start; items = items; head = []; metadata = []; stable = start + length items; ends = [] }
+store start items = record { start = start; items = items; head = []; metadata = []; stable = start + length items; ends = []; past = [] }
 
 -- with so many pins in its head
 abbrev with_pins : ℕ → Stored → Stored

@@ -1,17 +1,17 @@
 -- Own stores: those that a database of one kind, family and spelling leaves.
-use Rattle.std.specs.Prelude.{◌≡◌, ◌⊎◌, ◌≤◌, ◌<◌, ℕ, suc, ◌*◌, ◌/◌, ◌^◌, List, [], length, map, take, drop, All, Option, None, Some, IfSome, ⊤}
+use Rattle.std.specs.Prelude.{◌≡◌, ◌⊎◌, ◌≤◌, ◌<◌, ℕ, suc, min, ◌*◌, ◌/◌, ◌^◌, List, [], ◌++◌, length, map, take, drop, All, Option, None, Some, IfSome, ⊤}
 use Rattle.std.specs.List.{concat}
 use Rattle.qm_model.specs.Operations.{Bytes, Operation, fresh, IsCommitEnded}
 use Rattle.qm_model.specs.Forms.{Form, IsOf, spelling}
 use Rattle.qm_model.specs.Live.{floor}
-use Rattle.qm_model.specs.Trees.{Shape}
+use Rattle.qm_model.specs.Trees.{Shape, peaks}
 use Rattle.qm_model.specs.Proofs.{pins_at}
 use Rattle.qm_model.specs.Grafted.{boundary, chunk_node, pair_absorption_threshold, grafted_pins}
 use Rattle.qm_model.specs.Walk.{Rules}
 use Rattle.qm_model.specs.Step.{Kind, Made}
 use Rattle.qm_model.specs.Batches.{Begins}
-use Rattle.qm_model.specs.StoreModel.{Entry, Stored, metadata_in}
-use Rattle.qm_model.specs.Opening.{Chunks, Layout, Found, opens, size_of, last_commit, metadata_refusal, count_in, pins_found, opened_list, opening}
+use Rattle.qm_model.specs.StoreModel.{Entry, Rest, Stored, metadata_in, at_rest, IsImage, IsCrash, HasRestarted, HasAppended, IsOldOrNew, RewindLeaves, DestroyLeaves, ReadsAs, Fails, appended, settled, rewound, pruned, with_metadata, destroyed}
+use Rattle.qm_model.specs.Opening.{Chunks, Layout, Found, opens, size_of, last_commit, metadata_refusal, count_in, pins_found, opened_list, opening, found}
 
 -- what makes the lists of a database, and how they lie in a store
 pub record Engine (P : Type 0) : Type 0 where
@@ -138,3 +138,61 @@ module _ {P : Type 0} (e : Engine P) where
     pub size : ℕ
     pub accepted : opening e.layout (found_in log) None ≡ opens size
     pub settled : length (settled_list log) ≤ size
+
+  -- What a crash leaves of an own store, while a call makes one log of the other.
+
+  -- as much as is settled before stays, as far as the call keeps the list; or nothing does, where the call leaves nothing
+  abbrev pub Stays : Log → Log → Log → Type 0
+  Stays before after log =
+      (min (length (settled_list before)) (length after.list) ≤ length (settled_list log)) × ((after ≡ no_log) → (length (settled_list before) ≤ length (settled_list log)) ⊎ (log ≡ no_log))
+
+  -- an own store, of a beginning of one of the two lists
+  pub record IsBetween (before after : Log) (s : Stored) : Type 0 where
+    pub log : Log
+    pub own : IsOwn log s
+    pub part : Begins log.list before.list ⊎ Begins log.list after.list
+    pub stays : Stays before after log
+
+  -- It is opened without a bound, to a commit-ended beginning of one of the two lists or to the fresh list, that is no shorter than what stays.
+  pub record OpensBetween (before after : Log) (s : Stored) : Type 0 where
+    pub log : Log
+    pub own : IsOwn log s
+    pub size : ℕ
+    pub accepted : opening e.layout (found e.layout s) None ≡ opens size
+    pub ended : IsCommitEnded (opened_list size log.list)
+    pub part : Begins (opened_list size log.list) before.list ⊎ (Begins (opened_list size log.list) after.list ⊎ (opened_list size log.list ≡ fresh))
+    pub stays : (min (length (settled_list before)) (length after.list) ≤ size) × ((after ≡ no_log) → (length (settled_list before) ≤ size) ⊎ (log ≡ no_log))
+
+-- What a crash may have found, since the first of two stores and now, is each between two logs.
+abbrev pub AreBetween : {P : Type 0} → Engine P → Log → Log → List Rest → Type 0
+AreBetween e before after rests = All (λ r. IsBetween e before after (at_rest r)) rests
+
+-- every crash since a store was the older one, or now, leaves one between these two logs
+abbrev pub CrashesBetween : {P : Type 0} → Engine P → Log → Log → Stored → Stored → Type 0
+CrashesBetween e before after old new = (image : Stored) → IsCrash old new image → IsBetween e before after image
+
+-- What crashes leave of own stores of any databases inside each call, and inside one call behind another.
+pub record CrashLaws {P : Type 0} (e : Engine P) : Type 0 where
+  pub commit : (log : Log) (s : Stored) → IsOwn e log s → CrashesBetween e log (record log { stable = length log.list }) s (settled s)
+  pub failed_commit : (log : Log) (s new : Stored) → IsOwn e log s → Fails (λ s. ReadsAs s.stable (IsImage s)) (λ s. ReadsAs s.stable (IsImage s)) s new → CrashesBetween e log (record log { stable = length log.list }) s new
+  pub append : (log : Log) (s : Stored) (more : List Operation) → IsOwn e log s → IsKept e (record log { list = log.list ++ more })
+      → CrashesBetween e log (record log { list = log.list ++ more }) s (appended (map (spelling e.layout.form) more) s)
+  pub failed_append : (log : Log) (s new : Stored) (more : List Operation) → IsOwn e log s → IsKept e (record log { list = log.list ++ more })
+      → Fails (HasAppended (map (spelling e.layout.form) more)) (λ s. IsImage (appended (map (spelling e.layout.form) more) s)) s new → CrashesBetween e log (record log { list = log.list ++ more }) s new
+  pub restart : (log : Log) (s new : Stored) → IsOwn e log s → (r : HasRestarted s new) → CrashesBetween e log (left_at r.to log) s new
+  pub put_meta : (log : Log) (s : Stored) (name : Bytes) (entries : List Entry) → IsOwn e log s → CrashesBetween e log log s (with_metadata name entries s)
+  -- a prune, which commits first
+  pub prune : (log : Log) (s : Stored) (to : ℕ) (head : Bytes) → IsOwn e log s → log.start ≤ to → to ≤ floor (settled_list (record log { stable = length log.list })) → head ≡ head_of e (record log { start = to })
+      → CrashesBetween e log (record log { start = to; stable = length log.list }) s (pruned to head (settled s))
+  -- one that fails, behind its commit
+  pub failed_prune : (log : Log) (s new : Stored) (to : ℕ) (head : Bytes) → IsOwn e log s → log.start ≤ to → to ≤ floor (settled_list (record log { stable = length log.list })) → head ≡ head_of e (record log { start = to })
+      → Fails (λ u. ReadsAs u.stable (IsOldOrNew (pruned to head) u)) (λ u. ReadsAs u.stable (IsOldOrNew (pruned to head) u)) (settled s) new → CrashesBetween e log (record log { start = to; stable = length log.list }) s new
+  -- an opening, of the list up to a commit, or of an empty store
+  pub opening : (log : Log) (s : Stored) (n : ℕ) → IsOwn e log s → n ≤ length log.list → IsCommitEnded (take n log.list) → log.start ≤ floor (take n log.list) → CrashesBetween e log (taken_up (take n log.list) log) s (settled (rewound n s))
+  pub failed_opening : (log : Log) (s new : Stored) (n : ℕ) → IsOwn e log s → n ≤ length log.list → IsCommitEnded (take n log.list) → log.start ≤ floor (take n log.list)
+      → Fails (λ s. ReadsAs (min s.stable n) (RewindLeaves n s)) (λ s. ReadsAs (min s.stable n) (RewindLeaves n s)) s new → CrashesBetween e log (taken_up (take n log.list) log) s new
+  pub fresh : (log : Log) (s : Stored) → IsOwn e log s → log.list ≡ [] → log.start ≡ 0 → CrashesBetween e log (taken_up fresh log) s (settled (appended (map (spelling e.layout.form) fresh) s))
+  pub destroy : (log : Log) (s : Stored) → peaks e.layout.shape 0 ≡ [] → IsOwn e log s → CrashesBetween e log no_log s (destroyed s)
+  pub failed_destroy : (log : Log) (s new : Stored) → peaks e.layout.shape 0 ≡ [] → IsOwn e log s → Fails DestroyLeaves DestroyLeaves s new → CrashesBetween e log no_log s new
+  pub through : (before after : Log) (s t u : Stored) (first second : List Rest) → t.past ≡ first ++ s.past → u.past ≡ second ++ t.past
+      → CrashesBetween e before after s t → CrashesBetween e before after t u → CrashesBetween e before after s u

@@ -19,7 +19,7 @@ ghost use Rattle.qm_model.specs.Proofs.{item_leaves, proof_of, verdict};
 ghost use Rattle.qm_model.specs.Trees.{Shape, peaks, root, leaves_from};
 ghost use Rattle.qm_model.specs.StoreModel.{Stored, empty, IsImage};
 ghost use Rattle.qm_model.specs.Opening.{found};
-ghost use Rattle.qm_model.specs.Own.{Engine, any_engine, Log, no_log, left_at, IsKept, IsOwn, head_of, found_in, OpensParts, OpensWhole};
+ghost use Rattle.qm_model.specs.Own.{Engine, any_engine, Log, no_log, left_at, IsKept, IsOwn, head_of, found_in, OpensParts, OpensWhole, IsBetween, OpensBetween, CrashLaws};
 ghost use Rattle.qm_model.specs.Bits.{bits};
 ghost use Rattle.qm_model.specs.Grafted.{chunk_size, chunk_of, canonical};
 ghost use Rattle.qm_model.specs.RangeProofs.{chunks_of, range_proof, range_verdict};
@@ -260,4 +260,18 @@ pub fn own_stores_are_opened<P: Ruled>()
         let e = any_engine unordered P.rules hash form shape digest_size in form.ordered ≡ false → IsKept e log → length (head_of e log) ≡ digest_size * length (peaks shape log.start) → OpensWhole e log }
     ensures ordered { (hash : Bytes → Bytes) (form : Form) (shape : Shape) (digest_size : ℕ) (log : Log) →
         let e = any_engine ordered P.rules hash form shape digest_size in IsKept e log → length (head_of e log) ≡ digest_size * length (peaks shape log.start) → OpensWhole e log }
+{}
+
+/// A crash at any moment inside a call, or behind it, leaves of an own store of any databases one that is between the log before the call and the log after it.
+pub fn crashes_inside_calls_leave_own_stores<P: Ruled>()
+    ensures unordered { (hash : Bytes → Bytes) (form : Form) (shape : Shape) (digest_size : ℕ) → CrashLaws (any_engine unordered P.rules hash form shape digest_size) }
+    ensures ordered { (hash : Bytes → Bytes) (form : Form) (shape : Shape) (digest_size : ℕ) → CrashLaws (any_engine ordered P.rules hash form shape digest_size) }
+{}
+
+/// Where its head has the length of the pins at its start, such a store is opened without a bound, to a commit-ended beginning of one of the two lists or to the fresh one, no shorter than what was settled and stays.
+pub fn what_crashes_leave_is_opened<P: Ruled>()
+    ensures unordered { (hash : Bytes → Bytes) (form : Form) (shape : Shape) (digest_size : ℕ) (before after : Log) (s : Stored) →
+        let e = any_engine unordered P.rules hash form shape digest_size in form.ordered ≡ false → (is : IsBetween e before after s) → length (head_of e is.log) ≡ digest_size * length (peaks shape is.log.start) → OpensBetween e before after s }
+    ensures ordered { (hash : Bytes → Bytes) (form : Form) (shape : Shape) (digest_size : ℕ) (before after : Log) (s : Stored) →
+        let e = any_engine ordered P.rules hash form shape digest_size in (is : IsBetween e before after s) → length (head_of e is.log) ≡ digest_size * length (peaks shape is.log.start) → OpensBetween e before after s }
 {}

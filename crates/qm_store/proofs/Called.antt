@@ -4,7 +4,7 @@ use Rattle.std.specs.Prelude.{⊤, IsErrOf}
 use Rattle.std.proofs.lemmas.Result.{on_ok_weaker, on_err_weaker}
 use Rattle.qm_model.specs.Causes.{IsCause}
 use Rattle.qm_model.specs.Operations.{Bytes}
-use Rattle.qm_model.specs.StoreModel.{Stored, end_of, Becomes, Turns}
+use Rattle.qm_model.specs.StoreModel.{Stored, end_of, Becomes, Leaves}
 use Rattle.qm_model.specs.Trees.{Shape}
 use Rattle.qm_model.proofs.Results.{ok-then, err-then}
 use Rattle.qm_store.specs.declared.Store as store
@@ -31,7 +31,7 @@ never-log given store log is same = cc
 
 pub called : {C D : Type 0} (members : store.Ghosts C) (shape : Shape) (bytes : D → Bytes) (hash : Bytes → Bytes) (f : Stored → Stored) (R : Stored → Stored → Type 0) (made : Result (Log C D) (LogRefusal (Log C D) C)) (old self : Log C D) (new : C) (done : Result ⊤ StoreError) →
     old ≡ self → ((s : Stored) → (f s).items ≡ s.items) → IfSome (members.told old.store) (λ s. s.start ≡ members.start old.store) → IfSome (members.told old.store) (λ s. end_of s ≡ members.«end» old.store) →
-    OnOk done (Becomes (members.told old.store) (members.told new) f) → OnOk done (members.«end» new ≡ members.«end» old.store) → OnErr done (Turns (members.told old.store) (members.told new) R) →
+    OnOk done (Becomes (members.told old.store) (members.told new) f) → OnOk done (members.«end» new ≡ members.«end» old.store) → OnErr done (Leaves (members.told old.store) (members.told new) R) →
     members.start new ≡ members.start old.store → members.«end» new ≤ members.«end» old.store → IsCause (members.faults old.store) (members.faults new) (IsErrOf done stores.Failed) →
     IfOk made (λ log. (done ≡ Ok tt) × (log.store ≡ new) × (log.tree ≡ old.tree)) → IfErr made (λ r. (r.given ≡ variants.Store new) × IfErr done (λ e. r.error ≡ log_error e) × (done ≢ Ok tt)) →
     IsCalled members shape bytes hash f R made self

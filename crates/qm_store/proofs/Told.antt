@@ -1,8 +1,9 @@
 -- What stores that have grown tell.
-use Rattle.std.proofs.Common.{◌≡◌, ◌≤◌, List, take, length, ap, sym, subst, append-nil, length-append, arith, refl, Option, Some, None}
+use Rattle.std.proofs.Common.{◌≡◌, ◌≤◌, List, [], ◌∷◌, ◌++◌, take, length, ap, sym, subst, append-nil, length-append, arith, refl, Option, Some, None}
 use Rattle.std.proofs.Math.Seq.{take-length}
 use Rattle.qm_model.specs.Operations.{Bytes}
-use Rattle.qm_model.specs.StoreModel.{Stored, end_of, appended, HasAppended, Turns, Becomes, without_items, beside_items}
+use Rattle.qm_model.specs.StoreModel.{Stored, end_of, rest_of, found_by, appended, IsImage, HasAppended, Becomes, Fails, Grows, without_items, beside_items}
+use Rattle.qm_model.proofs.Stores.{fails-unmoved, found-image, image-grown}
 use Rattle.qm_base.specs.declared.error.Error.{Error}
 use Rattle.qm_store.specs.declared.Store as store
 use Rattle.qm_store.specs.declared.log.LogGiven.{LogGiven}
@@ -16,26 +17,32 @@ beside-grown None new more is = ap beside_items is
 beside-grown (Some s) None more is = absurd is
 beside-grown (Some s) (Some t) more is = ap (λ x. Some (without_items x)) is
 
-beside-part : (old new : Option Stored) (more : List Bytes) → Turns old new (HasAppended more) → beside_items new ≡ beside_items old
+beside-part : (old new : Option Stored) (more : List Bytes) → Grows old new more → beside_items new ≡ beside_items old
 beside-part None new more is = ap beside_items is
 beside-part (Some s) None more is = absurd is
-beside-part (Some s) (Some t) more is = ap (λ x. Some (without_items x)) is.reads
+beside-part (Some s) (Some t) more is = ap (λ x. Some (without_items x)) is.now.reads
 
 -- all of what is due is a first part of it
-part-whole : (old new : Option Stored) (more : List Bytes) → Becomes old new (appended more) → Turns old new (HasAppended more)
+part-whole : (old new : Option Stored) (more : List Bytes) → Becomes old new (appended more) → Grows old new more
 part-whole None new more made = made
 part-whole (Some s) None more made = absurd made
-part-whole (Some s) (Some t) more made = record {
-  count = length more;
-  reads = subst (λ u. u ≡ record (appended (take (length more) more) s) { stable = u.stable }) (sym made) (ap (λ xs. appended xs s) (sym (take-length more)));
-  least_stable = subst (λ u. s.stable ≤ u.stable) (sym made) (omega arith);
-  within = λ inside. subst (λ u. u.stable ≤ end_of u) (sym made) (omega (arith, inside, length-append s.items more));
-}
+part-whole (Some s) (Some t) more made = subst (λ u. Fails (HasAppended more) (λ s. IsImage (appended more s)) s u) (sym made) (record {
+  now = record {
+    count = length more;
+    reads = ap {B = Stored} (λ xs. record s { items = s.items ++ xs; past = found_by s }) (sym (take-length more));
+    least_stable = omega arith;
+    within = λ inside. omega (arith, inside, length-append s.items more);
+  };
+  notes = rest_of s ∷ [];
+  past = refl;
+  each = λ image may. image-grown more s (record image { ends = s.ends }) (found-image s image may);
+})
 
 -- what is told has grown by none of these
-part-none : (o : Option Stored) (more : List Bytes) → Turns o o (HasAppended more)
+part-none : (o : Option Stored) (more : List Bytes) → Grows o o more
 part-none None more = refl
-part-none (Some s) more = record { count = 0; reads = ap (λ xs. record s { items = xs }) (sym (append-nil s.items)); least_stable = omega arith; within = λ inside. inside }
+part-none (Some s) more = fails-unmoved (HasAppended more) (λ s. IsImage (appended more s)) s
+    (record { count = 0; reads = ap {B = Stored} (λ xs. record s { items = xs }) (sym (append-nil s.items)); least_stable = omega arith; within = λ inside. inside })
 
 module _ {C : Type 0} (members : store.Ghosts C) (old new : C) where
   pub grown-appended : (more : List Bytes) → HasGrown members old new more → Appended members old new more
@@ -54,7 +61,7 @@ module _ {C : Type 0} (members : store.Ghosts C) (old new : C) where
 
   -- and one that is unchanged has grown by a first part of any items: none of them
   pub unchanged-appended-part : (more : List Bytes) → IsUnchanged members old new → AppendedPart members old new more
-  unchanged-appended-part more is = record { start = is.start; told = subst (λ o. Turns (members.told old) o (HasAppended more)) (sym is.told) (part-none (members.told old) more) }
+  unchanged-appended-part more is = record { start = is.start; told = subst (λ o. Grows (members.told old) o more) (sym is.told) (part-none (members.told old) more) }
 
   -- what a store tells beside its items stays where these grow
   pub appended-beside : (more : List Bytes) → Appended members old new more → beside_items (members.told new) ≡ beside_items (members.told old)

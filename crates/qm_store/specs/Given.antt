@@ -2,7 +2,7 @@
 use Rattle.std.specs.Prelude.{◌≡◌, ◌≤◌, List, IsSome, Result, Ok, Err}
 use Rattle.qm_model.specs.Live.{floor}
 use Rattle.qm_model.specs.Operations.{Bytes, Operation}
-use Rattle.qm_model.specs.StoreModel.{appended, HasAppended, Turns, Becomes}
+use Rattle.qm_model.specs.StoreModel.{appended, Becomes, Grows}
 use Rattle.qm_store.specs.declared.Store as store
 use Rattle.qm_store.specs.declared.refusal.Given.{Given}
 use Rattle.qm_store.specs.declared.refusal.Given.TheVariants.{Database, Store}
@@ -26,7 +26,7 @@ pub record Appended {C : Type 0} (members : store.Ghosts C) (old new : C) (more 
 -- they grew by a first part of these, and no fewer are stable
 pub record AppendedPart {C : Type 0} (members : store.Ghosts C) (old new : C) (more : List Bytes) : Type 0 where
   pub start : members.start new ≡ members.start old
-  pub told : Turns (members.told old) (members.told new) (HasAppended more)
+  pub told : Grows (members.told old) (members.told new) more
 
 -- a store starts at a list's floor or before, and tells its items
 abbrev pub TellsFrom : {C : Type 0} → store.Ghosts C → C → List Operation → Type 0

@@ -2,7 +2,7 @@
 use Rattle.std.specs.Prelude.{◌≡◌, ◌⊎◌, ◌≤◌, ℕ, suc, ◌+◌, ◌-◌, List, [], ◌∷◌, length, take, drop, map, Option, Some, IfSome}
 use Rattle.std.specs.List.{concat}
 use Rattle.qm_model.specs.Causes.{IsCause}
-use Rattle.qm_model.specs.StoreModel.{Stored, appended, pruned, IsOldOrNew, ReadsAs, HasAppended, Turns, Becomes}
+use Rattle.qm_model.specs.StoreModel.{Stored, appended, pruned, IsOldOrNew, ReadsAs, Becomes, Leaves, Grows}
 use Rattle.qm_model.specs.Operations.{Bytes}
 use Rattle.qm_model.specs.Trees.{Shape, leaf, peaks, leaf_digest, digest_of}
 use Rattle.qm_base.specs.declared.error.Error.{Error}
@@ -58,7 +58,7 @@ pub record HasGrownPart {C : Type 0} (members : store.Ghosts C) (old new : C) (m
   pub start : members.start new ≡ members.start old
   pub from : members.«end» old ≤ members.«end» new
   pub within : members.«end» new ≤ members.«end» old + length more
-  pub told : Turns (members.told old) (members.told new) (HasAppended more)
+  pub told : Grows (members.told old) (members.told new) more
 
 -- a store was made this, and starts and ends where it did
 pub record HasBecome {C : Type 0} (members : store.Ghosts C) (old new : C) (f : Stored → Stored) : Type 0 where
@@ -70,12 +70,12 @@ pub record HasBecome {C : Type 0} (members : store.Ghosts C) (old new : C) (f : 
 pub record HasLeft {C : Type 0} (members : store.Ghosts C) (R : Stored → Stored → Type 0) (old new : C) : Type 0 where
   pub start : members.start new ≡ members.start old
   pub within : members.«end» new ≤ members.«end» old
-  pub told : Turns (members.told old) (members.told new) R
+  pub told : Leaves (members.told old) (members.told new) R
 
 -- a prune to a location with this head failed
 pub record HasLeftPruned {C : Type 0} (members : store.Ghosts C) (to : ℕ) (head : Bytes) (old new : C) : Type 0 where
   pub within : members.«end» new ≤ members.«end» old
-  pub told : Turns (members.told old) (members.told new) (λ s. ReadsAs s.stable (IsOldOrNew (pruned to head) s))
+  pub told : Leaves (members.told old) (members.told new) (λ s. ReadsAs s.stable (IsOldOrNew (pruned to head) s))
 
 -- why a log's call failed, where its store's did
 abbrev pub log_error : StoreError → Error

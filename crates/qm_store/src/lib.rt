@@ -4,7 +4,7 @@
 ghost use Rattle.std.specs.Prelude.{◌≡◌, ℕ, ◌+◌, ◌-◌, ◌^◌, ◌<◌, ◌≤◌, min, length, map, slice_get};
 ghost use Rattle.std.specs.Prelude.{Option, Some, IfSome, IfOk, OnOk, OnErr, IsErrOf};
 ghost use Rattle.qm_model.specs.Causes.{IsCause};
-ghost use Rattle.qm_model.specs.StoreModel.{Stored, end_of, metadata_in, appended, settled, rewound, pruned, with_metadata, destroyed, IsImage, IsOldOrNew, RewindLeaves, DestroyLeaves, HasRestarted, ReadsAs, HasAppended, Turns, Becomes};
+ghost use Rattle.qm_model.specs.StoreModel.{Stored, end_of, metadata_in, appended, settled, rewound, pruned, with_metadata, destroyed, IsImage, IsOldOrNew, RewindLeaves, DestroyLeaves, HasRestarted, ReadsAs, Turns, Becomes, Leaves, Grows};
 
 mod items;
 mod kept_tree;
@@ -146,7 +146,7 @@ pub trait Store {
         requires room { end self.old + length added.now ≤ 2 ^ 62 }
         ensures ok { OnOk result (Becomes (told self.old) (told self.new) (appended (map (λ v. v.items) added.now))) }
         ensures ok_end { OnOk result (end self.new ≡ end self.old + length added.now) }
-        ensures err { OnErr result (Turns (told self.old) (told self.new) (HasAppended (map (λ v. v.items) added.now))) }
+        ensures err { OnErr result (Grows (told self.old) (told self.new) (map (λ v. v.items) added.now)) }
         ensures same_start { start self.new ≡ start self.old }
         ensures grows { end self.old ≤ end self.new }
         ensures within { end self.new ≤ end self.old + length added.now }
@@ -156,7 +156,7 @@ pub trait Store {
     fn commit(&mut self) -> Result<(), StoreError>
         ensures ok { OnOk result (Becomes (told self.old) (told self.new) settled) }
         ensures ok_end { OnOk result (end self.new ≡ end self.old) }
-        ensures err { OnErr result (Turns (told self.old) (told self.new) (λ s. ReadsAs s.stable (IsImage s))) }
+        ensures err { OnErr result (Leaves (told self.old) (told self.new) (λ s. ReadsAs s.stable (IsImage s))) }
         ensures same_start { start self.new ≡ start self.old }
         ensures within { end self.new ≤ end self.old }
         ensures cause { IsCause (faults self.old) (faults self.new) (IsErrOf result StoreError.Failed) };
@@ -165,7 +165,7 @@ pub trait Store {
     fn sync(&mut self) -> Result<(), StoreError>
         ensures ok { OnOk result (Becomes (told self.old) (told self.new) settled) }
         ensures ok_end { OnOk result (end self.new ≡ end self.old) }
-        ensures err { OnErr result (Turns (told self.old) (told self.new) (λ s. ReadsAs s.stable (IsImage s))) }
+        ensures err { OnErr result (Leaves (told self.old) (told self.new) (λ s. ReadsAs s.stable (IsImage s))) }
         ensures same_start { start self.new ≡ start self.old }
         ensures within { end self.new ≤ end self.old }
         ensures cause { IsCause (faults self.old) (faults self.new) (IsErrOf result StoreError.Failed) };
@@ -176,7 +176,7 @@ pub trait Store {
         requires before { to ≤ end self.old }
         ensures ok { OnOk result (Becomes (told self.old) (told self.new) (rewound to)) }
         ensures ok_end { OnOk result (end self.new ≡ to) }
-        ensures err { OnErr result (Turns (told self.old) (told self.new) (λ s. ReadsAs (min s.stable to) (RewindLeaves to s))) }
+        ensures err { OnErr result (Leaves (told self.old) (told self.new) (λ s. ReadsAs (min s.stable to) (RewindLeaves to s))) }
         ensures same_start { start self.new ≡ start self.old }
         ensures within { end self.new ≤ end self.old }
         ensures cause { IsCause (faults self.old) (faults self.new) (IsErrOf result StoreError.Failed) };
@@ -189,7 +189,7 @@ pub trait Store {
         ensures ok { OnOk result (Becomes (told self.old) (told self.new) (pruned to head.now)) }
         ensures ok_start { OnOk result (start self.new ≡ to) }
         ensures ok_end { OnOk result (end self.new ≡ end self.old) }
-        ensures err { OnErr result (Turns (told self.old) (told self.new) (λ s. ReadsAs s.stable (IsOldOrNew (pruned to head.now) s))) }
+        ensures err { OnErr result (Leaves (told self.old) (told self.new) (λ s. ReadsAs s.stable (IsOldOrNew (pruned to head.now) s))) }
         ensures within { end self.new ≤ end self.old }
         ensures cause { IsCause (faults self.old) (faults self.new) (IsErrOf result StoreError.Failed) };
 
@@ -197,7 +197,7 @@ pub trait Store {
     fn put_meta(&mut self, name: &str, entries: &[MetaEntry]) -> Result<(), StoreError>
         ensures ok { OnOk result (Becomes (told self.old) (told self.new) (with_metadata name.now entries.now)) }
         ensures ok_end { OnOk result (end self.new ≡ end self.old) }
-        ensures err { OnErr result (Turns (told self.old) (told self.new) (λ s. ReadsAs s.stable (IsOldOrNew (with_metadata name.now entries.now) s))) }
+        ensures err { OnErr result (Leaves (told self.old) (told self.new) (λ s. ReadsAs s.stable (IsOldOrNew (with_metadata name.now entries.now) s))) }
         ensures same_start { start self.new ≡ start self.old }
         ensures within { end self.new ≤ end self.old }
         ensures cause { IsCause (faults self.old) (faults self.new) (IsErrOf result StoreError.Failed) };
@@ -206,7 +206,7 @@ pub trait Store {
     /// The store is asked to keep the items up to `keep`, and tells the end that it chose.
     fn restart(&mut self, keep: u64) -> Result<(), StoreError>
         ensures ok { OnOk result (Turns (told self.old) (told self.new) HasRestarted) }
-        ensures err { OnErr result (Turns (told self.old) (told self.new) (λ s. ReadsAs s.stable (IsImage s))) }
+        ensures err { OnErr result (Leaves (told self.old) (told self.new) (λ s. ReadsAs s.stable (IsImage s))) }
         ensures same_start { start self.new ≡ start self.old }
         ensures within { end self.new ≤ end self.old }
         ensures cause { IsCause (faults self.old) (faults self.new) (IsErrOf result StoreError.Failed) };
@@ -216,7 +216,7 @@ pub trait Store {
         ensures ok { OnOk result (Becomes (told self.old) (told self.new) destroyed) }
         ensures ok_start { OnOk result (start self.new ≡ 0) }
         ensures ok_end { OnOk result (end self.new ≡ 0) }
-        ensures err { OnErr result (Turns (told self.old) (told self.new) DestroyLeaves) }
+        ensures err { OnErr result (Leaves (told self.old) (told self.new) DestroyLeaves) }
         ensures within { end self.new ≤ end self.old }
         ensures cause { IsCause (faults self.old) (faults self.new) (IsErrOf result StoreError.Failed) };
 

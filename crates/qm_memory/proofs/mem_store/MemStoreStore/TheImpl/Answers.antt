@@ -1,7 +1,7 @@
 use Rattle.std.proofs.Common.{min, map, rules, arith}
 use Rattle.std.proofs.lemmas.Grind.{common_steps}
-use Rattle.qm_model.specs.StoreModel.{IsImage, IsOldOrNew, RewindLeaves, ReadsAs, HasAppended, DestroyLeaves, pruned, with_metadata}
-use Rattle.qm_model.proofs.Stores.{reads-kept, reads-kept-or, reads-kept-rewind, reads-kept-append, reads-kept-destroy}
+use Rattle.qm_model.specs.StoreModel.{IsImage, IsOldOrNew, RewindLeaves, ReadsAs, HasAppended, DestroyLeaves, Fails, appended, pruned, with_metadata}
+use Rattle.qm_model.proofs.Stores.{reads-kept, reads-kept-or, reads-kept-rewind, reads-kept-append, reads-kept-destroy, fails-unmoved}
 use Rattle.qm_memory.proofs.Mems.{held-on_err, kept-on_err, held-inside, restart-chose}
 use Rattle.qm_memory.proofs.mem_store.MemStoreStore.TheImpl.Goals as goal
 
@@ -15,7 +15,7 @@ append-tells c =
       grows = grind (arith, common_steps);
       within = grind (arith, common_steps);
       cause = search rules;
-      err = kept-on_err c.result old.held c.new.self.now.held (λ s. HasAppended (map (λ v. v.items) c.args.added.now) s) (held-on_err c.result old c.new.self.now c.ensures.fault c.ensures.memory) (reads-kept-append (map (λ v. v.items) c.args.added.now) old.held (held-inside old c.ensures.inside));
+      err = kept-on_err c.result old.held c.new.self.now.held (Fails (HasAppended (map (λ v. v.items) c.args.added.now)) (λ s. IsImage (appended (map (λ v. v.items) c.args.added.now) s))) (held-on_err c.result old c.new.self.now c.ensures.fault c.ensures.memory) (fails-unmoved (HasAppended (map (λ v. v.items) c.args.added.now)) (λ s. IsImage (appended (map (λ v. v.items) c.args.added.now) s)) old.held (reads-kept-append (map (λ v. v.items) c.args.added.now) old.held (held-inside old c.ensures.inside)));
     }
 
 pub commit-tells : goal.commit-tells
@@ -27,7 +27,7 @@ commit-tells c =
       same_start = search rules;
       within = search rules;
       cause = search rules;
-      err = kept-on_err c.result old.held c.new.self.now.held (λ s. ReadsAs s.stable (IsImage s)) (held-on_err c.result old c.new.self.now c.ensures.fault c.ensures.memory) (reads-kept old.held (held-inside old c.ensures.inside));
+      err = kept-on_err c.result old.held c.new.self.now.held (Fails (λ s. ReadsAs s.stable (IsImage s)) (λ s. ReadsAs s.stable (IsImage s))) (held-on_err c.result old c.new.self.now c.ensures.fault c.ensures.memory) (fails-unmoved (λ s. ReadsAs s.stable (IsImage s)) (λ s. ReadsAs s.stable (IsImage s)) old.held (reads-kept old.held (held-inside old c.ensures.inside)));
     }
 
 pub sync-tells : goal.sync-tells
@@ -39,7 +39,7 @@ sync-tells c =
       same_start = search rules;
       within = search rules;
       cause = search rules;
-      err = kept-on_err c.result old.held c.new.self.now.held (λ s. ReadsAs s.stable (IsImage s)) (held-on_err c.result old c.new.self.now c.ensures.fault c.ensures.memory) (reads-kept old.held (held-inside old c.ensures.inside));
+      err = kept-on_err c.result old.held c.new.self.now.held (Fails (λ s. ReadsAs s.stable (IsImage s)) (λ s. ReadsAs s.stable (IsImage s))) (held-on_err c.result old c.new.self.now c.ensures.fault c.ensures.memory) (fails-unmoved (λ s. ReadsAs s.stable (IsImage s)) (λ s. ReadsAs s.stable (IsImage s)) old.held (reads-kept old.held (held-inside old c.ensures.inside)));
     }
 
 pub rewind-tells : goal.rewind-tells
@@ -51,7 +51,7 @@ rewind-tells c =
       same_start = search rules;
       within = search rules;
       cause = search rules;
-      err = kept-on_err c.result old.held c.new.self.now.held (λ s. ReadsAs (min s.stable c.args.to) (RewindLeaves c.args.to s)) (held-on_err c.result old c.new.self.now c.ensures.fault c.ensures.memory) (reads-kept-rewind c.args.to old.held (held-inside old c.ensures.inside));
+      err = kept-on_err c.result old.held c.new.self.now.held (Fails (λ s. ReadsAs (min s.stable c.args.to) (RewindLeaves c.args.to s)) (λ s. ReadsAs (min s.stable c.args.to) (RewindLeaves c.args.to s))) (held-on_err c.result old c.new.self.now c.ensures.fault c.ensures.memory) (fails-unmoved (λ s. ReadsAs (min s.stable c.args.to) (RewindLeaves c.args.to s)) (λ s. ReadsAs (min s.stable c.args.to) (RewindLeaves c.args.to s)) old.held (reads-kept-rewind c.args.to old.held (held-inside old c.ensures.inside)));
     }
 
 pub prune-tells : goal.prune-tells
@@ -63,7 +63,7 @@ prune-tells c =
       ok_end = grind (arith, common_steps);
       within = grind (arith, common_steps);
       cause = search rules;
-      err = kept-on_err c.result old.held c.new.self.now.held (λ s. ReadsAs s.stable (IsOldOrNew (pruned c.args.to c.args.head.now) s)) (held-on_err c.result old c.new.self.now c.ensures.fault c.ensures.memory) (reads-kept-or (pruned c.args.to c.args.head.now) old.held (held-inside old c.ensures.inside));
+      err = kept-on_err c.result old.held c.new.self.now.held (Fails (λ s. ReadsAs s.stable (IsOldOrNew (pruned c.args.to c.args.head.now) s)) (λ s. ReadsAs s.stable (IsOldOrNew (pruned c.args.to c.args.head.now) s))) (held-on_err c.result old c.new.self.now c.ensures.fault c.ensures.memory) (fails-unmoved (λ s. ReadsAs s.stable (IsOldOrNew (pruned c.args.to c.args.head.now) s)) (λ s. ReadsAs s.stable (IsOldOrNew (pruned c.args.to c.args.head.now) s)) old.held (reads-kept-or (pruned c.args.to c.args.head.now) old.held (held-inside old c.ensures.inside)));
     }
 
 pub put_meta-tells : goal.put_meta-tells
@@ -75,7 +75,7 @@ put_meta-tells c =
       same_start = search rules;
       within = search rules;
       cause = search rules;
-      err = kept-on_err c.result old.held c.new.self.now.held (λ s. ReadsAs s.stable (IsOldOrNew (with_metadata c.args.name.now c.args.entries.now) s)) (held-on_err c.result old c.new.self.now c.ensures.fault c.ensures.memory) (reads-kept-or (with_metadata c.args.name.now c.args.entries.now) old.held (held-inside old c.ensures.inside));
+      err = kept-on_err c.result old.held c.new.self.now.held (Fails (λ s. ReadsAs s.stable (IsOldOrNew (with_metadata c.args.name.now c.args.entries.now) s)) (λ s. ReadsAs s.stable (IsOldOrNew (with_metadata c.args.name.now c.args.entries.now) s))) (held-on_err c.result old c.new.self.now c.ensures.fault c.ensures.memory) (fails-unmoved (λ s. ReadsAs s.stable (IsOldOrNew (with_metadata c.args.name.now c.args.entries.now) s)) (λ s. ReadsAs s.stable (IsOldOrNew (with_metadata c.args.name.now c.args.entries.now) s)) old.held (reads-kept-or (with_metadata c.args.name.now c.args.entries.now) old.held (held-inside old c.ensures.inside)));
     }
 
 pub restart-tells : goal.restart-tells
@@ -86,7 +86,7 @@ restart-tells c =
       within = search rules;
       cause = search rules;
       ok = restart-chose c.result old c.new.self.now c.args.keep c.ensures.inside c.ensures.ok;
-      err = kept-on_err c.result old.held c.new.self.now.held (λ s. ReadsAs s.stable (IsImage s)) (held-on_err c.result old c.new.self.now c.ensures.fault c.ensures.memory) (reads-kept old.held (held-inside old c.ensures.inside));
+      err = kept-on_err c.result old.held c.new.self.now.held (Fails (λ s. ReadsAs s.stable (IsImage s)) (λ s. ReadsAs s.stable (IsImage s))) (held-on_err c.result old c.new.self.now c.ensures.fault c.ensures.memory) (fails-unmoved (λ s. ReadsAs s.stable (IsImage s)) (λ s. ReadsAs s.stable (IsImage s)) old.held (reads-kept old.held (held-inside old c.ensures.inside)));
     }
 
 pub destroy-tells : goal.destroy-tells
@@ -98,5 +98,5 @@ destroy-tells c =
       ok_end = search rules;
       within = search rules;
       cause = search rules;
-      err = kept-on_err c.result old.held c.new.self.now.held DestroyLeaves (held-on_err c.result old c.new.self.now c.ensures.fault c.ensures.memory) (reads-kept-destroy old.held (held-inside old c.ensures.inside));
+      err = kept-on_err c.result old.held c.new.self.now.held (Fails DestroyLeaves DestroyLeaves) (held-on_err c.result old c.new.self.now c.ensures.fault c.ensures.memory) (fails-unmoved DestroyLeaves DestroyLeaves old.held (reads-kept-destroy old.held (held-inside old c.ensures.inside)));
     }

@@ -1,9 +1,10 @@
-use Rattle.std.proofs.Common.{◌≡◌, ◌∙◌, ◌+◌, ◌^◌, ◌≤◌, ℕ, length, map, reverse, refl, ap, sym, subst, arith}
+use Rattle.std.proofs.Common.{[], ◌≡◌, ◌∙◌, ◌+◌, ◌^◌, ◌≤◌, ℕ, length, map, reverse, refl, ap, sym, subst, arith}
 use Rattle.std.proofs.lemmas.List.{length-append, length-map}
 use Rattle.std.proofs.lemmas.Result.{err_from_is_err_and}
 use Rattle.qm_model.specs.StoreModel.{Stored, appended, end_of}
 use Rattle.qm_memory.specs.Changes.{grew, appending}
 use Rattle.qm_memory.specs.Mem.{Mem}
+use Rattle.qm_memory.proofs.Changes.{past-append}
 use Rattle.qm_memory.proofs.Exits.{noted, uncounted, unmade, come_off}
 use Rattle.qm_memory.proofs.mem_store.MemStoreStore.append.Goals as goal
 
@@ -15,21 +16,21 @@ returns-in_err-call c =
 pub returns-in_err-reserve : goal.returns-in_err-reserve
 returns-in_err-reserve c =
     let exit = err_from_is_err_and c.from_residual-in_err-reserve.result c.from_residual-in_err-reserve.ensures.1 in
-    unmade c.call.result c.args.self.now c.call.new.self c.call.ensures.inside c.call.ensures.listed _ _ c.in_ok-call.was c.self.view_is c.in_ok-call.ensures.ok _ c.from_residual-in_err-reserve.result _ _ exit refl (ap reverse c.reserve.ensures.items)
+    unmade c.call.result c.args.self.now c.call.new.self c.call.ensures.inside c.call.ensures.listed _ _ c.in_ok-call.was c.self.view_is c.in_ok-call.ensures.ok _ c.from_residual-in_err-reserve.result (record { start = c.self.inside.first; items = c.self.inside.kept; head = c.self.inside.head.items; metadata = c.self.inside.metadata.items; stable = c.self.inside.stable; ends = c.self.inside.ends.items; past = [] }) (record { start = c.self.inside.first; items = c.self.inside.kept; head = c.self.inside.head.items; metadata = c.self.inside.metadata.items; stable = c.self.inside.stable; ends = c.self.inside.ends.items; past = [] }) _ exit refl (ap reverse c.reserve.ensures.items) refl
 
 pub returns-in_err-append : goal.returns-in_err-append
 returns-in_err-append c =
     let exit = err_from_is_err_and c.from_residual-in_err-append.result c.from_residual-in_err-append.ensures.1 in
     let s = c.self.inside in
-    unmade c.call.result c.args.self.now c.call.new.self c.call.ensures.inside c.call.ensures.listed _ _ c.in_ok-call.was c.self.view_is c.in_ok-call.ensures.ok _ c.from_residual-in_err-append.result _ _ exit
-    (ap {B = Stored} (λ items. record { start = s.first; items = items; head = s.head.items; metadata = s.metadata.items; stable = s.stable; ends = s.ends.items }) c.in_err-append.ensures.err) (ap reverse c.reserve.ensures.items)
+    unmade c.call.result c.args.self.now c.call.new.self c.call.ensures.inside c.call.ensures.listed _ _ c.in_ok-call.was c.self.view_is c.in_ok-call.ensures.ok _ c.from_residual-in_err-append.result _ (record { start = c.self.inside.first; items = c.self.inside.kept; head = c.self.inside.head.items; metadata = c.self.inside.metadata.items; stable = c.self.inside.stable; ends = c.self.inside.ends.items; past = [] }) _ exit
+    (ap {B = Stored} (λ items. record { start = s.first; items = items; head = s.head.items; metadata = s.metadata.items; stable = s.stable; ends = s.ends.items; past = [] }) c.in_err-append.ensures.err) (ap reverse c.reserve.ensures.items) refl
 
 pub returns : goal.returns
 returns c =
     let s = c.self.inside in
-    come_off c.call.result c.args.self.now c.call.new.self c.call.ensures.inside c.call.ensures.listed _ _ c.in_ok-call.was c.self.view_is c.in_ok-call.ensures.ok (appended (map (λ v. v.items) c.args.added.now)) (appending (map (λ v. v.items) c.args.added.now)) _ _
-    (ap {B = Stored} (λ items. record { start = s.first; items = items; head = s.head.items; metadata = s.metadata.items; stable = s.stable; ends = s.ends.items }) c.in_ok-append.ensures.ok)
-    (noted _ _ _ _ _ c.push_reserved.ensures.items c.reserve.ensures.items (ap grew (sym (length-map c.args.added.now (λ v. v.items)))))
+    come_off c.call.result c.args.self.now c.call.new.self c.call.ensures.inside c.call.ensures.listed _ _ c.in_ok-call.was c.self.view_is c.in_ok-call.ensures.ok (appended (map (λ v. v.items) c.args.added.now)) (appending (map (λ v. v.items) c.args.added.now)) _ (record { start = c.self.inside.first; items = c.self.inside.kept; head = c.self.inside.head.items; metadata = c.self.inside.metadata.items; stable = c.self.inside.stable; ends = c.self.inside.ends.items; past = [] }) _
+    (ap {B = Stored} (λ items. record { start = s.first; items = items; head = s.head.items; metadata = s.metadata.items; stable = s.stable; ends = s.ends.items; past = [] }) c.in_ok-append.ensures.ok)
+    (noted _ _ _ _ _ c.push_reserved.ensures.items c.reserve.ensures.items (ap grew (sym (length-map c.args.added.now (λ v. v.items))))) refl (λ cs s once. past-append (map (λ v. v.items) c.args.added.now) cs s)
 
 -- what the items have become ends within the limit
 within : (first stable count more new limit : ℕ) → stable ≤ first + count → first + count + more ≤ limit → new ≡ count + more → (stable ≤ first + new) × (first + new ≤ limit)

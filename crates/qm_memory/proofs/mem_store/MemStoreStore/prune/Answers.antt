@@ -1,9 +1,10 @@
-use Rattle.std.proofs.Common.{◌≡◌, ◌∙◌, ◌+◌, ◌-◌, ◌^◌, ◌≤◌, ℕ, length, reverse, refl, ap, ap₂, sym, subst, arith}
+use Rattle.std.proofs.Common.{[], ◌≡◌, ◌∙◌, ◌+◌, ◌-◌, ◌^◌, ◌≤◌, ℕ, length, reverse, refl, ap, ap₂, sym, subst, arith}
 use Rattle.std.proofs.lemmas.List.{length-drop}
 use Rattle.std.proofs.lemmas.Result.{err_from_is_err_and}
 use Rattle.qm_model.specs.StoreModel.{Stored, pruned, end_of}
 use Rattle.qm_memory.specs.Changes.{pruned_from, pruning}
 use Rattle.qm_memory.specs.Mem.{Mem}
+use Rattle.qm_memory.proofs.Changes.{past-prune}
 use Rattle.qm_memory.proofs.Exits.{one_fits, inside_items, noted, uncounted, unmade, come_off}
 use Rattle.qm_memory.proofs.mem_store.MemStoreStore.prune.Goals as goal
 
@@ -15,31 +16,31 @@ returns-in_err-call c =
 pub returns-in_err-reserve : goal.returns-in_err-reserve
 returns-in_err-reserve c =
     let exit = err_from_is_err_and c.from_residual-in_err-reserve.result c.from_residual-in_err-reserve.ensures.1 in
-    unmade c.call.result c.args.self.now c.call.new.self c.call.ensures.inside c.call.ensures.listed _ _ c.in_ok-call.was c.self.view_is c.in_ok-call.ensures.ok _ c.from_residual-in_err-reserve.result _ _ exit refl (ap reverse c.reserve.ensures.items)
+    unmade c.call.result c.args.self.now c.call.new.self c.call.ensures.inside c.call.ensures.listed _ _ c.in_ok-call.was c.self.view_is c.in_ok-call.ensures.ok _ c.from_residual-in_err-reserve.result (record { start = c.self.inside.first; items = c.self.inside.kept; head = c.self.inside.head.items; metadata = c.self.inside.metadata.items; stable = c.self.inside.stable; ends = c.self.inside.ends.items; past = [] }) (record { start = c.self.inside.first; items = c.self.inside.kept; head = c.self.inside.head.items; metadata = c.self.inside.metadata.items; stable = c.self.inside.stable; ends = c.self.inside.ends.items; past = [] }) _ exit refl (ap reverse c.reserve.ensures.items) refl
 
 pub returns-in_err-head : goal.returns-in_err-head
 returns-in_err-head c =
     let exit = err_from_is_err_and c.from_residual-in_err-head.result c.from_residual-in_err-head.ensures.1 in
-    unmade c.call.result c.args.self.now c.call.new.self c.call.ensures.inside c.call.ensures.listed _ _ c.in_ok-call.was c.self.view_is c.in_ok-call.ensures.ok _ c.from_residual-in_err-head.result _ _ exit refl (ap reverse c.reserve.ensures.items)
+    unmade c.call.result c.args.self.now c.call.new.self c.call.ensures.inside c.call.ensures.listed _ _ c.in_ok-call.was c.self.view_is c.in_ok-call.ensures.ok _ c.from_residual-in_err-head.result (record { start = c.self.inside.first; items = c.self.inside.kept; head = c.self.inside.head.items; metadata = c.self.inside.metadata.items; stable = c.self.inside.stable; ends = c.self.inside.ends.items; past = [] }) (record { start = c.self.inside.first; items = c.self.inside.kept; head = c.self.inside.head.items; metadata = c.self.inside.metadata.items; stable = c.self.inside.stable; ends = c.self.inside.ends.items; past = [] }) _ exit refl (ap reverse c.reserve.ensures.items) refl
 
 pub returns-in_err-first : goal.returns-in_err-first
 returns-in_err-first c =
     let exit = err_from_is_err_and c.from_residual-in_err-first.result c.from_residual-in_err-first.ensures.1 in
-    unmade c.call.result c.args.self.now c.call.new.self c.call.ensures.inside c.call.ensures.listed _ _ c.in_ok-call.was c.self.view_is c.in_ok-call.ensures.ok _ c.from_residual-in_err-first.result _ _ exit refl (ap reverse c.reserve.ensures.items)
+    unmade c.call.result c.args.self.now c.call.new.self c.call.ensures.inside c.call.ensures.listed _ _ c.in_ok-call.was c.self.view_is c.in_ok-call.ensures.ok _ c.from_residual-in_err-first.result (record { start = c.self.inside.first; items = c.self.inside.kept; head = c.self.inside.head.items; metadata = c.self.inside.metadata.items; stable = c.self.inside.stable; ends = c.self.inside.ends.items; past = [] }) (record { start = c.self.inside.first; items = c.self.inside.kept; head = c.self.inside.head.items; metadata = c.self.inside.metadata.items; stable = c.self.inside.stable; ends = c.self.inside.ends.items; past = [] }) _ exit refl (ap reverse c.reserve.ensures.items) refl
 
 pub returns-in_err-pruned : goal.returns-in_err-pruned
 returns-in_err-pruned c =
     let exit = err_from_is_err_and c.from_residual-in_err-pruned.result c.from_residual-in_err-pruned.ensures.1 in
-    unmade c.call.result c.args.self.now c.call.new.self c.call.ensures.inside c.call.ensures.listed _ _ c.in_ok-call.was c.self.view_is c.in_ok-call.ensures.ok _ c.from_residual-in_err-pruned.result _ _ exit refl (ap reverse c.reserve.ensures.items)
+    unmade c.call.result c.args.self.now c.call.new.self c.call.ensures.inside c.call.ensures.listed _ _ c.in_ok-call.was c.self.view_is c.in_ok-call.ensures.ok _ c.from_residual-in_err-pruned.result (record { start = c.self.inside.first; items = c.self.inside.kept; head = c.self.inside.head.items; metadata = c.self.inside.metadata.items; stable = c.self.inside.stable; ends = c.self.inside.ends.items; past = [] }) (record { start = c.self.inside.first; items = c.self.inside.kept; head = c.self.inside.head.items; metadata = c.self.inside.metadata.items; stable = c.self.inside.stable; ends = c.self.inside.ends.items; past = [] }) _ exit refl (ap reverse c.reserve.ensures.items) refl
 
 pub returns : goal.returns
 returns c =
     let s = c.self.inside in
-    come_off c.call.result c.args.self.now c.call.new.self c.call.ensures.inside c.call.ensures.listed _ _ c.in_ok-call.was c.self.view_is c.in_ok-call.ensures.ok (pruned c.args.to c.args.head.now) (pruning c.args.to) _ _
-    (ap₂ {C = Stored} (λ items head. record { start = c.args.to; items = items; head = head; metadata = s.metadata.items; stable = s.stable; ends = s.ends.items }) c.remove_first.ensures
+    come_off c.call.result c.args.self.now c.call.new.self c.call.ensures.inside c.call.ensures.listed _ _ c.in_ok-call.was c.self.view_is c.in_ok-call.ensures.ok (pruned c.args.to c.args.head.now) (pruning c.args.to) _ (record { start = c.self.inside.first; items = c.self.inside.kept; head = c.self.inside.head.items; metadata = c.self.inside.metadata.items; stable = c.self.inside.stable; ends = c.self.inside.ends.items; past = [] }) _
+    (ap₂ {C = Stored} (λ items head. record { start = c.args.to; items = items; head = head; metadata = s.metadata.items; stable = s.stable; ends = s.ends.items; past = [] }) c.remove_first.ensures
     (ap (λ v. v.items) c.replace.ensures.after ∙ c.in_ok-head.ensures.items_if_clones_equal (λ x y same. same)))
     (noted _ _ _ _ _ c.push_reserved.ensures.items c.reserve.ensures.items
-    (ap₂ (λ p head. pruned_from p.start head p.items) (c.deref_mut.ensures.value ∙ c.in_ok-pruned.ensures.ok) (ap (λ v. v.items) c.replace.ensures.value) ∙ ap (pruned_from s.first s.head.items) c.in_ok-first.ensures))
+    (ap₂ (λ p head. pruned_from p.start head p.items) (c.deref_mut.ensures.value ∙ c.in_ok-pruned.ensures.ok) (ap (λ v. v.items) c.replace.ensures.value) ∙ ap (pruned_from s.first s.head.items) c.in_ok-first.ensures)) refl (λ cs s once. past-prune c.args.to c.args.head.now cs s)
 
 -- what is left of the items ends within the limit
 within : (start to stable count rest : ℕ) → start ≤ to → to ≤ stable → stable ≤ start + count → start + count ≤ 2 ^ 62 → rest ≡ count - (to - start) → (stable ≤ to + rest) × (to + rest ≤ 2 ^ 62)

@@ -1,9 +1,10 @@
-use Rattle.std.proofs.Common.{◌≡◌, ◌∙◌, ◌∷◌, reverse, List, filter, not, refl, ap, ap₂, sym, subst}
+use Rattle.std.proofs.Common.{[], ◌≡◌, ◌∙◌, ◌∷◌, reverse, List, filter, not, refl, ap, ap₂, sym, subst}
 use Rattle.std.proofs.lemmas.Result.{err_from_is_err_and}
 use Rattle.qm_model.specs.StoreModel.{Named, Stored, with_metadata}
 use Rattle.qm_memory.specs.Changes.{AreNamedOnce, putting}
 use Rattle.std.specs.Prelude.{bytes_eq}
 use Rattle.qm_memory.proofs.Changes.{once-put}
+use Rattle.qm_memory.proofs.Changes.{past-put}
 use Rattle.qm_memory.proofs.Exits.{one_fits, noted, uncounted, unmade, come_off}
 use Rattle.qm_memory.proofs.mem_store.MemStoreStore.put_meta.Goals as goal
 
@@ -15,28 +16,28 @@ returns-in_err-call c =
 pub returns-in_err-reserve : goal.returns-in_err-reserve
 returns-in_err-reserve c =
     let exit = err_from_is_err_and c.from_residual-in_err-reserve.result c.from_residual-in_err-reserve.ensures.1 in
-    unmade c.call.result c.args.self.now c.call.new.self c.call.ensures.inside c.call.ensures.listed _ _ c.in_ok-call.was c.self.view_is c.in_ok-call.ensures.ok _ c.from_residual-in_err-reserve.result _ _ exit refl (ap reverse c.reserve.ensures.items)
+    unmade c.call.result c.args.self.now c.call.new.self c.call.ensures.inside c.call.ensures.listed _ _ c.in_ok-call.was c.self.view_is c.in_ok-call.ensures.ok _ c.from_residual-in_err-reserve.result (record { start = c.self.inside.first; items = c.self.inside.kept; head = c.self.inside.head.items; metadata = c.self.inside.metadata.items; stable = c.self.inside.stable; ends = c.self.inside.ends.items; past = [] }) (record { start = c.self.inside.first; items = c.self.inside.kept; head = c.self.inside.head.items; metadata = c.self.inside.metadata.items; stable = c.self.inside.stable; ends = c.self.inside.ends.items; past = [] }) _ exit refl (ap reverse c.reserve.ensures.items) refl
 
 pub returns-in_err-reserve-2 : goal.returns-in_err-reserve-2
 returns-in_err-reserve-2 c =
     let exit = err_from_is_err_and c.from_residual-in_err-reserve-2.result c.from_residual-in_err-reserve-2.ensures.1 in
     let s = c.self.inside in
-    unmade c.call.result c.args.self.now c.call.new.self c.call.ensures.inside c.call.ensures.listed _ _ c.in_ok-call.was c.self.view_is c.in_ok-call.ensures.ok _ c.from_residual-in_err-reserve-2.result _ _ exit
-    (ap {B = Stored} (λ metadata. record { start = s.first; items = s.kept; head = s.head.items; metadata = metadata; stable = s.stable; ends = s.ends.items }) c.reserve-2.ensures.items) (ap reverse c.reserve.ensures.items)
+    unmade c.call.result c.args.self.now c.call.new.self c.call.ensures.inside c.call.ensures.listed _ _ c.in_ok-call.was c.self.view_is c.in_ok-call.ensures.ok _ c.from_residual-in_err-reserve-2.result _ (record { start = c.self.inside.first; items = c.self.inside.kept; head = c.self.inside.head.items; metadata = c.self.inside.metadata.items; stable = c.self.inside.stable; ends = c.self.inside.ends.items; past = [] }) _ exit
+    (ap {B = Stored} (λ metadata. record { start = s.first; items = s.kept; head = s.head.items; metadata = metadata; stable = s.stable; ends = s.ends.items; past = [] }) c.reserve-2.ensures.items) (ap reverse c.reserve.ensures.items) refl
 
 pub returns-in_err-named : goal.returns-in_err-named
 returns-in_err-named c =
     let exit = err_from_is_err_and c.from_residual-in_err-named.result c.from_residual-in_err-named.ensures.1 in
     let s = c.self.inside in
-    unmade c.call.result c.args.self.now c.call.new.self c.call.ensures.inside c.call.ensures.listed _ _ c.in_ok-call.was c.self.view_is c.in_ok-call.ensures.ok _ c.from_residual-in_err-named.result _ _ exit
-    (ap {B = Stored} (λ metadata. record { start = s.first; items = s.kept; head = s.head.items; metadata = metadata; stable = s.stable; ends = s.ends.items }) c.reserve-2.ensures.items) (ap reverse c.reserve.ensures.items)
+    unmade c.call.result c.args.self.now c.call.new.self c.call.ensures.inside c.call.ensures.listed _ _ c.in_ok-call.was c.self.view_is c.in_ok-call.ensures.ok _ c.from_residual-in_err-named.result _ (record { start = c.self.inside.first; items = c.self.inside.kept; head = c.self.inside.head.items; metadata = c.self.inside.metadata.items; stable = c.self.inside.stable; ends = c.self.inside.ends.items; past = [] }) _ exit
+    (ap {B = Stored} (λ metadata. record { start = s.first; items = s.kept; head = s.head.items; metadata = metadata; stable = s.stable; ends = s.ends.items; past = [] }) c.reserve-2.ensures.items) (ap reverse c.reserve.ensures.items) refl
 
 pub returns-in_err-change : goal.returns-in_err-change
 returns-in_err-change c =
     let exit = err_from_is_err_and c.from_residual-in_err-change.result c.from_residual-in_err-change.ensures.1 in
     let s = c.self.inside in
-    unmade c.call.result c.args.self.now c.call.new.self c.call.ensures.inside c.call.ensures.listed _ _ c.in_ok-call.was c.self.view_is c.in_ok-call.ensures.ok _ c.from_residual-in_err-change.result _ _ exit
-    (ap {B = Stored} (λ metadata. record { start = s.first; items = s.kept; head = s.head.items; metadata = metadata; stable = s.stable; ends = s.ends.items }) (c.in_err-change.ensures.err ∙ c.reserve-2.ensures.items)) (ap reverse c.reserve.ensures.items)
+    unmade c.call.result c.args.self.now c.call.new.self c.call.ensures.inside c.call.ensures.listed _ _ c.in_ok-call.was c.self.view_is c.in_ok-call.ensures.ok _ c.from_residual-in_err-change.result _ (record { start = c.self.inside.first; items = c.self.inside.kept; head = c.self.inside.head.items; metadata = c.self.inside.metadata.items; stable = c.self.inside.stable; ends = c.self.inside.ends.items; past = [] }) _ exit
+    (ap {B = Stored} (λ metadata. record { start = s.first; items = s.kept; head = s.head.items; metadata = metadata; stable = s.stable; ends = s.ends.items; past = [] }) (c.in_err-change.ensures.err ∙ c.reserve-2.ensures.items)) (ap reverse c.reserve.ensures.items) refl
 
 -- what was put stands before the rest
 put : (c : goal.After-push_reserved) → c.insert.new.self.items ≡ record { name = c.args.name.now; entries = c.args.entries.now } ∷ filter (λ m. not (bytes_eq c.args.name.now m.name)) c.self.inside.metadata.items
@@ -47,10 +48,10 @@ put c =
 pub returns : goal.returns
 returns c =
     let s = c.self.inside in
-    come_off c.call.result c.args.self.now c.call.new.self c.call.ensures.inside c.call.ensures.listed _ _ c.in_ok-call.was c.self.view_is c.in_ok-call.ensures.ok (with_metadata c.args.name.now c.args.entries.now) (λ s. putting c.args.name.now s.metadata) _ _
-    (ap {B = Stored} (λ metadata. record { start = s.first; items = s.kept; head = s.head.items; metadata = metadata; stable = s.stable; ends = s.ends.items }) (put c))
+    come_off c.call.result c.args.self.now c.call.new.self c.call.ensures.inside c.call.ensures.listed _ _ c.in_ok-call.was c.self.view_is c.in_ok-call.ensures.ok (with_metadata c.args.name.now c.args.entries.now) (λ s. putting c.args.name.now s.metadata) _ (record { start = c.self.inside.first; items = c.self.inside.kept; head = c.self.inside.head.items; metadata = c.self.inside.metadata.items; stable = c.self.inside.stable; ends = c.self.inside.ends.items; past = [] }) _
+    (ap {B = Stored} (λ metadata. record { start = s.first; items = s.kept; head = s.head.items; metadata = metadata; stable = s.stable; ends = s.ends.items; past = [] }) (put c))
     (noted _ _ _ _ _ c.push_reserved.ensures.items c.reserve.ensures.items
-    (c.in_ok-change.ensures.change ∙ ap (putting c.args.name.now) c.reserve-2.ensures.items))
+    (c.in_ok-change.ensures.change ∙ ap (putting c.args.name.now) c.reserve-2.ensures.items)) refl (λ cs s once. past-put c.args.name.now c.args.entries.now cs s once)
 
 pub invariant_of-self-2 : goal.invariant_of-self-2
 invariant_of-self-2 c =
