@@ -6,3 +6,4 @@ pub mod Tips
 pub mod Scanned
 pub mod Restoring
 pub mod Lent
+pub mod Reading

@@ -12,15 +12,14 @@ ghost use Rattle.qm_merkle.specs.Batches.{stops, stops_since};
 ghost use Rattle.qm_proofs.specs.Proofs.{proof_view, first_lacked, needed_positions};
 ghost use Rattle.qm_chain.specs.Bounds.{commitment_view, is_at, knows};
 ghost use Rattle.qm_step.specs.Bases.{base_view};
-ghost use Rattle.qm_store.specs.Reads.{IsReadError};
-ghost use Rattle.qm_step.specs.Lent.{NoneBelow};
 ghost use Rattle.qm_step.specs.Views.{changes_view, keys_of, write_view, AreReads};
-ghost use Rattle.qm_any.specs.Databases.{AreAgreed, IsDatabase, IsBegun, IsMade, IsLeft, base_of, bases, child_boundary, child_made, child_tips, operations_in, unapplied};
+ghost use Rattle.qm_any.specs.Databases.{AreAgreed, IsDatabase, IsBegun, IsMade, base_of, bases, child_boundary, child_made, child_tips, operations_in, unapplied};
 ghost use Rattle.qm_store.specs.Log.{IsLacked};
 ghost use Rattle.qm_store.specs.KeptTrees.{held_at};
 ghost use Rattle.qm_any.specs.Tips.{IsPlaced, IsUnplaced};
 ghost use Rattle.qm_operations.specs.Views.{operation_views};
 ghost use Rattle.qm_any.specs.Layouts.{Hashing, hashing_with};
+ghost use Rattle.qm_any.specs.Reading.{ReadsThrough, AtMade, AtBegun};
 
 use crate::db::{Db, LaidOut, values_of};
 use crate::operations::{Step, diffs_of, share, shared_twin, spelled_steps, unapplied_of};
@@ -152,13 +151,8 @@ impl<F: Family, D: Digest, U: Update> UnmerkleizedBatch<F, D, U> {
         key: &U::Key,
         db: &mut Db<F, C, I, H, U>,
     ) -> Result<Option<U::Value>, Error>
-        ensures value { (list : List Operation) (chain above : Chain) → IsDatabase C.Store ⟦<Db<F, C, I, H, U> as LaidOut>⟧.layout db.old list → IsBegun ⟦<Db<F, C, I, H, U> as LaidOut>⟧.layout.hashing self.now chain above → IsKnown list above chain.base
-            → IfOk result (λ v. option_map U.Value.bytes v ≡ read_through chain.base self.now.writes (U.Key.bytes key.now)) }
-        ensures readable { OnOk result (knows self.now.parent.bounds db.old.commitment ≡ true) }
-        ensures error { IfErr result (λ e. ((e ≡ Error.StaleRead) × (knows self.now.parent.bounds db.old.commitment ≡ false))
-            ⊎ ((e ≡ Error.Memory) ⊎ ((knows self.now.parent.bounds db.old.commitment ≡ true) × IsReadError C.Store db.old.log db.new.log e))) }
-        ensures whole { (list : List Operation) → IsDatabase C.Store ⟦<Db<F, C, I, H, U> as LaidOut>⟧.layout db.old list → NoneBelow db.old.log.tree.start list → IfErr result (λ e. (n : ℕ) → e ≢ Error.Journal (JournalError.ItemPruned n)) }
-        ensures left { IsLeft C.Store ⟦<Db<F, C, I, H, U> as LaidOut>⟧.layout.hashing db.old db.new }
+        ensures value { AtBegun C.Store ⟦<Db<F, C, I, H, U> as LaidOut>⟧.layout db.old self.now (λ chain above. IfOk result (λ v. option_map U.Value.bytes v ≡ read_through chain.base self.now.writes (U.Key.bytes key.now))) }
+        ensures reads { ReadsThrough C.Store ⟦<Db<F, C, I, H, U> as LaidOut>⟧.layout db.old db.new result self.now.parent.bounds }
     {
         self.parent.known(db.commitment())?;
         db.read_one(alloc, &self.parent.steps, &self.writes, key)
@@ -171,13 +165,8 @@ impl<F: Family, D: Digest, U: Update> UnmerkleizedBatch<F, D, U> {
         keys: &[U::Key],
         db: &mut Db<F, C, I, H, U>,
     ) -> Result<Vec<Option<U::Value>>, Error>
-        ensures values { (list : List Operation) (chain above : Chain) → IsDatabase C.Store ⟦<Db<F, C, I, H, U> as LaidOut>⟧.layout db.old list → IsBegun ⟦<Db<F, C, I, H, U> as LaidOut>⟧.layout.hashing self.now chain above → IsKnown list above chain.base
-            → IfOk result (λ v. map (option_map U.Value.bytes) v.items ≡ map (λ k. read_through chain.base self.now.writes (U.Key.bytes k)) keys.now) }
-        ensures readable { OnOk result (knows self.now.parent.bounds db.old.commitment ≡ true) }
-        ensures error { IfErr result (λ e. ((e ≡ Error.StaleRead) × (knows self.now.parent.bounds db.old.commitment ≡ false))
-            ⊎ ((e ≡ Error.Memory) ⊎ ((knows self.now.parent.bounds db.old.commitment ≡ true) × IsReadError C.Store db.old.log db.new.log e))) }
-        ensures whole { (list : List Operation) → IsDatabase C.Store ⟦<Db<F, C, I, H, U> as LaidOut>⟧.layout db.old list → NoneBelow db.old.log.tree.start list → IfErr result (λ e. (n : ℕ) → e ≢ Error.Journal (JournalError.ItemPruned n)) }
-        ensures left { IsLeft C.Store ⟦<Db<F, C, I, H, U> as LaidOut>⟧.layout.hashing db.old db.new }
+        ensures values { AtBegun C.Store ⟦<Db<F, C, I, H, U> as LaidOut>⟧.layout db.old self.now (λ chain above. IfOk result (λ v. map (option_map U.Value.bytes) v.items ≡ map (λ k. read_through chain.base self.now.writes (U.Key.bytes k)) keys.now)) }
+        ensures reads { ReadsThrough C.Store ⟦<Db<F, C, I, H, U> as LaidOut>⟧.layout db.old db.new result self.now.parent.bounds }
     {
         self.parent.known(db.commitment())?;
         db.read_all(alloc, &self.parent.steps, &self.writes, keys)
@@ -195,15 +184,9 @@ impl<F: Family, D: Digest, U: Update> UnmerkleizedBatch<F, D, U> {
         db: &mut Db<F, C, I, H, U>,
     ) -> Result<(Vec<Read<F, U>>, Vec<Option<U::Value>>), Error>
         ensures keys { IfOk result (λ r. keys_of U.Key.bytes r.0.items ≡ map U.Key.bytes keys.items) }
-        ensures reads { (list : List Operation) (chain above : Chain) → IsDatabase C.Store ⟦<Db<F, C, I, H, U> as LaidOut>⟧.layout db.old list → IsBegun ⟦<Db<F, C, I, H, U> as LaidOut>⟧.layout.hashing self.now chain above → IsKnown list above chain.base
-            → IfOk result (λ r. AreReads U.view U.Key.bytes r.0.items chain.base) }
-        ensures values { (list : List Operation) (chain above : Chain) → IsDatabase C.Store ⟦<Db<F, C, I, H, U> as LaidOut>⟧.layout db.old list → IsBegun ⟦<Db<F, C, I, H, U> as LaidOut>⟧.layout.hashing self.now chain above → IsKnown list above chain.base
-            → IfOk result (λ r. map (option_map U.Value.bytes) r.1.items ≡ map (λ k. read_through chain.base self.now.writes (U.Key.bytes k)) keys.items) }
-        ensures readable { OnOk result (knows self.now.parent.bounds db.old.commitment ≡ true) }
-        ensures error { IfErr result (λ e. ((e ≡ Error.StaleRead) × (knows self.now.parent.bounds db.old.commitment ≡ false))
-            ⊎ ((e ≡ Error.Memory) ⊎ ((knows self.now.parent.bounds db.old.commitment ≡ true) × IsReadError C.Store db.old.log db.new.log e))) }
-        ensures whole { (list : List Operation) → IsDatabase C.Store ⟦<Db<F, C, I, H, U> as LaidOut>⟧.layout db.old list → NoneBelow db.old.log.tree.start list → IfErr result (λ e. (n : ℕ) → e ≢ Error.Journal (JournalError.ItemPruned n)) }
-        ensures left { IsLeft C.Store ⟦<Db<F, C, I, H, U> as LaidOut>⟧.layout.hashing db.old db.new }
+        ensures found { AtBegun C.Store ⟦<Db<F, C, I, H, U> as LaidOut>⟧.layout db.old self.now (λ chain above. IfOk result (λ r. AreReads U.view U.Key.bytes r.0.items chain.base)) }
+        ensures values { AtBegun C.Store ⟦<Db<F, C, I, H, U> as LaidOut>⟧.layout db.old self.now (λ chain above. IfOk result (λ r. map (option_map U.Value.bytes) r.1.items ≡ map (λ k. read_through chain.base self.now.writes (U.Key.bytes k)) keys.items)) }
+        ensures reads { ReadsThrough C.Store ⟦<Db<F, C, I, H, U> as LaidOut>⟧.layout db.old db.new result self.now.parent.bounds }
     {
         self.parent.known(db.commitment())?;
         let reads = db.find_all(alloc, &self.parent.steps, keys)?;
@@ -293,13 +276,8 @@ impl<F: Family, D: Digest, U: Update> MerkleizedBatch<F, D, U> {
         key: &U::Key,
         db: &mut Db<F, C, I, H, U>,
     ) -> Result<Option<U::Value>, Error>
-        ensures value { (list : List Operation) (chain : Chain) (tip : List Operation) → IsDatabase C.Store ⟦<Db<F, C, I, H, U> as LaidOut>⟧.layout db.old list → IsMade ⟦<Db<F, C, I, H, U> as LaidOut>⟧.layout.hashing self.now chain tip → IsKnown list chain tip
-            → IfOk result (λ v. option_map U.Value.bytes v ≡ lives.value_of tip (U.Key.bytes key.now)) }
-        ensures readable { OnOk result (knows self.now.bounds db.old.commitment ≡ true) }
-        ensures error { IfErr result (λ e. ((e ≡ Error.StaleRead) × (knows self.now.bounds db.old.commitment ≡ false))
-            ⊎ ((e ≡ Error.Memory) ⊎ ((knows self.now.bounds db.old.commitment ≡ true) × IsReadError C.Store db.old.log db.new.log e))) }
-        ensures whole { (list : List Operation) → IsDatabase C.Store ⟦<Db<F, C, I, H, U> as LaidOut>⟧.layout db.old list → NoneBelow db.old.log.tree.start list → IfErr result (λ e. (n : ℕ) → e ≢ Error.Journal (JournalError.ItemPruned n)) }
-        ensures left { IsLeft C.Store ⟦<Db<F, C, I, H, U> as LaidOut>⟧.layout.hashing db.old db.new }
+        ensures value { AtMade C.Store ⟦<Db<F, C, I, H, U> as LaidOut>⟧.layout db.old self.now (λ chain tip. IfOk result (λ v. option_map U.Value.bytes v ≡ lives.value_of tip (U.Key.bytes key.now))) }
+        ensures reads { ReadsThrough C.Store ⟦<Db<F, C, I, H, U> as LaidOut>⟧.layout db.old db.new result self.now.bounds }
     {
         self.known(db.commitment())?;
         let writes = Writes::new(alloc);
@@ -313,13 +291,8 @@ impl<F: Family, D: Digest, U: Update> MerkleizedBatch<F, D, U> {
         keys: &[U::Key],
         db: &mut Db<F, C, I, H, U>,
     ) -> Result<Vec<Option<U::Value>>, Error>
-        ensures values { (list : List Operation) (chain : Chain) (tip : List Operation) → IsDatabase C.Store ⟦<Db<F, C, I, H, U> as LaidOut>⟧.layout db.old list → IsMade ⟦<Db<F, C, I, H, U> as LaidOut>⟧.layout.hashing self.now chain tip → IsKnown list chain tip
-            → IfOk result (λ v. map (option_map U.Value.bytes) v.items ≡ map (λ k. lives.value_of tip (U.Key.bytes k)) keys.now) }
-        ensures readable { OnOk result (knows self.now.bounds db.old.commitment ≡ true) }
-        ensures error { IfErr result (λ e. ((e ≡ Error.StaleRead) × (knows self.now.bounds db.old.commitment ≡ false))
-            ⊎ ((e ≡ Error.Memory) ⊎ ((knows self.now.bounds db.old.commitment ≡ true) × IsReadError C.Store db.old.log db.new.log e))) }
-        ensures whole { (list : List Operation) → IsDatabase C.Store ⟦<Db<F, C, I, H, U> as LaidOut>⟧.layout db.old list → NoneBelow db.old.log.tree.start list → IfErr result (λ e. (n : ℕ) → e ≢ Error.Journal (JournalError.ItemPruned n)) }
-        ensures left { IsLeft C.Store ⟦<Db<F, C, I, H, U> as LaidOut>⟧.layout.hashing db.old db.new }
+        ensures values { AtMade C.Store ⟦<Db<F, C, I, H, U> as LaidOut>⟧.layout db.old self.now (λ chain tip. IfOk result (λ v. map (option_map U.Value.bytes) v.items ≡ map (λ k. lives.value_of tip (U.Key.bytes k)) keys.now)) }
+        ensures reads { ReadsThrough C.Store ⟦<Db<F, C, I, H, U> as LaidOut>⟧.layout db.old db.new result self.now.bounds }
     {
         self.known(db.commitment())?;
         let writes = Writes::new(alloc);

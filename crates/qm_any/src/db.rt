@@ -7,18 +7,15 @@ ghost use Rattle.qm_model.specs.Causes.{IsCause};
 ghost use Rattle.qm_model.specs.Live as lives;
 ghost use Rattle.qm_model.specs.Forms.{spelling};
 ghost use Rattle.qm_model.specs.Operations.{Operation, IsCommitEnded};
-ghost use Rattle.qm_model.specs.Proofs.{ops_proof, pins_at};
 ghost use Rattle.qm_model.specs.Trees as trees;
 ghost use Rattle.qm_model.specs.Trees.{ops_root};
 ghost use Rattle.qm_model.specs.Writes.{read_through};
 ghost use Rattle.qm_merkle.specs.Batches.{stops, stops_since, lists_since};
 ghost use Rattle.qm_merkle.specs.Mems.{Holds};
-ghost use Rattle.qm_proofs.specs.Proofs.{proof_view, first_lacked, needed_positions};
 ghost use Rattle.qm_store.specs.Log as logs;
-ghost use Rattle.qm_store.specs.Log.{IsLacked};
 ghost use Rattle.qm_chain.specs.Bounds.{commitment_view, is_at};
 ghost use Rattle.qm_model.specs.Bits.{bits};
-ghost use Rattle.qm_bits.specs.Bitmaps.{Bitmap, all_bits, bit_count};
+ghost use Rattle.qm_bits.specs.Bitmaps.{all_bits, bit_count};
 ghost use Rattle.qm_step.specs.Bases.{IsBase, base_view};
 ghost use Rattle.qm_step.specs.Kinds.{HasRing};
 ghost use Rattle.qm_step.specs.Layers.{LeadOver};
@@ -29,9 +26,10 @@ ghost use Rattle.qm_step.specs.Lent.{NoneBelow};
 ghost use Rattle.qm_step.specs.Views.{changes_view, keys_of, read_view, wanted_view, AreReads, IsPlan, stepped, left_after};
 ghost use Rattle.qm_any.specs.Databases.{Database, over, IsBegun, IsDatabase, IsLeft, IsMade, IsTree, at_rest, read_under};
 ghost use Rattle.qm_store.specs.Given.{Appended, AppendedPart, store_given, store_after};
-ghost use Rattle.qm_store.specs.KeptTrees.{IsKeptTree, held_at};
+ghost use Rattle.qm_store.specs.KeptTrees.{IsKeptTree};
 ghost use Rattle.qm_operations.specs.Views.{operation_views};
 ghost use Rattle.qm_any.specs.Tips.{IsSpelled, IsTooLong};
+ghost use Rattle.qm_any.specs.Reading.{Reads, AtList};
 
 use crate::batch::{Lacking, MerkleizedBatch, UnmerkleizedBatch};
 use crate::operations::{Step, copy_of, share, spelled_behind};
@@ -330,10 +328,8 @@ impl<F: Family, C: Store, I: qm_index::Unordered<Value = Location<F>>, H: Hasher
 
     /// The value of a key, if it is live. It takes one read of the log for each location in the key's bucket, at most.
     pub fn get(&mut self, alloc: Global, key: &U::Key) -> Result<Option<U::Value>, Error>
-        ensures value { (list : List Operation) → IsDatabase C.Store ⟦<Self as LaidOut>⟧.layout self.old list → IfOk result (λ v. option_map U.Value.bytes v ≡ lives.value_of list (U.Key.bytes key.now)) }
-        ensures error { IfErr result (IsReadError C.Store self.old.log self.new.log) }
-        ensures whole { (list : List Operation) → IsDatabase C.Store ⟦<Self as LaidOut>⟧.layout self.old list → NoneBelow self.old.log.tree.start list → IfErr result (λ e. (n : ℕ) → e ≢ Error.Journal (JournalError.ItemPruned n)) }
-        ensures left { IsLeft C.Store ⟦<Self as LaidOut>⟧.layout.hashing self.old self.new }
+        ensures value { AtList C.Store ⟦<Self as LaidOut>⟧.layout self.old (λ list. IfOk result (λ v. option_map U.Value.bytes v ≡ lives.value_of list (U.Key.bytes key.now))) }
+        ensures reads { Reads C.Store ⟦<Self as LaidOut>⟧.layout self.old self.new result }
     {
         let writes = Writes::new(alloc);
         self.read_one(alloc, &Vec::new(alloc), &writes, key)
@@ -345,10 +341,8 @@ impl<F: Family, C: Store, I: qm_index::Unordered<Value = Location<F>>, H: Hasher
         alloc: Global,
         keys: &[U::Key],
     ) -> Result<Vec<Option<U::Value>>, Error>
-        ensures values { (list : List Operation) → IsDatabase C.Store ⟦<Self as LaidOut>⟧.layout self.old list → IfOk result (λ v. map (option_map U.Value.bytes) v.items ≡ map (λ k. lives.value_of list (U.Key.bytes k)) keys.now) }
-        ensures error { IfErr result (IsReadError C.Store self.old.log self.new.log) }
-        ensures whole { (list : List Operation) → IsDatabase C.Store ⟦<Self as LaidOut>⟧.layout self.old list → NoneBelow self.old.log.tree.start list → IfErr result (λ e. (n : ℕ) → e ≢ Error.Journal (JournalError.ItemPruned n)) }
-        ensures left { IsLeft C.Store ⟦<Self as LaidOut>⟧.layout.hashing self.old self.new }
+        ensures values { AtList C.Store ⟦<Self as LaidOut>⟧.layout self.old (λ list. IfOk result (λ v. map (option_map U.Value.bytes) v.items ≡ map (λ k. lives.value_of list (U.Key.bytes k)) keys.now)) }
+        ensures reads { Reads C.Store ⟦<Self as LaidOut>⟧.layout self.old self.new result }
     {
         let writes = Writes::new(alloc);
         self.read_all(alloc, &Vec::new(alloc), &writes, keys)
@@ -364,9 +358,7 @@ impl<F: Family, C: Store, I: qm_index::Unordered<Value = Location<F>>, H: Hasher
     ) -> Result<Option<U::Value>, Error>
         ensures value { (list base : List Operation) → IsDatabase C.Store ⟦<Self as LaidOut>⟧.layout self.old list → LeadOver (map (λ l. l.value) steps.now) list base
             → IfOk result (λ v. option_map U.Value.bytes v ≡ read_through base writes.now (U.Key.bytes key.now)) }
-        ensures error { IfErr result (IsReadError C.Store self.old.log self.new.log) }
-        ensures whole { (list : List Operation) → IsDatabase C.Store ⟦<Self as LaidOut>⟧.layout self.old list → NoneBelow self.old.log.tree.start list → IfErr result (λ e. (n : ℕ) → e ≢ Error.Journal (JournalError.ItemPruned n)) }
-        ensures left { IsLeft C.Store ⟦<Self as LaidOut>⟧.layout.hashing self.old self.new }
+        ensures reads { Reads C.Store ⟦<Self as LaidOut>⟧.layout self.old self.new result }
     {
         if let Some(write) = writes.last(key.as_bytes()) {
             return Ok(twin_option(alloc, &write.value)?);
@@ -387,9 +379,7 @@ impl<F: Family, C: Store, I: qm_index::Unordered<Value = Location<F>>, H: Hasher
     ) -> Result<Vec<Option<U::Value>>, Error>
         ensures values { (list base : List Operation) → IsDatabase C.Store ⟦<Self as LaidOut>⟧.layout self.old list → LeadOver (map (λ l. l.value) steps.now) list base
             → IfOk result (λ v. map (option_map U.Value.bytes) v.items ≡ map (λ k. read_through base writes.now (U.Key.bytes k)) keys.now) }
-        ensures error { IfErr result (IsReadError C.Store self.old.log self.new.log) }
-        ensures whole { (list : List Operation) → IsDatabase C.Store ⟦<Self as LaidOut>⟧.layout self.old list → NoneBelow self.old.log.tree.start list → IfErr result (λ e. (n : ℕ) → e ≢ Error.Journal (JournalError.ItemPruned n)) }
-        ensures left { IsLeft C.Store ⟦<Self as LaidOut>⟧.layout.hashing self.old self.new }
+        ensures reads { Reads C.Store ⟦<Self as LaidOut>⟧.layout self.old self.new result }
     {
         let mut values = Vec::new(alloc);
         for key in keys {
@@ -408,9 +398,7 @@ impl<F: Family, C: Store, I: qm_index::Unordered<Value = Location<F>>, H: Hasher
     ) -> Result<Option<(Location<F>, U)>, Error>
         ensures value { (list base : List Operation) → IsDatabase C.Store ⟦<Self as LaidOut>⟧.layout self.old list → LeadOver (map (λ l. l.value) steps.now) list base
             → IfOk result (λ found. option_map (read_view U.view) found ≡ update_of base (U.Key.bytes key.now)) }
-        ensures error { IfErr result (IsReadError C.Store self.old.log self.new.log) }
-        ensures whole { (list : List Operation) → IsDatabase C.Store ⟦<Self as LaidOut>⟧.layout self.old list → NoneBelow self.old.log.tree.start list → IfErr result (λ e. (n : ℕ) → e ≢ Error.Journal (JournalError.ItemPruned n)) }
-        ensures left { IsLeft C.Store ⟦<Self as LaidOut>⟧.layout.hashing self.old self.new }
+        ensures reads { Reads C.Store ⟦<Self as LaidOut>⟧.layout self.old self.new result }
     {
         read_key(alloc, &self.index, &mut self.log, steps, key)
     }
@@ -423,11 +411,9 @@ impl<F: Family, C: Store, I: qm_index::Unordered<Value = Location<F>>, H: Hasher
         keys: Vec<U::Key>,
     ) -> Result<Vec<Read<F, U>>, Error>
         ensures keys { IfOk result (λ reads. keys_of U.Key.bytes reads.items ≡ map U.Key.bytes keys.items) }
-        ensures reads { (list base : List Operation) → IsDatabase C.Store ⟦<Self as LaidOut>⟧.layout self.old list → LeadOver (map (λ l. l.value) steps.now) list base
+        ensures found { (list base : List Operation) → IsDatabase C.Store ⟦<Self as LaidOut>⟧.layout self.old list → LeadOver (map (λ l. l.value) steps.now) list base
             → IfOk result (λ reads. AreReads U.view U.Key.bytes reads.items base) }
-        ensures error { IfErr result (IsReadError C.Store self.old.log self.new.log) }
-        ensures whole { (list : List Operation) → IsDatabase C.Store ⟦<Self as LaidOut>⟧.layout self.old list → NoneBelow self.old.log.tree.start list → IfErr result (λ e. (n : ℕ) → e ≢ Error.Journal (JournalError.ItemPruned n)) }
-        ensures left { IsLeft C.Store ⟦<Self as LaidOut>⟧.layout.hashing self.old self.new }
+        ensures reads { Reads C.Store ⟦<Self as LaidOut>⟧.layout self.old self.new result }
     {
         let mut reads = Vec::new(alloc);
         for key in keys {

@@ -1,20 +1,17 @@
 //! Reads in key order, of an ordered database and through its batches.
 
-ghost use Rattle.std.specs.Prelude.{◌≡◌, ◌≢◌, ◌⊎◌, ℕ, List, Option, Some, true, false, map, option_and_then, option_map, IfOk, IfErr, OnOk};
-ghost use Rattle.qm_model.specs.Batches.{Chain, IsKnown};
+ghost use Rattle.std.specs.Prelude.{◌≡◌, ◌≢◌, ◌⊎◌, ℕ, List, Option, Some, true, map, option_and_then, option_map, IfOk};
 ghost use Rattle.qm_model.specs.Live.{live, live_keys, live_of};
 ghost use Rattle.qm_model.specs.Operations.{Bytes, Operation};
 ghost use Rattle.qm_model.specs.Ordered.{IsRing};
 ghost use Rattle.qm_model.specs.Ranges.{key_above, key_below};
 ghost use Rattle.qm_operations.specs.Parts.{value_of};
-ghost use Rattle.qm_chain.specs.Bounds.{knows};
 ghost use Rattle.qm_step.specs.Changes.{next_in};
 ghost use Rattle.qm_step.specs.Layers.{LeadOver};
-ghost use Rattle.qm_store.specs.Reads.{IsReadError};
-ghost use Rattle.qm_step.specs.Lent.{NoneBelow};
 ghost use Rattle.qm_step.specs.Rings.{holder_of};
 ghost use Rattle.qm_step.specs.Views.{read_view};
-ghost use Rattle.qm_any.specs.Databases.{IsDatabase, IsLeft, IsMade};
+ghost use Rattle.qm_any.specs.Databases.{IsDatabase};
+ghost use Rattle.qm_any.specs.Reading.{Reads, ReadsThrough, AtList, AtMade};
 
 use crate::batch::MerkleizedBatch;
 use crate::db::{Db, LaidOut};
@@ -42,10 +39,8 @@ impl<
         key: &U::Key,
     ) -> Result<Option<(Location<F>, U)>, Error>
         requires { U.form.ordered ≡ true }
-        ensures value { (list : List Operation) → IsDatabase C.Store ⟦<Self as LaidOut>⟧.layout self.old list → IfOk result (λ found. option_map (read_view U.view) found ≡ holder_of list (U.Key.bytes key.now)) }
-        ensures error { IfErr result (IsReadError C.Store self.old.log self.new.log) }
-        ensures whole { (list : List Operation) → IsDatabase C.Store ⟦<Self as LaidOut>⟧.layout self.old list → NoneBelow self.old.log.tree.start list → IfErr result (λ e. (n : ℕ) → e ≢ Error.Journal (JournalError.ItemPruned n)) }
-        ensures left { IsLeft C.Store ⟦<Self as LaidOut>⟧.layout.hashing self.old self.new }
+        ensures value { AtList C.Store ⟦<Self as LaidOut>⟧.layout self.old (λ list. IfOk result (λ found. option_map (read_view U.view) found ≡ holder_of list (U.Key.bytes key.now))) }
+        ensures reads { Reads C.Store ⟦<Self as LaidOut>⟧.layout self.old self.new result }
     {
         holder(alloc, &self.index, &mut self.log, &Vec::new(alloc), key)
     }
@@ -60,9 +55,7 @@ impl<
         requires { U.form.ordered ≡ true }
         ensures value { (list : List Operation) → IsDatabase C.Store ⟦<Self as LaidOut>⟧.layout self.old list
             → IfOk result (λ found. option_map {U = Bytes × Option Bytes} (λ p. (U.Value.bytes p.0, Some (U.Key.bytes p.1))) found ≡ option_map {U = Bytes × Option Bytes} (λ e. (e.value, e.next)) (live_of (live list) (U.Key.bytes key.now))) }
-        ensures error { IfErr result (IsReadError C.Store self.old.log self.new.log) }
-        ensures whole { (list : List Operation) → IsDatabase C.Store ⟦<Self as LaidOut>⟧.layout self.old list → NoneBelow self.old.log.tree.start list → IfErr result (λ e. (n : ℕ) → e ≢ Error.Journal (JournalError.ItemPruned n)) }
-        ensures left { IsLeft C.Store ⟦<Self as LaidOut>⟧.layout.hashing self.old self.new }
+        ensures reads { Reads C.Store ⟦<Self as LaidOut>⟧.layout self.old self.new result }
     {
         let steps: Vec<Step<F, U>> = Vec::new(alloc);
         let found = read_key(alloc, &self.index, &mut self.log, &steps, key)?;
@@ -72,10 +65,8 @@ impl<
     /// The nearest live key above this one, which does not go round. It takes the reads of two buckets at most.
     pub fn get_next_key(&mut self, alloc: Global, key: &U::Key) -> Result<Option<U::Key>, Error>
         requires { U.form.ordered ≡ true }
-        ensures value { (list : List Operation) → IsDatabase C.Store ⟦<Self as LaidOut>⟧.layout self.old list → IfOk result (λ found. option_map U.Key.bytes found ≡ key_above (live_keys list) (U.Key.bytes key.now)) }
-        ensures error { IfErr result (IsReadError C.Store self.old.log self.new.log) }
-        ensures whole { (list : List Operation) → IsDatabase C.Store ⟦<Self as LaidOut>⟧.layout self.old list → NoneBelow self.old.log.tree.start list → IfErr result (λ e. (n : ℕ) → e ≢ Error.Journal (JournalError.ItemPruned n)) }
-        ensures left { IsLeft C.Store ⟦<Self as LaidOut>⟧.layout.hashing self.old self.new }
+        ensures value { AtList C.Store ⟦<Self as LaidOut>⟧.layout self.old (λ list. IfOk result (λ found. option_map U.Key.bytes found ≡ key_above (live_keys list) (U.Key.bytes key.now))) }
+        ensures reads { Reads C.Store ⟦<Self as LaidOut>⟧.layout self.old self.new result }
     {
         self.next_over(alloc, &Vec::new(alloc), key)
     }
@@ -83,10 +74,8 @@ impl<
     /// The nearest live key below this one, which does not go round. It takes the reads of two buckets at most.
     pub fn get_prev_key(&mut self, alloc: Global, key: &U::Key) -> Result<Option<U::Key>, Error>
         requires { U.form.ordered ≡ true }
-        ensures value { (list : List Operation) → IsDatabase C.Store ⟦<Self as LaidOut>⟧.layout self.old list → IfOk result (λ found. option_map U.Key.bytes found ≡ key_below (live_keys list) (U.Key.bytes key.now)) }
-        ensures error { IfErr result (IsReadError C.Store self.old.log self.new.log) }
-        ensures whole { (list : List Operation) → IsDatabase C.Store ⟦<Self as LaidOut>⟧.layout self.old list → NoneBelow self.old.log.tree.start list → IfErr result (λ e. (n : ℕ) → e ≢ Error.Journal (JournalError.ItemPruned n)) }
-        ensures left { IsLeft C.Store ⟦<Self as LaidOut>⟧.layout.hashing self.old self.new }
+        ensures value { AtList C.Store ⟦<Self as LaidOut>⟧.layout self.old (λ list. IfOk result (λ found. option_map U.Key.bytes found ≡ key_below (live_keys list) (U.Key.bytes key.now))) }
+        ensures reads { Reads C.Store ⟦<Self as LaidOut>⟧.layout self.old self.new result }
     {
         self.previous_over(alloc, &Vec::new(alloc), key)
     }
@@ -101,9 +90,7 @@ impl<
         requires { U.form.ordered ≡ true }
         ensures value { (list base : List Operation) → IsDatabase C.Store ⟦<Self as LaidOut>⟧.layout self.old list → LeadOver (map (λ l. l.value) steps.now) list base → IsRing base
             → IfOk result (λ found. option_map U.Key.bytes found ≡ key_above (live_keys base) (U.Key.bytes key.now)) }
-        ensures error { IfErr result (IsReadError C.Store self.old.log self.new.log) }
-        ensures whole { (list : List Operation) → IsDatabase C.Store ⟦<Self as LaidOut>⟧.layout self.old list → NoneBelow self.old.log.tree.start list → IfErr result (λ e. (n : ℕ) → e ≢ Error.Journal (JournalError.ItemPruned n)) }
-        ensures left { IsLeft C.Store ⟦<Self as LaidOut>⟧.layout.hashing self.old self.new }
+        ensures reads { Reads C.Store ⟦<Self as LaidOut>⟧.layout self.old self.new result }
     {
         next_key(alloc, &self.index, &mut self.log, steps, key)
     }
@@ -118,9 +105,7 @@ impl<
         requires { U.form.ordered ≡ true }
         ensures value { (list base : List Operation) → IsDatabase C.Store ⟦<Self as LaidOut>⟧.layout self.old list → LeadOver (map (λ l. l.value) steps.now) list base → IsRing base
             → IfOk result (λ found. option_map U.Key.bytes found ≡ key_below (live_keys base) (U.Key.bytes key.now)) }
-        ensures error { IfErr result (IsReadError C.Store self.old.log self.new.log) }
-        ensures whole { (list : List Operation) → IsDatabase C.Store ⟦<Self as LaidOut>⟧.layout self.old list → NoneBelow self.old.log.tree.start list → IfErr result (λ e. (n : ℕ) → e ≢ Error.Journal (JournalError.ItemPruned n)) }
-        ensures left { IsLeft C.Store ⟦<Self as LaidOut>⟧.layout.hashing self.old self.new }
+        ensures reads { Reads C.Store ⟦<Self as LaidOut>⟧.layout self.old self.new result }
     {
         previous_key(alloc, &self.index, &mut self.log, steps, key)
     }
@@ -142,13 +127,8 @@ impl<F: Family, D: Digest, U: Update> MerkleizedBatch<F, D, U> {
     where
         U: Steps<F, I>,
         requires { U.form.ordered ≡ true }
-        ensures value { (list : List Operation) (chain : Chain) (tip : List Operation) → IsDatabase C.Store ⟦<Db<F, C, I, H, U> as LaidOut>⟧.layout db.old list → IsMade ⟦<Db<F, C, I, H, U> as LaidOut>⟧.layout.hashing self.now chain tip → IsKnown list chain tip
-            → IfOk result (λ found. option_map U.Key.bytes found ≡ key_above (live_keys tip) (U.Key.bytes key.now)) }
-        ensures readable { OnOk result (knows self.now.bounds db.old.commitment ≡ true) }
-        ensures error { IfErr result (λ e. ((e ≡ Error.StaleRead) × (knows self.now.bounds db.old.commitment ≡ false))
-            ⊎ ((e ≡ Error.Memory) ⊎ ((knows self.now.bounds db.old.commitment ≡ true) × IsReadError C.Store db.old.log db.new.log e))) }
-        ensures whole { (list : List Operation) → IsDatabase C.Store ⟦<Db<F, C, I, H, U> as LaidOut>⟧.layout db.old list → NoneBelow db.old.log.tree.start list → IfErr result (λ e. (n : ℕ) → e ≢ Error.Journal (JournalError.ItemPruned n)) }
-        ensures left { IsLeft C.Store ⟦<Db<F, C, I, H, U> as LaidOut>⟧.layout.hashing db.old db.new }
+        ensures value { AtMade C.Store ⟦<Db<F, C, I, H, U> as LaidOut>⟧.layout db.old self.now (λ chain tip. IfOk result (λ found. option_map U.Key.bytes found ≡ key_above (live_keys tip) (U.Key.bytes key.now))) }
+        ensures reads { ReadsThrough C.Store ⟦<Db<F, C, I, H, U> as LaidOut>⟧.layout db.old db.new result self.now.bounds }
     {
         self.known(db.commitment())?;
         db.next_over(alloc, &self.steps, key)
@@ -169,13 +149,8 @@ impl<F: Family, D: Digest, U: Update> MerkleizedBatch<F, D, U> {
     where
         U: Steps<F, I>,
         requires { U.form.ordered ≡ true }
-        ensures value { (list : List Operation) (chain : Chain) (tip : List Operation) → IsDatabase C.Store ⟦<Db<F, C, I, H, U> as LaidOut>⟧.layout db.old list → IsMade ⟦<Db<F, C, I, H, U> as LaidOut>⟧.layout.hashing self.now chain tip → IsKnown list chain tip
-            → IfOk result (λ found. option_map U.Key.bytes found ≡ key_below (live_keys tip) (U.Key.bytes key.now)) }
-        ensures readable { OnOk result (knows self.now.bounds db.old.commitment ≡ true) }
-        ensures error { IfErr result (λ e. ((e ≡ Error.StaleRead) × (knows self.now.bounds db.old.commitment ≡ false))
-            ⊎ ((e ≡ Error.Memory) ⊎ ((knows self.now.bounds db.old.commitment ≡ true) × IsReadError C.Store db.old.log db.new.log e))) }
-        ensures whole { (list : List Operation) → IsDatabase C.Store ⟦<Db<F, C, I, H, U> as LaidOut>⟧.layout db.old list → NoneBelow db.old.log.tree.start list → IfErr result (λ e. (n : ℕ) → e ≢ Error.Journal (JournalError.ItemPruned n)) }
-        ensures left { IsLeft C.Store ⟦<Db<F, C, I, H, U> as LaidOut>⟧.layout.hashing db.old db.new }
+        ensures value { AtMade C.Store ⟦<Db<F, C, I, H, U> as LaidOut>⟧.layout db.old self.now (λ chain tip. IfOk result (λ found. option_map U.Key.bytes found ≡ key_below (live_keys tip) (U.Key.bytes key.now))) }
+        ensures reads { ReadsThrough C.Store ⟦<Db<F, C, I, H, U> as LaidOut>⟧.layout db.old db.new result self.now.bounds }
     {
         self.known(db.commitment())?;
         db.previous_over(alloc, &self.steps, key)

@@ -8,13 +8,13 @@ ghost use Rattle.qm_model.specs.Operations.{Operation};
 ghost use Rattle.qm_model.specs.Slots.{slotted};
 ghost use Rattle.qm_model.specs.Writes.{read_through};
 ghost use Rattle.qm_merkle.specs.Batches.{stops};
-ghost use Rattle.qm_chain.specs.Bounds.{knows};
 ghost use Rattle.qm_store.specs.Reads.{IsReadError};
 ghost use Rattle.qm_step.specs.Lent.{NoneBelow};
 ghost use Rattle.qm_step.specs.Views.{reads_view, stepped, left_after};
 ghost use Rattle.qm_any.specs.Databases.{IsDatabase, IsBegun, IsMade, IsLeft, IsStaged, is_on, staged_keys};
 ghost use Rattle.qm_any.specs.Reasons.{IsMakingError};
 ghost use Rattle.qm_any.specs.Tips.{IsTaken, IsRefused};
+ghost use Rattle.qm_any.specs.Reading.{ReadsThrough, AtBegun};
 
 use crate::batch::{MerkleizedBatch, UnmerkleizedBatch, sealed};
 use crate::db::{Db, LaidOut};
@@ -60,17 +60,11 @@ impl<F: Family, D: Digest, U: Update> UnmerkleizedBatch<F, D, U> {
         keys: Vec<U::Key>,
         db: &mut Db<F, C, I, H, U>,
     ) -> Result<(Vec<Option<U::Value>>, Staged<F, D, U>), Error>
-        ensures values { (list : List Operation) (chain above : Chain) → IsDatabase C.Store ⟦<Db<F, C, I, H, U> as LaidOut>⟧.layout db.old list → IsBegun ⟦<Db<F, C, I, H, U> as LaidOut>⟧.layout.hashing self chain above → IsKnown list above chain.base
-            → IfOk result (λ r. map (option_map U.Value.bytes) r.0.items ≡ map (λ k. read_through chain.base self.writes (U.Key.bytes k)) keys.items) }
-        ensures staged { (list : List Operation) (chain above : Chain) → IsDatabase C.Store ⟦<Db<F, C, I, H, U> as LaidOut>⟧.layout db.old list → IsBegun ⟦<Db<F, C, I, H, U> as LaidOut>⟧.layout.hashing self chain above → IsKnown list above chain.base
-            → IfOk result (λ r. IsStaged ⟦<Db<F, C, I, H, U> as LaidOut>⟧.layout.hashing r.1 chain above) }
+        ensures values { AtBegun C.Store ⟦<Db<F, C, I, H, U> as LaidOut>⟧.layout db.old self (λ chain above. IfOk result (λ r. map (option_map U.Value.bytes) r.0.items ≡ map (λ k. read_through chain.base self.writes (U.Key.bytes k)) keys.items)) }
+        ensures staged { AtBegun C.Store ⟦<Db<F, C, I, H, U> as LaidOut>⟧.layout db.old self (λ chain above. IfOk result (λ r. IsStaged ⟦<Db<F, C, I, H, U> as LaidOut>⟧.layout.hashing r.1 chain above)) }
         ensures batch { IfOk result (λ r. r.1.batch ≡ self) }
         ensures keys { IfOk result (λ r. staged_keys r.1 ≡ map U.Key.bytes keys.items) }
-        ensures readable { OnOk result (knows self.parent.bounds db.old.commitment ≡ true) }
-        ensures error { IfErr result (λ e. ((e ≡ Error.StaleRead) × (knows self.parent.bounds db.old.commitment ≡ false))
-            ⊎ ((e ≡ Error.Memory) ⊎ ((knows self.parent.bounds db.old.commitment ≡ true) × IsReadError C.Store db.old.log db.new.log e))) }
-        ensures whole { (list : List Operation) → IsDatabase C.Store ⟦<Db<F, C, I, H, U> as LaidOut>⟧.layout db.old list → NoneBelow db.old.log.tree.start list → IfErr result (λ e. (n : ℕ) → e ≢ Error.Journal (JournalError.ItemPruned n)) }
-        ensures left { IsLeft C.Store ⟦<Db<F, C, I, H, U> as LaidOut>⟧.layout.hashing db.old db.new }
+        ensures reads { ReadsThrough C.Store ⟦<Db<F, C, I, H, U> as LaidOut>⟧.layout db.old db.new result self.parent.bounds }
     {
         let staged = Staged {
             batch: self,
@@ -159,11 +153,7 @@ impl<F: Family, D: Digest, U: Update> Staged<F, D, U> {
             → IfOk result (λ r. IsStaged ⟦<Db<F, C, I, H, U> as LaidOut>⟧.layout.hashing r.2 chain above) }
         ensures batch { IfOk result (λ r. r.2.batch ≡ self.batch) }
         ensures keys { IfOk result (λ r. staged_keys r.2 ≡ staged_keys self ++ map U.Key.bytes keys.items) }
-        ensures readable { OnOk result (knows self.batch.parent.bounds db.old.commitment ≡ true) }
-        ensures error { IfErr result (λ e. ((e ≡ Error.StaleRead) × (knows self.batch.parent.bounds db.old.commitment ≡ false))
-            ⊎ ((e ≡ Error.Memory) ⊎ ((knows self.batch.parent.bounds db.old.commitment ≡ true) × IsReadError C.Store db.old.log db.new.log e))) }
-        ensures whole { (list : List Operation) → IsDatabase C.Store ⟦<Db<F, C, I, H, U> as LaidOut>⟧.layout db.old list → NoneBelow db.old.log.tree.start list → IfErr result (λ e. (n : ℕ) → e ≢ Error.Journal (JournalError.ItemPruned n)) }
-        ensures left { IsLeft C.Store ⟦<Db<F, C, I, H, U> as LaidOut>⟧.layout.hashing db.old db.new }
+        ensures reads { ReadsThrough C.Store ⟦<Db<F, C, I, H, U> as LaidOut>⟧.layout db.old db.new result self.batch.parent.bounds }
     {
         let (found, values) = self.batch.located(alloc, keys, db)?;
         let start = self.len();

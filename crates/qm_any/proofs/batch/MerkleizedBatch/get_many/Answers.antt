@@ -18,10 +18,12 @@ returns-in_err-known g c =
     let stale = c.in_err-known.ensures.stale.0 in
     record {
       values = λ list chain tip stands made known. IfOk-from_err c.from_residual.result _ c.from_residual.ensures.0;
-      readable = IfOk-from_err c.from_residual.result _ c.from_residual.ensures.0;
-      error = rw (exit.1, exit.2) (inl (stale, told));
-      whole = λ list is none. rw (exit.1, exit.2) (λ n pruned. cc (stale, pruned));
-      left = left-none g.C.Store (hashing_of g.D.Digest.bytes g.H.Hasher g.F.Family g.U.Update) c.args.db.now;
+      reads = record {
+        readable = IfOk-from_err c.from_residual.result _ c.from_residual.ensures.0;
+        error = rw (exit.1, exit.2) (inl (stale, told));
+        whole = λ list is none. rw (exit.1, exit.2) (λ n pruned. cc (stale, pruned));
+        left = left-none g.C.Store (hashing_of g.D.Digest.bytes g.H.Hasher g.F.Family g.U.Update) c.args.db.now;
+      };
     }
 
 pub returns : goal.returns
@@ -35,8 +37,10 @@ returns g c =
           let base = subst (λ ls. LeadOver ls list tip) (sym layers) (made-base c.args.self.now list chain tip made known) in
           subst (λ ws. IfOk c.read_all.result (λ v. map (option_map value) v.items ≡ map (λ k. read_through tip ws (key k)) c.args.keys.now)) c.new-writes.ensures
           (c.read_all.ensures.values list tip stands base);
-      readable = on-ok c.read_all.result told;
-      error = err-then c.read_all.result c.read_all.ensures.error (λ e failed. inr (inr (told, failed)));
-      whole = c.read_all.ensures.whole;
-      left = c.read_all.ensures.left;
+      reads = record {
+        readable = on-ok c.read_all.result told;
+        error = err-then c.read_all.result c.read_all.ensures.reads.error (λ e failed. inr (inr (told, failed)));
+        whole = c.read_all.ensures.reads.whole;
+        left = c.read_all.ensures.reads.left;
+      };
     }

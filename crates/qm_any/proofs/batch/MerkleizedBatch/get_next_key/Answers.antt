@@ -16,10 +16,12 @@ returns-in_err-known g c =
     let stale = c.in_err-known.ensures.stale.0 in
     record {
       value = λ list chain tip stands made known. IfOk-from_err c.from_residual.result _ c.from_residual.ensures.0;
-      readable = IfOk-from_err c.from_residual.result _ c.from_residual.ensures.0;
-      error = rw (exit.1, exit.2) (inl (stale, told));
-      whole = λ list is none. rw (exit.1, exit.2) (λ n pruned. cc (stale, pruned));
-      left = left-none g.C.Store (hashing_of g.D.Digest.bytes g.H.Hasher g.F.Family g.U.Update) c.args.db.now;
+      reads = record {
+        readable = IfOk-from_err c.from_residual.result _ c.from_residual.ensures.0;
+        error = rw (exit.1, exit.2) (inl (stale, told));
+        whole = λ list is none. rw (exit.1, exit.2) (λ n pruned. cc (stale, pruned));
+        left = left-none g.C.Store (hashing_of g.D.Digest.bytes g.H.Hasher g.F.Family g.U.Update) c.args.db.now;
+      };
     }
 
 pub returns : goal.returns
@@ -30,8 +32,10 @@ returns g c =
           let layers = ap (map (λ l. l.value)) c.deref.ensures.value ∙ ap (λ b. b.layers) c.self.view_is in
           let base = subst (λ ls. LeadOver ls list tip) (sym layers) (made-base c.args.self.now list chain tip made known) in
           c.next_over.ensures.value list tip stands base (made.ring c.requires);
-      readable = on-ok c.next_over.result told;
-      error = err-then c.next_over.result c.next_over.ensures.error (λ e failed. inr (inr (told, failed)));
-      whole = c.next_over.ensures.whole;
-      left = c.next_over.ensures.left;
+      reads = record {
+        readable = on-ok c.next_over.result told;
+        error = err-then c.next_over.result c.next_over.ensures.reads.error (λ e failed. inr (inr (told, failed)));
+        whole = c.next_over.ensures.reads.whole;
+        left = c.next_over.ensures.reads.left;
+      };
     }

@@ -20,12 +20,14 @@ returns-in_err-known g c =
     let stale = c.in_err-known.ensures.stale.0 in
     record {
       keys = IfOk-from_err c.from_residual.result _ c.from_residual.ensures.0;
-      reads = λ list chain above stands begun known. IfOk-from_err c.from_residual.result _ c.from_residual.ensures.0;
+      found = λ list chain above stands begun known. IfOk-from_err c.from_residual.result _ c.from_residual.ensures.0;
       values = λ list chain above stands begun known. IfOk-from_err c.from_residual.result _ c.from_residual.ensures.0;
-      readable = IfOk-from_err c.from_residual.result _ c.from_residual.ensures.0;
-      error = rw (exit.1, exit.2) (inl (stale, told));
-      whole = λ list is none. rw (exit.1, exit.2) (λ n pruned. cc (stale, pruned));
-      left = left-none g.C.Store (hashing_of g.D.Digest.bytes g.H.Hasher g.F.Family g.U.Update) c.args.db.now;
+      reads = record {
+        readable = IfOk-from_err c.from_residual.result _ c.from_residual.ensures.0;
+        error = rw (exit.1, exit.2) (inl (stale, told));
+        whole = λ list is none. rw (exit.1, exit.2) (λ n pruned. cc (stale, pruned));
+        left = left-none g.C.Store (hashing_of g.D.Digest.bytes g.H.Hasher g.F.Family g.U.Update) c.args.db.now;
+      };
     }
 
 pub returns-in_err-reads : goal.returns-in_err-reads
@@ -34,12 +36,14 @@ returns-in_err-reads g c =
     let told : knows c.args.self.now.parent.bounds c.args.db.now.commitment ≡ true = sym (ap₂ knows (ap (λ b. b.bounds) (c.deref.ensures ∙ ap (λ b. b.parent) c.self.view_is)) c.commitment.ensures.value) ∙ c.in_ok-known.ensures.readable in
     record {
       keys = IfOk-from_err c.from_residual-in_err-reads.result _ c.from_residual-in_err-reads.ensures.0;
-      reads = λ list chain above stands begun known. IfOk-from_err c.from_residual-in_err-reads.result _ c.from_residual-in_err-reads.ensures.0;
+      found = λ list chain above stands begun known. IfOk-from_err c.from_residual-in_err-reads.result _ c.from_residual-in_err-reads.ensures.0;
       values = λ list chain above stands begun known. IfOk-from_err c.from_residual-in_err-reads.result _ c.from_residual-in_err-reads.ensures.0;
-      readable = IfOk-from_err c.from_residual-in_err-reads.result _ c.from_residual-in_err-reads.ensures.0;
-      error = rw (exit.1, exit.2) (inr (inr (told, c.in_err-reads.ensures.error)));
-      whole = λ list is none. rw (exit.1, exit.2) (c.in_err-reads.ensures.whole list is none);
-      left = c.in_err-reads.ensures.left;
+      reads = record {
+        readable = IfOk-from_err c.from_residual-in_err-reads.result _ c.from_residual-in_err-reads.ensures.0;
+        error = rw (exit.1, exit.2) (inr (inr (told, c.in_err-reads.ensures.reads.error)));
+        whole = λ list is none. rw (exit.1, exit.2) (c.in_err-reads.ensures.reads.whole list is none);
+        left = c.in_err-reads.ensures.reads.left;
+      };
     }
 
 pub returns-in_err-values : goal.returns-in_err-values
@@ -47,12 +51,14 @@ returns-in_err-values g c =
     let exit = err_from_is_err_and c.from_residual-in_err-values.result c.from_residual-in_err-values.ensures.1 in
     record {
       keys = IfOk-from_err c.from_residual-in_err-values.result _ c.from_residual-in_err-values.ensures.0;
-      reads = λ list chain above stands begun known. IfOk-from_err c.from_residual-in_err-values.result _ c.from_residual-in_err-values.ensures.0;
+      found = λ list chain above stands begun known. IfOk-from_err c.from_residual-in_err-values.result _ c.from_residual-in_err-values.ensures.0;
       values = λ list chain above stands begun known. IfOk-from_err c.from_residual-in_err-values.result _ c.from_residual-in_err-values.ensures.0;
-      readable = IfOk-from_err c.from_residual-in_err-values.result _ c.from_residual-in_err-values.ensures.0;
-      error = rw (exit.1, exit.2) (inr (inl refl));
-      whole = λ list is none. rw (exit.1, exit.2) (λ n pruned. cc);
-      left = c.in_ok-reads.ensures.left;
+      reads = record {
+        readable = IfOk-from_err c.from_residual-in_err-values.result _ c.from_residual-in_err-values.ensures.0;
+        error = rw (exit.1, exit.2) (inr (inl refl));
+        whole = λ list is none. rw (exit.1, exit.2) (λ n pruned. cc);
+        left = c.in_ok-reads.ensures.reads.left;
+      };
     }
 
 pub returns : goal.returns
@@ -63,10 +69,10 @@ returns g c =
     let layers = ap (map (λ l. l.value)) c.deref-3.ensures.value ∙ ap (λ b. b.layers) parent in
     record {
       keys = c.in_ok-reads.ensures.keys;
-      reads = λ list chain above stands begun known.
+      found = λ list chain above stands begun known.
           let base = subst (λ ls. LeadOver ls list chain.base) (sym layers)
           (made-base (c.args.self.now).parent list above chain.base begun.parent known) in
-          c.in_ok-reads.ensures.reads list chain.base stands base;
+          c.in_ok-reads.ensures.found list chain.base stands base;
       values = λ list chain above stands begun known.
           let writes = c.args.self.now.writes in
           let base = subst (λ ls. LeadOver ls list chain.base) (sym layers)
@@ -74,11 +80,13 @@ returns g c =
           c.in_ok-values.ensures
           ∙ ap (λ ws. map (λ r. read_under ws (key r.key) (option_map (read_view g.U.Update.view) r.found)) c.deref-4.result.now) (ap (λ b. b.writes) c.self.view_is)
           ∙ ap (map (λ r. read_under writes (key r.key) (option_map (read_view g.U.Update.view) r.found))) c.deref-4.ensures.value
-          ∙ read-through g.U.Update.view key chain.base writes c.in_ok-reads.reads.items (c.in_ok-reads.ensures.reads list chain.base stands base)
+          ∙ read-through g.U.Update.view key chain.base writes c.in_ok-reads.reads.items (c.in_ok-reads.ensures.found list chain.base stands base)
           ∙ ap (map (read_through chain.base writes)) c.in_ok-reads.ensures.keys
           ∙ map-twice (read_through chain.base writes) key c.args.keys.items;
-      readable = told;
-      error = tt;
-      whole = λ list is none. tt;
-      left = c.in_ok-reads.ensures.left;
+      reads = record {
+        readable = told;
+        error = tt;
+        whole = λ list is none. tt;
+        left = c.in_ok-reads.ensures.reads.left;
+      };
     }

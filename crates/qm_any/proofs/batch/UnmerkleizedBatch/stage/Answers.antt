@@ -13,10 +13,12 @@ returns-in_err-values g c =
       staged = λ list chain above is begun known. IfOk-from_err c.from_residual.result _ c.from_residual.ensures.0;
       batch = IfOk-from_err c.from_residual.result _ c.from_residual.ensures.0;
       keys = IfOk-from_err c.from_residual.result _ c.from_residual.ensures.0;
-      readable = IfOk-from_err c.from_residual.result _ c.from_residual.ensures.0;
-      error = rw (exit.1, exit.2) c.in_err-values.ensures.error;
-      whole = λ list is none. rw (exit.1, exit.2) (c.in_err-values.ensures.whole list is none);
-      left = c.in_err-values.ensures.left;
+      reads = record {
+        readable = IfOk-from_err c.from_residual.result _ c.from_residual.ensures.0;
+        error = rw (exit.1, exit.2) c.in_err-values.ensures.reads.error;
+        whole = λ list is none. rw (exit.1, exit.2) (c.in_err-values.ensures.reads.whole list is none);
+        left = c.in_err-values.ensures.reads.left;
+      };
     }
 
 pub returns : goal.returns
@@ -26,8 +28,10 @@ returns g c =
       staged = λ list chain above is begun known. c.in_ok-values.ensures.staged list chain above is (record { begun = begun; reads = staged-none g.U.Update.view g.U.Key.ByteString.bytes chain.base _ c.new.ensures.items }) known;
       batch = c.in_ok-values.ensures.batch;
       keys = c.in_ok-values.ensures.keys ∙ ap (λ rs. map {A = Bytes × Option (ℕ × Operation)} (λ r. r.0) (reads_view g.U.Update.view g.U.Key.ByteString.bytes rs) ++ map g.U.Key.ByteString.bytes c.args.keys.items) c.new.ensures.items;
-      readable = c.in_ok-values.ensures.readable;
-      error = tt;
-      whole = λ list is none. tt;
-      left = c.in_ok-values.ensures.left;
+      reads = record {
+        readable = c.in_ok-values.ensures.reads.readable;
+        error = tt;
+        whole = λ list is none. tt;
+        left = c.in_ok-values.ensures.reads.left;
+      };
     }

@@ -14,14 +14,16 @@ returns-in_err-found g c =
     let exit = err_from_is_err_and c.from_residual.result c.from_residual.ensures.1 in
     record {
       keys = IfOk-from_err c.from_residual.result _ c.from_residual.ensures.0;
-      reads = λ list base is from. IfOk-from_err c.from_residual.result _ c.from_residual.ensures.0;
-      error =
-          rw (exit.1, exit.2) (left-error g.C.Store (hashing_of g.H.Digest.Digest.bytes g.H.Hasher g.F.Family g.U.Update) c.args.self.now c.loop-key.self c.find.new.self _ c.loop-key.invariant.left c.in_err-found.ensures.error);
-      whole = λ list is none.
-          let left = c.loop-key.invariant.left in
-          let mid = left-database g.C.Store (layout_of g.H.Digest.Digest.bytes g.H.Hasher g.F.Family g.U.Update g.I.Unordered) c.args.self.now c.loop-key.self list left is in
-          rw (exit.1, exit.2) (c.in_err-found.ensures.whole list mid (subst (λ t. NoneBelow t list) (sym (left.read).start) none));
-      left = left-then g.C.Store (hashing_of g.H.Digest.Digest.bytes g.H.Hasher g.F.Family g.U.Update) c.args.self.now c.loop-key.self c.find.new.self c.loop-key.invariant.left c.find.ensures.left;
+      found = λ list base is from. IfOk-from_err c.from_residual.result _ c.from_residual.ensures.0;
+      reads = record {
+        error =
+            rw (exit.1, exit.2) (left-error g.C.Store (hashing_of g.H.Digest.Digest.bytes g.H.Hasher g.F.Family g.U.Update) c.args.self.now c.loop-key.self c.find.new.self _ c.loop-key.invariant.left c.in_err-found.ensures.reads.error);
+        whole = λ list is none.
+            let left = c.loop-key.invariant.left in
+            let mid = left-database g.C.Store (layout_of g.H.Digest.Digest.bytes g.H.Hasher g.F.Family g.U.Update g.I.Unordered) c.args.self.now c.loop-key.self list left is in
+            rw (exit.1, exit.2) (c.in_err-found.ensures.reads.whole list mid (subst (λ t. NoneBelow t list) (sym (left.read).start) none));
+        left = left-then g.C.Store (hashing_of g.H.Digest.Digest.bytes g.H.Hasher g.F.Family g.U.Update) c.args.self.now c.loop-key.self c.find.new.self c.loop-key.invariant.left c.find.ensures.reads.left;
+      };
     }
 
 pub loop-key-preserved : goal.loop-key-preserved
@@ -29,7 +31,7 @@ loop-key-preserved g c =
     let key = g.U.Key.ByteString.bytes in
     let left = c.loop-key.invariant.left in
     record {
-      left = left-then g.C.Store (hashing_of g.H.Digest.Digest.bytes g.H.Hasher g.F.Family g.U.Update) c.args.self.now c.loop-key.self c.find.new.self left c.find.ensures.left;
+      left = left-then g.C.Store (hashing_of g.H.Digest.Digest.bytes g.H.Hasher g.F.Family g.U.Update) c.args.self.now c.loop-key.self c.find.new.self left c.find.ensures.reads.left;
       keys = keys-more key c.loop-key.reads.items c.push.new.self.items _ c.loop-key.yielded c.in-Some.key c.in_ok-push.ensures.items c.loop-key.invariant.keys refl;
       reads = λ list base stands from.
           let mid = left-database g.C.Store (layout_of g.H.Digest.Digest.bytes g.H.Hasher g.F.Family g.U.Update g.I.Unordered) c.args.self.now c.loop-key.self list left stands in
@@ -41,12 +43,14 @@ returns-in_err-push g c =
     let exit = err_from_is_err_and c.from_residual-in_err-push.result c.from_residual-in_err-push.ensures.1 in
     record {
       keys = IfOk-from_err c.from_residual-in_err-push.result _ c.from_residual-in_err-push.ensures.0;
-      reads = λ list base is from. IfOk-from_err c.from_residual-in_err-push.result _ c.from_residual-in_err-push.ensures.0;
-      error =
-          rw (exit.1, exit.2) (inl refl);
-      whole = λ list is none.
-          rw (exit.1, exit.2) (λ n pruned. cc);
-      left = left-then g.C.Store (hashing_of g.H.Digest.Digest.bytes g.H.Hasher g.F.Family g.U.Update) c.args.self.now c.loop-key.self c.find.new.self c.loop-key.invariant.left c.find.ensures.left;
+      found = λ list base is from. IfOk-from_err c.from_residual-in_err-push.result _ c.from_residual-in_err-push.ensures.0;
+      reads = record {
+        error =
+            rw (exit.1, exit.2) (inl refl);
+        whole = λ list is none.
+            rw (exit.1, exit.2) (λ n pruned. cc);
+        left = left-then g.C.Store (hashing_of g.H.Digest.Digest.bytes g.H.Hasher g.F.Family g.U.Update) c.args.self.now c.loop-key.self c.find.new.self c.loop-key.invariant.left c.find.ensures.reads.left;
+      };
     }
 
 pub returns : goal.returns
@@ -57,8 +61,10 @@ returns g c =
           let count : c.into_iter-key-iterator.result.rest.len ≡ length c.args.keys.items = omega (arith, gives.1, c.args.keys.ok.0) in
           let all = YieldsList-end (YieldsList-from_vec {s = c.into_iter-key-iterator.result} c.args.keys.items gives.0 count) c.loop-key.yielded _ c.loop-key.yielded_by _ c.next.new.self c.in-None.is c.next.ensures.steps in
           c.loop-key.invariant.keys ∙ ap (map g.U.Key.ByteString.bytes) (sym (map-id c.loop-key.yielded) ∙ all.0);
-      reads = c.loop-key.invariant.reads;
-      error = tt;
-      whole = λ list is none. tt;
-      left = c.loop-key.invariant.left;
+      found = c.loop-key.invariant.reads;
+      reads = record {
+        error = tt;
+        whole = λ list is none. tt;
+        left = c.loop-key.invariant.left;
+      };
     }

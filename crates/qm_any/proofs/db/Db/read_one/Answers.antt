@@ -23,9 +23,11 @@ returns-in-Some-2 g c =
           let said : ℕ × Operation → Option Bytes = λ p. parts.value_of p.1 in
           sym c.into_value.ensures ∙ ap (λ o. option_and_then said (option_map view o)) (sym c.in-Some-2.is)
           ∙ ap (option_and_then said) (c.in_ok-update.ensures.value list base stands from) ∙ value-found base at ∙ sym (ap (λ w. overwritten w (value_of base at)) unwritten);
-      error = tt;
-      whole = λ list is none. tt;
-      left = c.find.ensures.left;
+      reads = record {
+        error = tt;
+        whole = λ list is none. tt;
+        left = c.find.ensures.reads.left;
+      };
     }
 
 pub returns-in-None : goal.returns-in-None
@@ -41,9 +43,11 @@ returns-in-None g c =
           let said : ℕ × Operation → Option Bytes = λ p. parts.value_of p.1 in
           ap (λ o. option_and_then said (option_map view o)) (sym c.in-None.is)
           ∙ ap (option_and_then said) (c.in_ok-update.ensures.value list base stands from) ∙ value-found base at ∙ sym (ap (λ w. overwritten w (value_of base at)) unwritten);
-      error = tt;
-      whole = λ list is none. tt;
-      left = c.find.ensures.left;
+      reads = record {
+        error = tt;
+        whole = λ list is none. tt;
+        left = c.find.ensures.reads.left;
+      };
     }
 
 pub returns-in_err-twin_option : goal.returns-in_err-twin_option
@@ -51,9 +55,11 @@ returns-in_err-twin_option g c =
     let exit = err_from_is_err_and c.from_residual.result c.from_residual.ensures.1 in
     record {
       value = λ list base is from. IfOk-from_err c.from_residual.result _ c.from_residual.ensures.0;
-      error = rw (exit.1, exit.2) (inl refl);
-      whole = λ list is none. rw (exit.1, exit.2) (λ n pruned. cc);
-      left = left-none g.C.Store (hashing_of g.H.Digest.Digest.bytes g.H.Hasher g.F.Family g.U.Update) c.args.self.now;
+      reads = record {
+        error = rw (exit.1, exit.2) (inl refl);
+        whole = λ list is none. rw (exit.1, exit.2) (λ n pruned. cc);
+        left = left-none g.C.Store (hashing_of g.H.Digest.Digest.bytes g.H.Hasher g.F.Family g.U.Update) c.args.self.now;
+      };
     }
 
 pub returns-in_err-update : goal.returns-in_err-update
@@ -61,7 +67,9 @@ returns-in_err-update g c =
     let exit = err_from_is_err_and c.from_residual-in_err-update.result c.from_residual-in_err-update.ensures.1 in
     record {
       value = λ list base is from. IfOk-from_err c.from_residual-in_err-update.result _ c.from_residual-in_err-update.ensures.0;
-      error = rw (exit.1, exit.2) c.in_err-update.ensures.error;
-      whole = λ list is none. rw (exit.1, exit.2) (c.in_err-update.ensures.whole list is none);
-      left = c.find.ensures.left;
+      reads = record {
+        error = rw (exit.1, exit.2) c.in_err-update.ensures.reads.error;
+        whole = λ list is none. rw (exit.1, exit.2) (c.in_err-update.ensures.reads.whole list is none);
+        left = c.find.ensures.reads.left;
+      };
     }

@@ -20,12 +20,14 @@ returns-in_err-found g c =
       staged = λ list chain above is staged known. IfOk-from_err c.from_residual.result _ c.from_residual.ensures.0;
       batch = IfOk-from_err c.from_residual.result _ c.from_residual.ensures.0;
       keys = IfOk-from_err c.from_residual.result _ c.from_residual.ensures.0;
-      readable = IfOk-from_err c.from_residual.result _ c.from_residual.ensures.0;
-      error = rw (exit.1, exit.2) (subst (λ (b : Begun g.row.D.Denot). ((c.in_err-found.field-0.0 ≡ errors.StaleRead) × (knows b.parent.bounds c.args.db.now.commitment ≡ false))
-          ⊎ ((c.in_err-found.field-0.0 ≡ errors.Memory) ⊎ ((knows b.parent.bounds c.args.db.now.commitment ≡ true) × IsReadError g.C.Store c.args.db.now.log c.located.new.db.log c.in_err-found.field-0.0)))
-          (ap (λ s. s.batch) c.self.view_is) c.in_err-found.ensures.error);
-      whole = λ list is none. rw (exit.1, exit.2) (c.in_err-found.ensures.whole list is none);
-      left = c.in_err-found.ensures.left;
+      reads = record {
+        readable = IfOk-from_err c.from_residual.result _ c.from_residual.ensures.0;
+        error = rw (exit.1, exit.2) (subst (λ (b : Begun g.row.D.Denot). ((c.in_err-found.field-0.0 ≡ errors.StaleRead) × (knows b.parent.bounds c.args.db.now.commitment ≡ false))
+            ⊎ ((c.in_err-found.field-0.0 ≡ errors.Memory) ⊎ ((knows b.parent.bounds c.args.db.now.commitment ≡ true) × IsReadError g.C.Store c.args.db.now.log c.located.new.db.log c.in_err-found.field-0.0)))
+            (ap (λ s. s.batch) c.self.view_is) c.in_err-found.ensures.reads.error);
+        whole = λ list is none. rw (exit.1, exit.2) (c.in_err-found.ensures.reads.whole list is none);
+        left = c.in_err-found.ensures.reads.left;
+      };
     }
 
 pub returns-in_err-staged : goal.returns-in_err-staged
@@ -37,10 +39,12 @@ returns-in_err-staged g c =
       staged = λ list chain above is staged known. IfOk-from_err c.from_residual-in_err-staged.result _ c.from_residual-in_err-staged.ensures.0;
       batch = IfOk-from_err c.from_residual-in_err-staged.result _ c.from_residual-in_err-staged.ensures.0;
       keys = IfOk-from_err c.from_residual-in_err-staged.result _ c.from_residual-in_err-staged.ensures.0;
-      readable = IfOk-from_err c.from_residual-in_err-staged.result _ c.from_residual-in_err-staged.ensures.0;
-      error = rw (exit.1, exit.2) (inr (inl refl));
-      whole = λ list is none. rw (exit.1, exit.2) (λ n pruned. cc);
-      left = c.in_ok-found.ensures.left;
+      reads = record {
+        readable = IfOk-from_err c.from_residual-in_err-staged.result _ c.from_residual-in_err-staged.ensures.0;
+        error = rw (exit.1, exit.2) (inr (inl refl));
+        whole = λ list is none. rw (exit.1, exit.2) (λ n pruned. cc);
+        left = c.in_ok-found.ensures.reads.left;
+      };
     }
 
 pub returns : goal.returns
@@ -66,12 +70,14 @@ returns g c =
           record {
             begun = subst (λ b. IsBegun hashing b chain above) (sym c.in_ok-staged.ensures.batch) staged.begun;
             reads = staged-more g.U.Update.view key chain.base c.in_ok-staged.staged.reads c.args.self.reads c.in_ok-found.found.items more staged.reads
-                (c.in_ok-found.ensures.reads list chain above is begun known);
+                (c.in_ok-found.ensures.found list chain above is begun known);
           };
       batch = c.in_ok-staged.ensures.batch;
       keys = keys;
-      readable = subst (λ (b : Begun g.row.D.Denot). knows b.parent.bounds c.args.db.now.commitment ≡ true) batch c.in_ok-found.ensures.readable;
-      error = tt;
-      whole = λ list is none. tt;
-      left = c.in_ok-found.ensures.left;
+      reads = record {
+        readable = subst (λ (b : Begun g.row.D.Denot). knows b.parent.bounds c.args.db.now.commitment ≡ true) batch c.in_ok-found.ensures.reads.readable;
+        error = tt;
+        whole = λ list is none. tt;
+        left = c.in_ok-found.ensures.reads.left;
+      };
     }

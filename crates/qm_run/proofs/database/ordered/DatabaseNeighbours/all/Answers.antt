@@ -26,13 +26,13 @@ returns g c = record {
       ok-then c.get_all.result (ok-each (IsDatabase g.C.Store (layout mmr g.U.Update.form g.I.Unordered.index_key) c.args.self.now.db) (λ list p. option_map (whole_view (λ x. x) (λ x. x)) p ≡ option_map {U = Bytes × Option Bytes} (λ e. (e.value, e.next)) (live_of (live list) c.args.key.now)) c.get_all.result c.get_all.ensures.value)
       (λ p given ordered. given);
   reads = record {
-    same = λ list is. left-database g.C.Store (layout mmr g.U.Update.form g.I.Unordered.index_key) c.args.self.now.db c.get_all.new.self list c.get_all.ensures.left is;
-    store = left-store g.C.Store (hashing mmr g.U.Update.form) c.args.self.now.db c.get_all.new.self c.get_all.ensures.left;
+    same = λ list is. left-database g.C.Store (layout mmr g.U.Update.form g.I.Unordered.index_key) c.args.self.now.db c.get_all.new.self list c.get_all.ensures.reads.left is;
+    store = left-store g.C.Store (hashing mmr g.U.Update.form) c.args.self.now.db c.get_all.new.self c.get_all.ensures.reads.left;
     faults = record {
-      later = (c.get_all.ensures.left).read.keeps.later;
-      failed = err-of c.get_all.result (Journal Store) _ (err-then c.get_all.result c.get_all.ensures.error (λ e why fault. log-rose g.C.Store c.args.self.now.db.log c.get_all.new.self.log e why fault));
+      later = (c.get_all.ensures.reads.left).read.keeps.later;
+      failed = err-of c.get_all.result (Journal Store) _ (err-then c.get_all.result c.get_all.ensures.reads.error (λ e why fault. log-rose g.C.Store c.args.self.now.db.log c.get_all.new.self.log e why fault));
     };
   };
-  never = err-then c.get_all.result c.get_all.ensures.error (λ e why. log-kept g.C.Store c.args.self.now.db.log c.get_all.new.self.log e why);
-  refused = read-untold g.C.Store (layout mmr g.U.Update.form g.I.Unordered.index_key) c.args.self.now.db c.get_all.new.self.log c.get_all.result c.get_all.ensures.error c.get_all.ensures.whole;
+  never = err-then c.get_all.result c.get_all.ensures.reads.error (λ e why. log-kept g.C.Store c.args.self.now.db.log c.get_all.new.self.log e why);
+  refused = read-untold g.C.Store (layout mmr g.U.Update.form g.I.Unordered.index_key) c.args.self.now.db c.get_all.new.self.log c.get_all.result c.get_all.ensures.reads.error c.get_all.ensures.reads.whole;
 }

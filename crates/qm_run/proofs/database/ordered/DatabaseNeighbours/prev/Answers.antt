@@ -25,13 +25,13 @@ returns g c = record {
       ok-then c.get_prev_key.result (ok-each (IsDatabase g.C.Store (layout mmr g.U.Update.form g.I.Unordered.index_key) c.args.self.now.db) (λ list k. option_map (λ x. x) k ≡ key_below (live_keys list) c.args.key.now) c.get_prev_key.result c.get_prev_key.ensures.value)
       (λ k given ordered. given);
   reads = record {
-    same = λ list is. left-database g.C.Store (layout mmr g.U.Update.form g.I.Unordered.index_key) c.args.self.now.db c.get_prev_key.new.self list c.get_prev_key.ensures.left is;
-    store = left-store g.C.Store (hashing mmr g.U.Update.form) c.args.self.now.db c.get_prev_key.new.self c.get_prev_key.ensures.left;
+    same = λ list is. left-database g.C.Store (layout mmr g.U.Update.form g.I.Unordered.index_key) c.args.self.now.db c.get_prev_key.new.self list c.get_prev_key.ensures.reads.left is;
+    store = left-store g.C.Store (hashing mmr g.U.Update.form) c.args.self.now.db c.get_prev_key.new.self c.get_prev_key.ensures.reads.left;
     faults = record {
-      later = (c.get_prev_key.ensures.left).read.keeps.later;
-      failed = err-of c.get_prev_key.result (Journal Store) _ (err-then c.get_prev_key.result c.get_prev_key.ensures.error (λ e why fault. log-rose g.C.Store c.args.self.now.db.log c.get_prev_key.new.self.log e why fault));
+      later = (c.get_prev_key.ensures.reads.left).read.keeps.later;
+      failed = err-of c.get_prev_key.result (Journal Store) _ (err-then c.get_prev_key.result c.get_prev_key.ensures.reads.error (λ e why fault. log-rose g.C.Store c.args.self.now.db.log c.get_prev_key.new.self.log e why fault));
     };
   };
-  never = err-then c.get_prev_key.result c.get_prev_key.ensures.error (λ e why. log-kept g.C.Store c.args.self.now.db.log c.get_prev_key.new.self.log e why);
-  refused = read-untold g.C.Store (layout mmr g.U.Update.form g.I.Unordered.index_key) c.args.self.now.db c.get_prev_key.new.self.log c.get_prev_key.result c.get_prev_key.ensures.error c.get_prev_key.ensures.whole;
+  never = err-then c.get_prev_key.result c.get_prev_key.ensures.reads.error (λ e why. log-kept g.C.Store c.args.self.now.db.log c.get_prev_key.new.self.log e why);
+  refused = read-untold g.C.Store (layout mmr g.U.Update.form g.I.Unordered.index_key) c.args.self.now.db c.get_prev_key.new.self.log c.get_prev_key.result c.get_prev_key.ensures.reads.error c.get_prev_key.ensures.reads.whole;
 }

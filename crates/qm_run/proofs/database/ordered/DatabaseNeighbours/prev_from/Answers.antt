@@ -24,7 +24,7 @@ returns-then-not-is_ordered g c = record {
 pub returns : goal.returns
 returns g c = record {
   readable =
-      ok-then c.get_prev_key.result c.get_prev_key.ensures.readable
+      ok-then c.get_prev_key.result c.get_prev_key.ensures.reads.readable
       (λ key can ordered list chain tip is batch. sym (knows-readable mmr g.U.Update.form g.met.U.Kind.lengths list chain tip c.args.self.now.db.commitment c.deref.result.now.bounds is.commitment (subst (λ b. IsMade (hashing mmr g.U.Update.form) b chain tip) (sym c.deref.ensures) batch).bounds) ∙ can);
   below =
       ok-then c.get_prev_key.result
@@ -32,17 +32,17 @@ returns g c = record {
       (λ list chain tip is batch known. c.get_prev_key.ensures.value list chain tip is (subst (λ b. IsMade (hashing mmr g.U.Update.form) b chain tip) (sym c.deref.ensures) batch) known))
       (λ k given ordered. given);
   failure =
-      err-both c.get_prev_key.result c.get_prev_key.ensures.error (kept-items g.C.Store (layout mmr g.U.Update.form g.I.Unordered.index_key) c.args.self.now.db c.get_prev_key.result c.get_prev_key.ensures.whole)
+      err-both c.get_prev_key.result c.get_prev_key.ensures.reads.error (kept-items g.C.Store (layout mmr g.U.Update.form g.I.Unordered.index_key) c.args.self.now.db c.get_prev_key.result c.get_prev_key.ensures.reads.whole)
       (λ e why kept list chain tip is batch.
       read-failure g.C.Store c.args.self.now.db.log c.get_prev_key.new.db.log (knows c.deref.result.now.bounds c.args.self.now.db.commitment) e _ list chain tip
       (knows-readable mmr g.U.Update.form g.met.U.Kind.lengths list chain tip c.args.self.now.db.commitment c.deref.result.now.bounds is.commitment (subst (λ b. IsMade (hashing mmr g.U.Update.form) b chain tip) (sym c.deref.ensures) batch).bounds) (kept list is) why);
   reads = record {
-    same = λ list is. left-database g.C.Store (layout mmr g.U.Update.form g.I.Unordered.index_key) c.args.self.now.db c.get_prev_key.new.db list c.get_prev_key.ensures.left is;
-    store = left-store g.C.Store (hashing mmr g.U.Update.form) c.args.self.now.db c.get_prev_key.new.db c.get_prev_key.ensures.left;
+    same = λ list is. left-database g.C.Store (layout mmr g.U.Update.form g.I.Unordered.index_key) c.args.self.now.db c.get_prev_key.new.db list c.get_prev_key.ensures.reads.left is;
+    store = left-store g.C.Store (hashing mmr g.U.Update.form) c.args.self.now.db c.get_prev_key.new.db c.get_prev_key.ensures.reads.left;
     faults = record {
-      later = (c.get_prev_key.ensures.left).read.keeps.later;
-      failed = err-of c.get_prev_key.result (Journal Store) _ (err-then c.get_prev_key.result c.get_prev_key.ensures.error (λ e why fault. rose-read g.C.Store c.args.self.now.db.log c.get_prev_key.new.db.log (knows c.deref.result.now.bounds c.args.self.now.db.commitment) e why fault));
+      later = (c.get_prev_key.ensures.reads.left).read.keeps.later;
+      failed = err-of c.get_prev_key.result (Journal Store) _ (err-then c.get_prev_key.result c.get_prev_key.ensures.reads.error (λ e why fault. rose-read g.C.Store c.args.self.now.db.log c.get_prev_key.new.db.log (knows c.deref.result.now.bounds c.args.self.now.db.commitment) e why fault));
     };
   };
-  never = err-then c.get_prev_key.result c.get_prev_key.ensures.error (λ e why. never-read g.C.Store c.args.self.now.db.log c.get_prev_key.new.db.log (knows c.deref.result.now.bounds c.args.self.now.db.commitment) e why);
+  never = err-then c.get_prev_key.result c.get_prev_key.ensures.reads.error (λ e why. never-read g.C.Store c.args.self.now.db.log c.get_prev_key.new.db.log (knows c.deref.result.now.bounds c.args.self.now.db.commitment) e why);
 }

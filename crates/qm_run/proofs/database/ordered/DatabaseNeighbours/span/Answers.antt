@@ -21,9 +21,9 @@ returns-in-Ok g c = record {
   span =
       λ ordered list is. same-located (option_map (span_view (λ k. k) (λ v. v)) c.span_from.result) (span_of list c.args.key.now) (c.span_from.ensures ordered ∙ c.in-Ok.ensures.value list is);
   reads = record {
-    same = λ list is. left-database g.C.Store (layout mmr g.U.Update.form g.I.Unordered.index_key) c.args.self.now.db c.get_span.new.self list c.get_span.ensures.left is;
-    store = left-store g.C.Store (hashing mmr g.U.Update.form) c.args.self.now.db c.get_span.new.self c.get_span.ensures.left;
-    faults = record { later = (c.get_span.ensures.left).read.keeps.later; failed = λ fault. absurd (cc fault) };
+    same = λ list is. left-database g.C.Store (layout mmr g.U.Update.form g.I.Unordered.index_key) c.args.self.now.db c.get_span.new.self list c.get_span.ensures.reads.left is;
+    store = left-store g.C.Store (hashing mmr g.U.Update.form) c.args.self.now.db c.get_span.new.self c.get_span.ensures.reads.left;
+    faults = record { later = (c.get_span.ensures.reads.left).read.keeps.later; failed = λ fault. absurd (cc fault) };
   };
   never = tt;
   refused = tt;
@@ -33,10 +33,10 @@ pub returns-in-Err : goal.returns-in-Err
 returns-in-Err g c = record {
   span = tt;
   reads = record {
-    same = λ list is. left-database g.C.Store (layout mmr g.U.Update.form g.I.Unordered.index_key) c.args.self.now.db c.get_span.new.self list c.get_span.ensures.left is;
-    store = left-store g.C.Store (hashing mmr g.U.Update.form) c.args.self.now.db c.get_span.new.self c.get_span.ensures.left;
-    faults = record { later = (c.get_span.ensures.left).read.keeps.later; failed = λ fault. log-rose g.C.Store c.args.self.now.db.log c.get_span.new.self.log c.in-Err.error c.in-Err.ensures.error (cc fault) };
+    same = λ list is. left-database g.C.Store (layout mmr g.U.Update.form g.I.Unordered.index_key) c.args.self.now.db c.get_span.new.self list c.get_span.ensures.reads.left is;
+    store = left-store g.C.Store (hashing mmr g.U.Update.form) c.args.self.now.db c.get_span.new.self c.get_span.ensures.reads.left;
+    faults = record { later = (c.get_span.ensures.reads.left).read.keeps.later; failed = λ fault. log-rose g.C.Store c.args.self.now.db.log c.get_span.new.self.log c.in-Err.error c.in-Err.ensures.reads.error (cc fault) };
   };
-  never = log-kept g.C.Store c.args.self.now.db.log c.get_span.new.self.log c.in-Err.error c.in-Err.ensures.error;
-  refused = λ list is tells. log-untold g.C.Store c.args.self.now.db.log c.get_span.new.self.log c.in-Err.error (c.in-Err.ensures.whole list is (none-below g.C.Store (layout mmr g.U.Update.form g.I.Unordered.index_key) c.args.self.now.db list is tells)) c.in-Err.ensures.error;
+  never = log-kept g.C.Store c.args.self.now.db.log c.get_span.new.self.log c.in-Err.error c.in-Err.ensures.reads.error;
+  refused = λ list is tells. log-untold g.C.Store c.args.self.now.db.log c.get_span.new.self.log c.in-Err.error (c.in-Err.ensures.reads.whole list is (none-below g.C.Store (layout mmr g.U.Update.form g.I.Unordered.index_key) c.args.self.now.db list is tells)) c.in-Err.ensures.reads.error;
 }

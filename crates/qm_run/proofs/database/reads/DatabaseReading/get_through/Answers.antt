@@ -14,22 +14,22 @@ use Rattle.qm_run.proofs.database.reads.DatabaseReading.get_through.Goals as goa
 pub returns : goal.returns
 returns g c = record {
   readable =
-      ok-then c.get_many.result c.get_many.ensures.readable
+      ok-then c.get_many.result c.get_many.ensures.reads.readable
       (λ values can list chain above ws is batch. sym (knows-readable mmr g.U.Update.form g.met.U.Kind.lengths list above chain.base c.args.self.now.db.commitment c.args.batch.now.parent.bounds is.commitment batch.0.parent.bounds) ∙ can);
   values =
       begun-reads mmr g.U.Update.form c.get_many.result (IsDatabase g.C.Store (layout mmr g.U.Update.form g.I.Unordered.index_key) c.args.self.now.db) c.args.batch.now (λ v base ws. map (option_map (λ x. x)) v.items ≡ map (λ k. read_through base ws k) c.args.keys.now) c.get_many.ensures.values;
   failure =
-      err-both c.get_many.result c.get_many.ensures.error (kept-items g.C.Store (layout mmr g.U.Update.form g.I.Unordered.index_key) c.args.self.now.db c.get_many.result c.get_many.ensures.whole)
+      err-both c.get_many.result c.get_many.ensures.reads.error (kept-items g.C.Store (layout mmr g.U.Update.form g.I.Unordered.index_key) c.args.self.now.db c.get_many.result c.get_many.ensures.reads.whole)
       (λ e why kept list chain above ws is batch.
       read-failure g.C.Store c.args.self.now.db.log c.get_many.new.db.log (knows c.args.batch.now.parent.bounds c.args.self.now.db.commitment) e _ list above chain.base
       (knows-readable mmr g.U.Update.form g.met.U.Kind.lengths list above chain.base c.args.self.now.db.commitment c.args.batch.now.parent.bounds is.commitment batch.0.parent.bounds) (kept list is) why);
   reads = record {
-    same = λ list is. left-database g.C.Store (layout mmr g.U.Update.form g.I.Unordered.index_key) c.args.self.now.db c.get_many.new.db list c.get_many.ensures.left is;
-    store = left-store g.C.Store (hashing mmr g.U.Update.form) c.args.self.now.db c.get_many.new.db c.get_many.ensures.left;
+    same = λ list is. left-database g.C.Store (layout mmr g.U.Update.form g.I.Unordered.index_key) c.args.self.now.db c.get_many.new.db list c.get_many.ensures.reads.left is;
+    store = left-store g.C.Store (hashing mmr g.U.Update.form) c.args.self.now.db c.get_many.new.db c.get_many.ensures.reads.left;
     faults = record {
-      later = (c.get_many.ensures.left).read.keeps.later;
-      failed = err-of c.get_many.result (Journal Store) _ (err-then c.get_many.result c.get_many.ensures.error (λ e why fault. rose-read g.C.Store c.args.self.now.db.log c.get_many.new.db.log (knows c.args.batch.now.parent.bounds c.args.self.now.db.commitment) e why fault));
+      later = (c.get_many.ensures.reads.left).read.keeps.later;
+      failed = err-of c.get_many.result (Journal Store) _ (err-then c.get_many.result c.get_many.ensures.reads.error (λ e why fault. rose-read g.C.Store c.args.self.now.db.log c.get_many.new.db.log (knows c.args.batch.now.parent.bounds c.args.self.now.db.commitment) e why fault));
     };
   };
-  never = err-then c.get_many.result c.get_many.ensures.error (λ e why. never-read g.C.Store c.args.self.now.db.log c.get_many.new.db.log (knows c.args.batch.now.parent.bounds c.args.self.now.db.commitment) e why);
+  never = err-then c.get_many.result c.get_many.ensures.reads.error (λ e why. never-read g.C.Store c.args.self.now.db.log c.get_many.new.db.log (knows c.args.batch.now.parent.bounds c.args.self.now.db.commitment) e why);
 }

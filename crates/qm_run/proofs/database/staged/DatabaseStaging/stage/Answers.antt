@@ -23,23 +23,23 @@ returns-in-Err g c = record {
 pub returns-in-Ok : goal.returns-in-Ok
 returns-in-Ok g c = record {
   readable =
-      ok-then c.stage.result c.stage.ensures.readable
+      ok-then c.stage.result c.stage.ensures.reads.readable
       (λ values can list chain above ws is batch. sym (knows-readable mmr g.U.Update.form g.met.U.Kind.lengths list above chain.base c.args.self.now.db.commitment c.args.batch.parent.bounds is.commitment batch.0.parent.bounds) ∙ can);
   values =
       rw (sym c.in-Ok.ensures) (begun-staged mmr g.U.Update.form c.stage.result (IsDatabase g.C.Store (layout mmr g.U.Update.form g.I.Unordered.index_key) c.args.self.now.db) c.args.batch (map (λ k. k) c.in-Ok.keys.items) (λ v base ws. map (option_map (λ x. x)) v.items ≡ map (λ k. read_through base ws k) c.in-Ok.keys.items)
       c.stage.ensures.values c.stage.ensures.staged c.stage.ensures.batch c.stage.ensures.keys);
   failure =
-      err-both c.stage.result c.stage.ensures.error (kept-items g.C.Store (layout mmr g.U.Update.form g.I.Unordered.index_key) c.args.self.now.db c.stage.result c.stage.ensures.whole)
+      err-both c.stage.result c.stage.ensures.reads.error (kept-items g.C.Store (layout mmr g.U.Update.form g.I.Unordered.index_key) c.args.self.now.db c.stage.result c.stage.ensures.reads.whole)
       (λ e why kept list chain above ws is batch.
       read-failure g.C.Store c.args.self.now.db.log c.stage.new.db.log (knows c.args.batch.parent.bounds c.args.self.now.db.commitment) e _ list above chain.base
       (knows-readable mmr g.U.Update.form g.met.U.Kind.lengths list above chain.base c.args.self.now.db.commitment c.args.batch.parent.bounds is.commitment batch.0.parent.bounds) (kept list is) why);
   reads = record {
-    same = λ list is. left-database g.C.Store (layout mmr g.U.Update.form g.I.Unordered.index_key) c.args.self.now.db c.stage.new.db list c.stage.ensures.left is;
-    store = left-store g.C.Store (hashing mmr g.U.Update.form) c.args.self.now.db c.stage.new.db c.stage.ensures.left;
+    same = λ list is. left-database g.C.Store (layout mmr g.U.Update.form g.I.Unordered.index_key) c.args.self.now.db c.stage.new.db list c.stage.ensures.reads.left is;
+    store = left-store g.C.Store (hashing mmr g.U.Update.form) c.args.self.now.db c.stage.new.db c.stage.ensures.reads.left;
     faults = record {
-      later = (c.stage.ensures.left).read.keeps.later;
-      failed = err-of c.stage.result (Journal Store) _ (err-then c.stage.result c.stage.ensures.error (λ e why fault. rose-read g.C.Store c.args.self.now.db.log c.stage.new.db.log (knows c.args.batch.parent.bounds c.args.self.now.db.commitment) e why fault));
+      later = (c.stage.ensures.reads.left).read.keeps.later;
+      failed = err-of c.stage.result (Journal Store) _ (err-then c.stage.result c.stage.ensures.reads.error (λ e why fault. rose-read g.C.Store c.args.self.now.db.log c.stage.new.db.log (knows c.args.batch.parent.bounds c.args.self.now.db.commitment) e why fault));
     };
   };
-  never = err-then c.stage.result c.stage.ensures.error (λ e why. never-read g.C.Store c.args.self.now.db.log c.stage.new.db.log (knows c.args.batch.parent.bounds c.args.self.now.db.commitment) e why);
+  never = err-then c.stage.result c.stage.ensures.reads.error (λ e why. never-read g.C.Store c.args.self.now.db.log c.stage.new.db.log (knows c.args.batch.parent.bounds c.args.self.now.db.commitment) e why);
 }

@@ -1,0 +1,50 @@
+-- What a call says that reads a database, alone or through a batch.
+use Rattle.std.specs.Prelude.{◌≡◌, ◌≢◌, ◌⊎◌, ℕ, Bool, true, false, List, Result, IfErr, OnOk}
+use Rattle.qm_model.specs.Batches.{Chain, IsKnown}
+use Rattle.qm_model.specs.Operations.{Operation}
+use Rattle.qm_base.specs.declared.error.Error.{Error}
+use Rattle.qm_base.specs.declared.error.Error.TheVariants as errors
+use Rattle.qm_base.specs.declared.error.JournalError.TheVariants as journal
+use Rattle.qm_chain.specs.Bounds.{Bounds, knows}
+use Rattle.qm_step.specs.Lent.{NoneBelow}
+use Rattle.qm_store.specs.declared.Store as store
+use Rattle.qm_store.specs.Log.{Log}
+use Rattle.qm_store.specs.Reads.{IsReadError}
+use Rattle.qm_any.specs.Layouts.{Layout}
+use Rattle.qm_any.specs.Databases.{Database, Begun, Made, IsBegun, IsDatabase, IsLeft, IsMade}
+
+-- the error is that of no item that is gone
+abbrev pub IsOfKeptItem : Error → Type 0
+IsOfKeptItem e = (n : ℕ) → e ≢ errors.Journal (journal.ItemPruned n)
+
+-- why a read through a batch failed, which is known or not: it is stale, or memory was short, or the log's read failed
+abbrev pub IsThroughError : {C D : Type 0} → store.Ghosts C → Bool → Log C D → Log C D → Error → Type 0
+IsThroughError members known old new e = ((e ≡ errors.StaleRead) × (known ≡ false)) ⊎ ((e ≡ errors.Memory) ⊎ ((known ≡ true) × IsReadError members old new e))
+
+module _ {C D : Type 0} (members : store.Ghosts C) (layout : Layout D) where
+  -- of each list that the database stands for
+  abbrev pub AtList : Database C D → (List Operation → Type 0) → Type 0
+  AtList db P = (list : List Operation) → IsDatabase members layout db list → P list
+
+  -- of each chain and tip of a merkleized batch that can be read over the database
+  abbrev pub AtMade : Database C D → Made D → (Chain → List Operation → Type 0) → Type 0
+  AtMade db batch P = (list : List Operation) (chain : Chain) (tip : List Operation) → IsDatabase members layout db list → IsMade layout.hashing batch chain tip → IsKnown list chain tip → P chain tip
+
+  -- of each chain of a batch, and that of its parent, whose base can be read over the database
+  abbrev pub AtBegun : Database C D → Begun D → (Chain → Chain → Type 0) → Type 0
+  AtBegun db batch P = (list : List Operation) (chain above : Chain) → IsDatabase members layout db list → IsBegun layout.hashing batch chain above → IsKnown list above chain.base → P chain above
+
+  module _ {A : Type 0} (old new : Database C D) (result : Result A Error) where
+    -- A call read the database: it left it as it was but for its store's count of faults. It failed for memory, for a fault by
+    -- which that count rose, or at an item that the store no longer has, and not so where no live update stands below the start.
+    pub record Reads : Type 0 where
+      pub error : IfErr result (IsReadError members old.log new.log)
+      pub whole : AtList old (λ list. NoneBelow old.log.tree.start list → IfErr result IsOfKeptItem)
+      pub left : IsLeft members layout.hashing old new
+
+    -- The same through a batch of these bounds: it answers only where they know the database's state, and is stale only where not.
+    pub record ReadsThrough (bounds : Bounds) : Type 0 where
+      pub readable : OnOk result (knows bounds old.commitment ≡ true)
+      pub error : IfErr result (IsThroughError members (knows bounds old.commitment) old.log new.log)
+      pub whole : AtList old (λ list. NoneBelow old.log.tree.start list → IfErr result IsOfKeptItem)
+      pub left : IsLeft members layout.hashing old new
