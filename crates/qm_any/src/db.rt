@@ -138,20 +138,33 @@ impl<F: Family, I: qm_index::Unordered<Value = Location<F>>, D: Digest, U: Updat
 
 /// How the lists of a database are hashed and indexed, by its type.
 pub trait LaidOut {
+    ghost use Rattle.std.specs.Prelude.{List};
+    ghost use Rattle.qm_model.specs.Operations.{Operation};
     ghost use Rattle.qm_any.specs.Layouts.{Layout};
+    ghost use Rattle.qm_any.specs.Databases.{Database};
 
     type Digest;
 
+    type Store;
+
     ghost layout: { Layout Self.Digest };
+
+    /// A database of the type stands for the list.
+    ghost stands: { Database Self.Store Self.Digest → List Operation → Type 0 };
 }
 
 impl<F: Family, C: Store, I: qm_index::Unordered<Value = Location<F>>, H: Hasher, U: Update> LaidOut
     for Db<F, C, I, H, U> {
     ghost use Rattle.qm_any.specs.Layouts.{layout_of};
+    ghost use Rattle.qm_any.specs.Databases.{IsDatabase};
 
     type Digest = H::Digest;
 
+    type Store = C;
+
     ghost layout = { layout_of H.Digest.bytes H.Hasher F.Family U.Update I.Unordered };
+
+    ghost stands = { IsDatabase C.Store (layout_of H.Digest.bytes H.Hasher F.Family U.Update I.Unordered) };
 }
 
 impl<F: Family, C: Store, I: qm_index::Unordered<Value = Location<F>>, H: Hasher, U: Update> Db<
@@ -217,7 +230,7 @@ impl<F: Family, C: Store, I: qm_index::Unordered<Value = Location<F>>, H: Hasher
     /// Begins a batch on the database as it is.
     pub fn new_batch(&self, alloc: Global) -> Result<UnmerkleizedBatch<F, H::Digest, U>, AllocError>
         ensures value { IfOk result (λ b. b ≡ record { parent = at_rest self.now; keep = 0; writes = [] }) }
-        ensures begun { (list : List Operation) → IsDatabase C.Store ⟦<Self as LaidOut>⟧.layout self.now list → IfOk result (λ b. IsBegun ⟦<Self as LaidOut>⟧.layout.hashing b (begun_on list) (begun_on list)) }
+        ensures begun { (list : List Operation) → ⟦<Self as LaidOut>⟧.stands self.now list → IfOk result (λ b. IsBegun ⟦<Self as LaidOut>⟧.layout.hashing b (begun_on list) (begun_on list)) }
     {
         let parent = self.to_batch(alloc)?;
         Ok(UnmerkleizedBatch::begun(alloc, parent, 0))
@@ -230,7 +243,7 @@ impl<F: Family, C: Store, I: qm_index::Unordered<Value = Location<F>>, H: Hasher
         alloc: Global,
     ) -> Result<Rc<MerkleizedBatch<F, H::Digest, U>>, AllocError>
         ensures value { IfOk result (λ b. b.value ≡ at_rest self.now) }
-        ensures made { (list : List Operation) → IsDatabase C.Store ⟦<Self as LaidOut>⟧.layout self.now list → IfOk result (λ b. IsMade ⟦<Self as LaidOut>⟧.layout.hashing b.value (begun_on list) list) }
+        ensures made { (list : List Operation) → ⟦<Self as LaidOut>⟧.stands self.now list → IfOk result (λ b. IsMade ⟦<Self as LaidOut>⟧.layout.hashing b.value (begun_on list) list) }
     {
         // The log has at most 2^62 items.
         self.log.bounds();
@@ -243,7 +256,7 @@ impl<F: Family, C: Store, I: qm_index::Unordered<Value = Location<F>>, H: Hasher
     /// pruned, or is a peak over that.
     pub fn get_node(&self, position: Position<F>) -> Option<H::Digest>
         ensures held { IsSome result ↔ Holds F.shape self.now.log.tree position }
-        ensures value { (list : List Operation) → IsDatabase C.Store ⟦<Self as LaidOut>⟧.layout self.now list
+        ensures value { (list : List Operation) → ⟦<Self as LaidOut>⟧.stands self.now list
             → (x : trees.Node) → trees.Shape.birth F.shape x ≤ length list → trees.Shape.position F.shape x ≡ position → IfSome result (λ d. H.Digest.bytes d ≡ trees.digest_of H.hash F.shape (trees.leaves_from H.hash F.shape U.form 0 list) x) }
     {
         self.log.tree().get_node(position)
@@ -269,8 +282,8 @@ impl<F: Family, C: Store, I: qm_index::Unordered<Value = Location<F>>, H: Hasher
     where
         I: Drop,
         H: Drop,
-        ensures stands { (list : List Operation) (chain : Chain) (tip : List Operation) → IsDatabase C.Store ⟦<Self as LaidOut>⟧.layout self list → IsMade ⟦<Self as LaidOut>⟧.layout.hashing batch.now chain tip → IsOnChain list chain
-            → IfOk result (λ next. IsDatabase C.Store ⟦<Self as LaidOut>⟧.layout next tip) }
+        ensures stands { (list : List Operation) (chain : Chain) (tip : List Operation) → ⟦<Self as LaidOut>⟧.stands self list → IsMade ⟦<Self as LaidOut>⟧.layout.hashing batch.now chain tip → IsOnChain list chain
+            → IfOk result (λ next. ⟦<Self as LaidOut>⟧.stands next tip) }
         ensures fits { OnOk result (is_at self.commitment batch.now.bounds.db batch.now.bounds.ancestors ≡ true) }
         ensures grown { (chain : Chain) (tip : List Operation) → IsMade ⟦<Self as LaidOut>⟧.layout.hashing batch.now chain tip → IfOk result (λ next. Appended C.Store self.log.store next.log.store (map (spelling U.form) (drop self.commitment.size tip))) }
         ensures start { C.start (store_after (λ db. db.log.store) result) ≡ C.start self.log.store }
@@ -328,7 +341,7 @@ impl<F: Family, C: Store, I: qm_index::Unordered<Value = Location<F>>, H: Hasher
 
     /// The value of a key, if it is live. It takes one read of the log for each location in the key's bucket, at most.
     pub fn get(&mut self, alloc: Global, key: &U::Key) -> Result<Option<U::Value>, Error>
-        ensures value { AtList C.Store ⟦<Self as LaidOut>⟧.layout self.old (λ list. IfOk result (λ v. option_map U.Value.bytes v ≡ lives.value_of list (U.Key.bytes key.now))) }
+        ensures value { (list : List Operation) → ⟦<Self as LaidOut>⟧.stands self.old list → (IfOk result (λ v. option_map U.Value.bytes v ≡ lives.value_of list (U.Key.bytes key.now))) }
         ensures reads { Reads C.Store ⟦<Self as LaidOut>⟧.layout self.old self.new result }
     {
         let writes = Writes::new(alloc);
@@ -356,7 +369,7 @@ impl<F: Family, C: Store, I: qm_index::Unordered<Value = Location<F>>, H: Hasher
         writes: &Writes<U::Key, U::Value>,
         key: &U::Key,
     ) -> Result<Option<U::Value>, Error>
-        ensures value { (list base : List Operation) → IsDatabase C.Store ⟦<Self as LaidOut>⟧.layout self.old list → LeadOver (map (λ l. l.value) steps.now) list base
+        ensures value { (list base : List Operation) → ⟦<Self as LaidOut>⟧.stands self.old list → LeadOver (map (λ l. l.value) steps.now) list base
             → IfOk result (λ v. option_map U.Value.bytes v ≡ read_through base writes.now (U.Key.bytes key.now)) }
         ensures reads { Reads C.Store ⟦<Self as LaidOut>⟧.layout self.old self.new result }
     {
@@ -377,7 +390,7 @@ impl<F: Family, C: Store, I: qm_index::Unordered<Value = Location<F>>, H: Hasher
         writes: &Writes<U::Key, U::Value>,
         keys: &[U::Key],
     ) -> Result<Vec<Option<U::Value>>, Error>
-        ensures values { (list base : List Operation) → IsDatabase C.Store ⟦<Self as LaidOut>⟧.layout self.old list → LeadOver (map (λ l. l.value) steps.now) list base
+        ensures values { (list base : List Operation) → ⟦<Self as LaidOut>⟧.stands self.old list → LeadOver (map (λ l. l.value) steps.now) list base
             → IfOk result (λ v. map (option_map U.Value.bytes) v.items ≡ map (λ k. read_through base writes.now (U.Key.bytes k)) keys.now) }
         ensures reads { Reads C.Store ⟦<Self as LaidOut>⟧.layout self.old self.new result }
     {
@@ -396,7 +409,7 @@ impl<F: Family, C: Store, I: qm_index::Unordered<Value = Location<F>>, H: Hasher
         steps: &[Step<F, U>],
         key: &U::Key,
     ) -> Result<Option<(Location<F>, U)>, Error>
-        ensures value { (list base : List Operation) → IsDatabase C.Store ⟦<Self as LaidOut>⟧.layout self.old list → LeadOver (map (λ l. l.value) steps.now) list base
+        ensures value { (list base : List Operation) → ⟦<Self as LaidOut>⟧.stands self.old list → LeadOver (map (λ l. l.value) steps.now) list base
             → IfOk result (λ found. option_map (read_view U.view) found ≡ update_of base (U.Key.bytes key.now)) }
         ensures reads { Reads C.Store ⟦<Self as LaidOut>⟧.layout self.old self.new result }
     {
@@ -411,7 +424,7 @@ impl<F: Family, C: Store, I: qm_index::Unordered<Value = Location<F>>, H: Hasher
         keys: Vec<U::Key>,
     ) -> Result<Vec<Read<F, U>>, Error>
         ensures keys { IfOk result (λ reads. keys_of U.Key.bytes reads.items ≡ map U.Key.bytes keys.items) }
-        ensures found { (list base : List Operation) → IsDatabase C.Store ⟦<Self as LaidOut>⟧.layout self.old list → LeadOver (map (λ l. l.value) steps.now) list base
+        ensures found { (list base : List Operation) → ⟦<Self as LaidOut>⟧.stands self.old list → LeadOver (map (λ l. l.value) steps.now) list base
             → IfOk result (λ reads. AreReads U.view U.Key.bytes reads.items base) }
         ensures reads { Reads C.Store ⟦<Self as LaidOut>⟧.layout self.old self.new result }
     {
@@ -439,9 +452,9 @@ impl<F: Family, C: Store, I: qm_index::Unordered<Value = Location<F>>, H: Hasher
         ensures leaves { IfOk result (λ grown. grown.0.leaves ≡ tree.now.leaves + length operations.now) }
         ensures taken { IfOk result (λ grown. IsSpelled U.form (operation_views U.view U.Key.bytes U.Value.bytes operations.now) grown.0.leaves) }
         ensures stops { IfOk result (λ grown. stops grown.0.leaves grown.0.layers ≡ grown.0.leaves ∷ stops_since boundary (stops tree.now.leaves tree.now.layers)) }
-        ensures tree { (list base : List Operation) (older : List (List Operation)) → IsDatabase C.Store ⟦<Self as LaidOut>⟧.layout self.old list → IsTree ⟦<Self as LaidOut>⟧.layout.hashing tree.now base older → Contains (base ∷ older) list
+        ensures tree { (list base : List Operation) (older : List (List Operation)) → ⟦<Self as LaidOut>⟧.stands self.old list → IsTree ⟦<Self as LaidOut>⟧.layout.hashing tree.now base older → Contains (base ∷ older) list
             → IfOk result (λ grown. IsKeptTree H.Digest.bytes H.hash F.shape grown.0 (map (spelling U.form) (base ++ operation_views U.view U.Key.bytes U.Value.bytes operations.now)) (lists_since boundary (map (map (spelling U.form)) (base ∷ older)))) }
-        ensures root { (list base : List Operation) (older : List (List Operation)) → IsDatabase C.Store ⟦<Self as LaidOut>⟧.layout self.old list → IsTree ⟦<Self as LaidOut>⟧.layout.hashing tree.now base older → Contains (base ∷ older) list
+        ensures root { (list base : List Operation) (older : List (List Operation)) → ⟦<Self as LaidOut>⟧.stands self.old list → IsTree ⟦<Self as LaidOut>⟧.layout.hashing tree.now base older → Contains (base ∷ older) list
             → floor ≡ lives.floor (base ++ operation_views U.view U.Key.bytes U.Value.bytes operations.now) → IfOk result (λ grown. H.Digest.bytes grown.1 ≡ ops_root H.hash F.shape U.form (base ++ operation_views U.view U.Key.bytes U.Value.bytes operations.now)) }
         ensures refused { IfErr result (λ e. (e ≡ Error.Memory) ⊎ IsTooLong (map (spelling U.form) (operation_views U.view U.Key.bytes U.Value.bytes operations.now)) (tree.now.leaves + length operations.now) e) }
         ensures same { self.new ≡ self.old }
@@ -572,15 +585,15 @@ impl<
         requires size { base.now.size ≤ 2 ^ 62 }
         requires live { base.now.live ≤ base.now.size }
         requires slots { length wanted.slots.now ≡ length wanted.reads.now }
-        ensures plan { (list known : List Operation) → IsDatabase C.Store ⟦<Self as LaidOut>⟧.layout self.old list → IsBase (base_view base.now) list known
+        ensures plan { (list known : List Operation) → ⟦<Self as LaidOut>⟧.stands self.old list → IsBase (base_view base.now) list known
             → HasRing U.form known → AreReads U.view U.Key.bytes wanted.entry.reads.now known
             → IfOk result (λ plan. IsPlan plan known (stepped U.form P.rules known (wanted_view U.Key.bytes U.Value.bytes wanted.entry) policy.old (option_map U.Value.bytes metadata))) }
-        ensures next { (list known : List Operation) → IsDatabase C.Store ⟦<Self as LaidOut>⟧.layout self.old list → IsBase (base_view base.now) list known
+        ensures next { (list known : List Operation) → ⟦<Self as LaidOut>⟧.stands self.old list → IsBase (base_view base.now) list known
             → HasRing U.form known → AreReads U.view U.Key.bytes wanted.entry.reads.now known
             → IfOk result (λ _. policy.new ≡ left_after U.form P.rules known (wanted_view U.Key.bytes U.Value.bytes wanted.entry) policy.old) }
         ensures live { IfOk result (λ plan. plan.live ≤ base.now.size + length plan.operations) }
         ensures error { IfErr result (IsReadError C.Store self.old.log self.new.log) }
-        ensures whole { (list : List Operation) → IsDatabase C.Store ⟦<Self as LaidOut>⟧.layout self.old list → NoneBelow self.old.log.tree.start list → self.old.log.tree.start ≤ base.now.floor
+        ensures whole { (list : List Operation) → ⟦<Self as LaidOut>⟧.stands self.old list → NoneBelow self.old.log.tree.start list → self.old.log.tree.start ≤ base.now.floor
             → IfErr result (λ e. (n : ℕ) → e ≢ Error.Journal (JournalError.ItemPruned n)) }
         ensures left { IsLeft C.Store ⟦<Self as LaidOut>⟧.layout.hashing self.old self.new }
     {
