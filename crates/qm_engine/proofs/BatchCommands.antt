@@ -26,7 +26,7 @@ use Rattle.qm_lines.specs.declared.reply.Reply.TheVariants as replies
 use Rattle.qm_lines.specs.declared.reply.Refused.{Refused}
 use Rattle.qm_lines.specs.declared.reply.Refused.TheVariants as refused
 use Rattle.qm_store.specs.declared.Store as stores
-use Rattle.qm_engine.specs.declared.words.Words as words
+use Rattle.qm_offer.specs.declared.meaning.Meaning as meaning
 use Rattle.qm_store.specs.declared.refusal.Given.{Given}
 use Rattle.qm_store.specs.declared.refusal.Given.TheVariants.{Database}
 use Rattle.qm_engine.specs.declared.table.Slot.{Slot}
@@ -36,7 +36,7 @@ use Rattle.qm_engine.specs.declared.session.Turn.TheVariants.{Reply}
 use Rattle.qm_engine.specs.Table.{writing_of, merkleized_of}
 use Rattle.qm_engine.specs.Turn.{turn_of_error}
 use Rattle.qm_store.specs.Refusals.{refusal_of}
-use Rattle.qm_engine.specs.Words.{AtBatch, AtTip, Fits, tip_of}
+use Rattle.qm_offer.specs.Words.{AtBatch, AtTip, Fits, tip_of}
 use Rattle.qm_engine.specs.Making.{made_into, IsMaking}
 use Rattle.qm_machine.specs.Sound.{IsSoundSlot, IsSteady}
 use Rattle.qm_engine.specs.Stores.{HasLog, IsLeft}
@@ -50,7 +50,7 @@ use Rattle.qm_engine.proofs.Commands.{some_is, some-map, choice, none_some, refu
 pub base-begins : (list : List Operation) (chain : Chain) → IsOnChain list chain → IsRising chain → Begins list chain.base
 base-begins list chain on rising = known-begins list chain chain.base (inr on) rising (Begins-self chain.base)
 
-module _ {X C B S M K V D : Type 0} (members : stores.Ghosts C) (means : words.Ghosts X C B S M) (key : K → Bytes) (value : V → Bytes) (digest : D → Bytes) where
+module _ {X C B S M K V D : Type 0} (members : stores.Ghosts C) (means : meaning.Ghosts X C B S M) (key : K → Bytes) (value : V → Bytes) (digest : D → Bytes) where
   abbrev root : List Operation → Bytes
   root = means.scheme.root
 

@@ -12,6 +12,7 @@ use Rattle.qm_machine.specs.Lines.{Answer}
 use Rattle.qm_machine.specs.Lines as lines
 use Rattle.qm_model.specs.Refused as refusals
 use Rattle.qm_machine.specs.Machine.{State, initial, slot_at, with_slot, with_database, unless}
+use Rattle.qm_model.specs.Schemes.{Scheme}
 use Rattle.qm_machine.specs.Machine as machine
 use Rattle.qm_model.proofs.Chains.{Contains-more, IsAmong-more}
 use Rattle.qm_base.specs.declared.error.JournalError.TheVariants as journal
@@ -35,7 +36,7 @@ use Rattle.qm_engine.specs.Table.{writing_of, staged_of, merkleized_of}
 use Rattle.qm_engine.specs.Turn.{turn_of_error}
 use Rattle.qm_store.specs.Refusals.{refusal_of, IsDue}
 use Rattle.qm_store.specs.declared.Store as stores
-use Rattle.qm_engine.specs.declared.words.Words as words
+use Rattle.qm_offer.specs.declared.meaning.Meaning as meaning
 use Rattle.qm_store.specs.Given.{IsUnchanged, TellsFrom}
 use Rattle.qm_engine.specs.Stores.{IsStored, HasLog, IsLeft, MayBe, grown}
 use Rattle.qm_engine.specs.Session.{HeldIs, SlotIs, Holds, IfReply, Answers}
@@ -63,23 +64,23 @@ some-map None next p = tt
 some-map (Some x) next p = next x p
 
 -- a store that has what another has
-pub stored-same : {C : Type 0} (members : stores.Ghosts C) (m : machine.Scheme) (old new : C) (log : Log) → IsUnchanged members old new → IsStored members m old log → IsStored members m new log
+pub stored-same : {C : Type 0} (members : stores.Ghosts C) (m : Scheme) (old new : C) (log : Log) → IsUnchanged members old new → IsStored members m old log → IsStored members m new log
 stored-same members m old new log same is = record { start = same.start ∙ is.start; told = record { stored = is.told.stored; is = same.told ∙ is.told.is; has = is.told.has } }
 
 -- nothing of what a command puts behind a list
-pub left_none : (m : machine.Scheme) (before after : Log) (left : Option Stored) → HasLog m left before → IsLeft m left before after
+pub left_none : (m : Scheme) (before after : Log) (left : Option Stored) → HasLog m left before → IsLeft m left before after
 left_none m before after left has = record {
   log = before;
   has = has;
   may = subst (λ list. MayBe before after (record before { list = list })) (append-nil before.list) (grown 0 before.stable (omega arith));
 }
 
-pub left_none-log : (m : machine.Scheme) (before after : Log) (left : Option Stored) (has : HasLog m left before) → (left_none m before after left has).log ≡ before
+pub left_none-log : (m : Scheme) (before after : Log) (left : Option Stored) (has : HasLog m left before) → (left_none m before after left has).log ≡ before
 unfolding left_none
 left_none-log m before after left has = refl
 
 -- all of it, of which more is stable
-pub left_stable : (m : machine.Scheme) (left : Option Stored) (before after : Log) (k : ℕ) → before.stable ≤ k → HasLog m left (record before { stable = k }) → IsLeft m left before after
+pub left_stable : (m : Scheme) (left : Option Stored) (before after : Log) (k : ℕ) → before.stable ≤ k → HasLog m left (record before { stable = k }) → IsLeft m left before after
 left_stable m left before after k more has = record {
   log = record before { stable = k };
   has = has;
@@ -121,7 +122,7 @@ by_refusal error Q each = by_error error Q (λ e. each refused.StaleBatch (ap re
 pub no_refusal : {K V D : Type 0} (error : Error) (Q : reply.Reply K V D → Type 0) → refusal_of error ≡ None → IfReply (turn_of_error error) Q
 no_refusal error Q none = by_refusal error Q (λ r told. absurd (none_some none told))
 
-module _ {X C B S M : Type 0} (members : stores.Ghosts C) (means : words.Ghosts X C B S M) where
+module _ {X C B S M : Type 0} (members : stores.Ghosts C) (means : meaning.Ghosts X C B S M) where
   pub HeldIs-more : (had : List (List Operation)) (new : List Operation) (held : Given X C) (d : Option (List Operation)) → HeldIs members means had held d → HeldIs members means (new ∷ had) held d
   HeldIs-more had new (Database x) (Some list) h = (h.0, Contains-more had new list h.1)
   HeldIs-more had new (Database x) None h = absurd h
@@ -270,7 +271,7 @@ module _ {X C B S M : Type 0} (members : stores.Ghosts C) (means : words.Ghosts 
   merkleized_slot (Merkleized b) batch e = ap Merkleized (cc)
   merkleized_slot a batch e = absurd (cc)
 
-module _ {X C B S M K V D : Type 0} (members : stores.Ghosts C) (means : words.Ghosts X C B S M) (key : K → Bytes) (value : V → Bytes) (digest : D → Bytes) where
+module _ {X C B S M K V D : Type 0} (members : stores.Ghosts C) (means : meaning.Ghosts X C B S M) (key : K → Bytes) (value : V → Bytes) (digest : D → Bytes) where
   abbrev root : List Operation → Bytes
   root = means.scheme.root
 

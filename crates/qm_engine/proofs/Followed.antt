@@ -23,8 +23,9 @@ use Rattle.qm_model.proofs.Chains.{take-least, Begins-self, Begins-length, Begin
 use Rattle.qm_model.proofs.Openings.{unordered-takes, ordered-takes}
 use Rattle.qm_machine.specs.Lines.{Line, Open, Batch, Child, Tip, Put, Del, Merkleize, Stage, Expand, Resolve, Apply, Ops, Get, Many, Next, Prev, Span, Range, Keys, Info, BatchInfo, Root, BatchRoot, BatchProof, Meta, Prove, Pins, Current, Prune, Commit, Sync, Close, Destroy, Crash, Answer}
 use Rattle.qm_machine.specs.Lines as lines
-use Rattle.qm_machine.specs.Machine.{Scheme, State, Slot, gone, writing, staged, merkleized, turn, slot_at, start_child, put_in, list_operations, with_database, closed, commit, opened_as, kind_of, engine_of, layout_of, found_in, unless, merkleize_tip, merkleize_writes, merkleize_in, resolve_in, apply_in, if_readable, if_staged, stage_in, expand_in, read_in, read, if_ordered, beside_in, beside_of, info_in, root_in, proof_in, pruned, prune_in}
-use Rattle.qm_machine.specs.Held.{pins_lacked, proof_lacked}
+use Rattle.qm_machine.specs.Machine.{State, Slot, gone, writing, staged, merkleized, turn, slot_at, start_child, put_in, list_operations, with_database, closed, commit, opened_as, found_in, unless, merkleize_tip, merkleize_writes, merkleize_in, resolve_in, apply_in, if_readable, if_staged, stage_in, expand_in, read_in, read, if_ordered, beside_in, beside_of, info_in, root_in, proof_in, pruned, prune_in}
+use Rattle.qm_model.specs.Schemes.{Scheme, kind_of, engine_of, layout_of}
+use Rattle.qm_model.specs.Held.{pins_lacked, proof_lacked}
 use Rattle.qm_machine.specs.Sound.{IsSoundSlot, IsSound}
 use Rattle.qm_engine.specs.Stores.{MayBe, grown, cut, moved, emptied, least}
 use Rattle.qm_machine.proofs.Sounds.{left-kept, settled-kept, pruned-kept, restarted-kept, empty-kept, grown-kept}

@@ -7,7 +7,7 @@ use Rattle.qm_machine.specs.Machine.{State}
 use Rattle.qm_store.specs.declared.Store as stores
 use Rattle.qm_store.specs.declared.refusal.Given.{Given}
 use Rattle.qm_store.specs.Given.{store_given, IsUnchanged}
-use Rattle.qm_engine.specs.declared.words.Words as words
+use Rattle.qm_offer.specs.declared.meaning.Meaning as meaning
 use Rattle.qm_engine.specs.declared.session.Session.{Session}
 use Rattle.qm_engine.specs.declared.table.Slot.{Slot}
 use Rattle.qm_engine.specs.declared.session.Turn.{Turn}
@@ -17,7 +17,7 @@ use Rattle.qm_engine.specs.Session.{Obeys, ObeysSteady, ObeysHeld, LeavesHeld, I
 use Rattle.qm_engine.proofs.Commands.{left_none, stored-same}
 
 -- it keeps what the machine does
-pub obeys_steady : {X C B S M K V D : Type 0} (members : stores.Ghosts C) (means : words.Ghosts X C B S M) (key : K → Bytes) (value : V → Bytes) (digest : D → Bytes) (old new : Session X C B S M) (turn : Turn K V D) (next : State → Answer × State)
+pub obeys_steady : {X C B S M K V D : Type 0} (members : stores.Ghosts C) (means : meaning.Ghosts X C B S M) (key : K → Bytes) (value : V → Bytes) (digest : D → Bytes) (old new : Session X C B S M) (turn : Turn K V D) (next : State → Answer × State)
     → Obeys members means key value digest old new turn next → ObeysSteady members means key value digest old new turn next
 obeys_steady members means key value digest old new turn next obeys = λ s k sound more rest told choices. obeys s k
 
@@ -51,7 +51,7 @@ handles_line members line old new turn chosen handles = record {
 pub uses_line : {C K V D P : Type 0} (members : stores.Ghosts C) (line : Line P) (old new : C) (turn : Turn K V D) → IsChosen line [] → Uses members old new turn → HandlesLine members line old new turn
 uses_line members line old new turn chosen uses = handles_line members line old new turn chosen (uses_handles members old new turn uses)
 
-module _ {X C B S M K V D P : Type 0} {members : stores.Ghosts C} {means : words.Ghosts X C B S M} {key : K → Bytes} {value : V → Bytes} {digest : D → Bytes} {line : Line P} {next : State → Answer × State} where
+module _ {X C B S M K V D P : Type 0} {members : stores.Ghosts C} {means : meaning.Ghosts X C B S M} {key : K → Bytes} {value : V → Bytes} {digest : D → Bytes} {line : Line P} {next : State → Answer × State} where
   -- A command that reads: its store has what it had.
   pub performs-reading : {old new : Session X C B S M} {turn : Turn K V D} → IsChosen line []
       → ObeysSteady members means key value digest old new turn next

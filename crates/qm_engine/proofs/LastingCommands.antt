@@ -13,6 +13,7 @@ use Rattle.qm_model.specs.StoreModel as model
 use Rattle.qm_machine.specs.Lines.{Answer}
 use Rattle.qm_machine.specs.Lines as lines
 use Rattle.qm_machine.specs.Machine.{State, with_database}
+use Rattle.qm_model.specs.Schemes.{Scheme}
 use Rattle.qm_machine.specs.Machine as machine
 use Rattle.qm_machine.specs.Sound.{IsSteady}
 use Rattle.qm_base.specs.declared.error.Error.{Error}
@@ -32,19 +33,20 @@ use Rattle.qm_store.specs.declared.refusal.Given.TheVariants.{Database, Store}
 use Rattle.qm_store.specs.declared.refusal.Refusal.{Refusal}
 use Rattle.qm_store.specs.Given.{store_given}
 use Rattle.qm_store.specs.Refusals.{refusal_of}
-use Rattle.qm_engine.specs.declared.words.Words as words
+use Rattle.qm_offer.specs.declared.meaning.Meaning as meaning
 use Rattle.qm_engine.specs.declared.table.Slot.{Slot}
 use Rattle.qm_engine.specs.declared.session.Turn.{Turn}
 use Rattle.qm_engine.specs.declared.session.Turn.TheVariants.{Reply, StoreFault}
 use Rattle.qm_engine.specs.Turn.{turn_of_error, turn_of_tree, given_after, turn_settled}
-use Rattle.qm_engine.specs.Words.{IsSettling, IsHeadOf, IsPruned, IsUnpruned, IsGivenUp}
-use Rattle.qm_engine.specs.Stores.{HasLog, IsBeside, IsLeft, moved, emptied, head_at, pruned_from, LeavesPruning}
+use Rattle.qm_offer.specs.Words.{IsSettling, IsHeadOf, IsPruned, IsUnpruned, IsGivenUp}
+use Rattle.qm_engine.specs.Stores.{HasLog, IsBeside, IsLeft, moved, emptied}
+use Rattle.qm_model.specs.Taken.{head_at, pruned_from, LeavesPruning}
 use Rattle.qm_engine.specs.Session.{HeldIs, Holds, Handles, HandlesLine}
 use Rattle.qm_engine.proofs.LastingStores.{became, turned-each, turns-same, turns-beside, has-settled, has-emptied, has-pruned, has-restarted, left_imaged, left_restarted, left_destroyed, left_pruned}
 use Rattle.qm_engine.proofs.Commands.{left_none, left_stable, no_refusal, with_held, with_list, Turns}
 
 -- a store alone, without a database
-alone : {X C B S M : Type 0} (members : stores.Ghosts C) (means : words.Ghosts X C B S M) (had : List (List Operation)) (c after : C) (d : Option (List Operation)) → HeldIs members means had (Store c) d → HeldIs members means had (Store after) d
+alone : {X C B S M : Type 0} (members : stores.Ghosts C) (means : meaning.Ghosts X C B S M) (had : List (List Operation)) (c after : C) (d : Option (List Operation)) → HeldIs members means had (Store c) d → HeldIs members means had (Store after) d
 alone members means had c after None is = tt
 alone members means had c after (Some list) is = absurd is
 
@@ -74,7 +76,7 @@ none_refused store.Memory = refl
 none_refused store.Failed = refl
 
 -- a store that was pruned
-left_moved : (m : machine.Scheme) (left : Option Stored) (before : Log) (to : ℕ) → before.stable ≤ length before.list → HasLog m left (machine.pruned to before) → IsLeft m left before (machine.pruned to before)
+left_moved : (m : Scheme) (left : Option Stored) (before : Log) (to : ℕ) → before.stable ≤ length before.list → HasLog m left (machine.pruned to before) → IsLeft m left before (machine.pruned to before)
 left_moved m left before to within has = by (cases_lt before.start to)
   where
     by : (before.start < to) ⊎ (to ≤ before.start) → IsLeft m left before (machine.pruned to before)
@@ -85,7 +87,7 @@ left_moved m left before to within has = by (cases_lt before.start to)
 pub same_handles : {C K V D : Type 0} (members : stores.Ghosts C) (c : C) (answer : reply.Reply K V D) → Handles {K = K} {V = V} {D = D} members c c (Reply answer)
 same_handles members c answer = record { beside = turns-same (members.told c) (members.told c) refl; later = le_refl (members.faults c); fault = λ e. absurd (cc) }
 
-module _ {X C B S M K V D : Type 0} (members : stores.Ghosts C) (means : words.Ghosts X C B S M) (key : K → Bytes) (value : V → Bytes) (digest : D → Bytes) where
+module _ {X C B S M K V D : Type 0} (members : stores.Ghosts C) (means : meaning.Ghosts X C B S M) (key : K → Bytes) (value : V → Bytes) (digest : D → Bytes) where
   abbrev root : List Operation → Bytes
   root = means.scheme.root
 

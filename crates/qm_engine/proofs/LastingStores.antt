@@ -14,9 +14,10 @@ use Rattle.qm_model.specs.Own.{Log, no_log, taken_up}
 use Rattle.qm_model.specs.Own as own
 use Rattle.qm_model.specs.Opening.{opened_list}
 use Rattle.qm_model.specs.StoreModel.{Stored, end_of, appended, settled, rewound, pruned, left_at, restarted, destroyed, IsImage, IsOldOrNew, ReadsAs, RewindLeaves, HasAppended, HasRestarted, DestroyLeaves, Turns, Becomes}
-use Rattle.qm_machine.specs.Machine.{Scheme, engine_of}
+use Rattle.qm_model.specs.Schemes.{Scheme, engine_of}
 use Rattle.qm_machine.specs.Machine as machine
-use Rattle.qm_engine.specs.Stores.{HasLog, IsBeside, least, MayBe, grown, cut, moved, emptied, IsLeft, head_at, taken, LeavesOpening, pruned_from, LeavesPruning}
+use Rattle.qm_engine.specs.Stores.{HasLog, IsBeside, least, MayBe, grown, cut, moved, emptied, IsLeft}
+use Rattle.qm_model.specs.Taken.{head_at, taken, LeavesOpening, pruned_from, LeavesPruning}
 
 -- Options that turn into others.
 

@@ -8,7 +8,8 @@ use Rattle.qm_model.specs.StoreModel.{Stored, end_of, Turns}
 use Rattle.qm_model.specs.Walk.{Rules}
 use Rattle.qm_model.specs.Batches.{Apart, Chain}
 use Rattle.qm_machine.specs.Lines.{Line, Answer}
-use Rattle.qm_machine.specs.Machine.{Scheme, State, engine_of, initial, slot_at, turn, answers, state_after}
+use Rattle.qm_machine.specs.Machine.{State, initial, slot_at, turn, answers, state_after}
+use Rattle.qm_model.specs.Schemes.{Scheme, engine_of}
 use Rattle.qm_machine.proofs.Runs.{state_after-push, answers-push, Apart-before}
 use Rattle.qm_engine.specs.Stores.{HasLog, IsLeft}
 use Rattle.qm_engine.specs.Runs.{IsRun, IsOwnStore, IsOwnLeft, after}
@@ -21,7 +22,7 @@ use Rattle.qm_machine.proofs.Sounds.{IsFormed, turn-sound, sound-steady, initial
 use Rattle.qm_store.specs.declared.Store as stores
 use Rattle.qm_store.specs.declared.refusal.Given.{Given}
 use Rattle.qm_store.specs.declared.refusal.Given.TheVariants.{Database, Store}
-use Rattle.qm_engine.specs.declared.words.Words as words
+use Rattle.qm_offer.specs.declared.meaning.Meaning as meaning
 use Rattle.qm_engine.specs.declared.session.Session.{Session}
 use Rattle.qm_engine.specs.declared.table.Slot.{Slot}
 use Rattle.qm_engine.specs.declared.table.Slot.TheVariants.{Gone, Writing, Staged, Merkleized}
@@ -119,12 +120,12 @@ each None h = tt
 each (Some x) h = h x refl
 
 -- Between two commands of a sound run: what is held stands for the state, which is sound, and these are its choices to come.
-pub record Between {X C B S M P : Type 0} (members : stores.Ghosts C) (means : words.Ghosts X C B S M) (rules : Rules P) (session : Session X C B S M) (rest : List ℕ) (s : State) : Type 0 where
+pub record Between {X C B S M P : Type 0} (members : stores.Ghosts C) (means : meaning.Ghosts X C B S M) (rules : Rules P) (session : Session X C B S M) (rest : List ℕ) (s : State) : Type 0 where
   pub stands : Stands members means session s
   pub sound : IsSound means.scheme rules s
   pub choices : s.choices ≡ rest
 
-module _ {X C B S M : Type 0} (members : stores.Ghosts C) (means : words.Ghosts X C B S M) {P : Type 0} (rules : Rules P) where
+module _ {X C B S M : Type 0} (members : stores.Ghosts C) (means : meaning.Ghosts X C B S M) {P : Type 0} (rules : Rules P) where
   -- a run begins so
   pub begins-between : (session : Session X C B S M) (log : Log) (choices : List ℕ) → Stands members means session (initial log choices) → IsKept (engine_of means.scheme rules) log → Between members means rules session choices (initial log choices)
   begins-between session log choices stands kept = record { stands = stands; sound = initial-sound means.scheme rules log choices kept; choices = refl }

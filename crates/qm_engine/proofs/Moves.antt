@@ -21,7 +21,7 @@ use Rattle.qm_store.specs.declared.Store as stores
 use Rattle.qm_store.specs.declared.refusal.Given.{Given}
 use Rattle.qm_store.specs.declared.refusal.Given.TheVariants.{Database, Store}
 use Rattle.qm_store.specs.Given.{store_given, IsUnchanged, TellsFrom}
-use Rattle.qm_engine.specs.declared.words.Words as words
+use Rattle.qm_offer.specs.declared.meaning.Meaning as meaning
 use Rattle.qm_engine.specs.declared.table.Slot.{Slot}
 use Rattle.qm_engine.specs.declared.table.Slot.TheVariants.{Gone, Writing, Staged, Merkleized}
 use Rattle.qm_engine.specs.declared.session.Session.{Session}
@@ -31,14 +31,14 @@ use Rattle.qm_engine.specs.Session.{HeldIs, SlotIs, Holds, Stands, FollowsHeld, 
 use Rattle.qm_engine.specs.Stores.{IsBeside}
 use Rattle.qm_engine.specs.Table.{writing_of, staged_of, merkleized_of}
 use Rattle.qm_engine.specs.Turn.{turn_of_error}
-use Rattle.qm_engine.specs.Words.{AtTip, CanRead, IsReadFailure, ReadsOnly}
+use Rattle.qm_offer.specs.Words.{AtTip, CanRead, IsReadFailure, ReadsOnly}
 use Rattle.qm_engine.proofs.Commands.{with_list}
 use Rattle.qm_engine.proofs.LastingCommands.{fault-told}
 use Rattle.qm_engine.proofs.OrderedCommands.{beside_ok, beside_err}
 use Rattle.qm_engine.proofs.ReadStores.{Told, none_open, stayed, refusal-never, read-keeps, read-uses}
 
 -- what the machine does with a slot that names no batch to be written, or no staged one
-module _ {X C B S M : Type 0} (members : stores.Ghosts C) (means : words.Ghosts X C B S M) {A : Type 0} (does : machine.Slot → A) {refusal : A} (gone : does machine.gone ≡ refusal) (merkleized : (chain : Chain) (tip : List Operation) → does (machine.merkleized chain tip) ≡ refusal) where
+module _ {X C B S M : Type 0} (members : stores.Ghosts C) (means : meaning.Ghosts X C B S M) {A : Type 0} (does : machine.Slot → A) {refusal : A} (gone : does machine.gone ≡ refusal) (merkleized : (chain : Chain) (tip : List Operation) → does (machine.merkleized chain tip) ≡ refusal) where
   pub not_writing : ((chain above : Chain) (ws : List Write) (keys : List Bytes) → does (machine.staged chain above ws keys) ≡ refusal)
       → (had : List (List Operation)) (a : Slot B S M) (b : machine.Slot) → SlotIs members means had a b → None ≡ writing_of a → does b ≡ refusal
   not_writing staged had (Writing w) b is none = absurd (cc)
@@ -56,7 +56,7 @@ module _ {X C B S M : Type 0} (members : stores.Ghosts C) (means : words.Ghosts 
   not_staged writing had a b is none = absurd is
 
 -- the same of one that names no merkleized batch
-pub not_made : {X C B S M : Type 0} (members : stores.Ghosts C) (means : words.Ghosts X C B S M) {A : Type 0} (does : machine.Slot → A) {refusal : A} → does machine.gone ≡ refusal
+pub not_made : {X C B S M : Type 0} (members : stores.Ghosts C) (means : meaning.Ghosts X C B S M) {A : Type 0} (does : machine.Slot → A) {refusal : A} → does machine.gone ≡ refusal
     → ((chain above : Chain) (ws : List Write) → does (machine.writing chain above ws) ≡ refusal) → ((chain above : Chain) (ws : List Write) (keys : List Bytes) → does (machine.staged chain above ws keys) ≡ refusal)
     → (had : List (List Operation)) (a : Slot B S M) (b : machine.Slot) → SlotIs members means had a b → None ≡ merkleized_of a → does b ≡ refusal
 not_made members means does gone writing staged had (Merkleized w) b is none = absurd (cc)
@@ -73,7 +73,7 @@ module _ {X C B S M : Type 0} {new : Session X C B S M} {held : Given X C} {open
   pub rest-opened : new.opened ≡ opened
   rest-opened = ap (λ (x : Session X C B S M). x.opened) rest
 
-module _ {X C B S M K V D : Type 0} (members : stores.Ghosts C) (means : words.Ghosts X C B S M) (key : K → Bytes) (value : V → Bytes) (digest : D → Bytes) (old : Session X C B S M) where
+module _ {X C B S M K V D : Type 0} (members : stores.Ghosts C) (means : meaning.Ghosts X C B S M) (key : K → Bytes) (value : V → Bytes) (digest : D → Bytes) (old : Session X C B S M) where
   abbrev pub Goes : List (Slot B S M) → Given X C → Turn K V D → Answer × State → Type 0
   Goes table new turn next = FollowsHeld members means key value digest table old.opened new turn next
 

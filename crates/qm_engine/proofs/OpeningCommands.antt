@@ -17,7 +17,8 @@ use Rattle.qm_model.specs.StoreModel as model
 use Rattle.qm_model.proofs.Chains.{Contains-first}
 use Rattle.qm_model.proofs.Forms.{decoded-spelling}
 use Rattle.qm_machine.specs.Lines.{Answer}
-use Rattle.qm_machine.specs.Machine.{State, closed, opened_as, found_in, layout_of}
+use Rattle.qm_machine.specs.Machine.{State, closed, opened_as, found_in}
+use Rattle.qm_model.specs.Schemes.{Scheme, layout_of}
 use Rattle.qm_machine.specs.Machine as machine
 use Rattle.qm_machine.specs.Sound.{IsSteady}
 use Rattle.qm_machine.proofs.Accepted.{opens-within, opens-behind, opens-none}
@@ -32,13 +33,14 @@ use Rattle.qm_store.specs.declared.refusal.Given.{Given}
 use Rattle.qm_store.specs.declared.refusal.Given.TheVariants.{Database, Store}
 use Rattle.qm_store.specs.Given.{store_given, IsUnchanged}
 use Rattle.qm_store.specs.Refusals.{refusal_of, IsDue}
-use Rattle.qm_engine.specs.declared.words.Words as words
+use Rattle.qm_offer.specs.declared.meaning.Meaning as meaning
 use Rattle.qm_engine.specs.declared.table.Slot.{Slot}
 use Rattle.qm_engine.specs.declared.table.Slot.TheVariants.{Gone}
 use Rattle.qm_engine.specs.declared.session.Turn.{Turn}
 use Rattle.qm_engine.specs.declared.session.Turn.TheVariants.{Reply}
 use Rattle.qm_engine.specs.Turn.{turn_of_error}
-use Rattle.qm_engine.specs.Stores.{HasLog, IsTaken, IsLeft, head_at, selected_size, taken, LeavesOpening}
+use Rattle.qm_engine.specs.Stores.{HasLog, IsLeft}
+use Rattle.qm_model.specs.Taken.{IsTaken, head_at, selected_size, taken, LeavesOpening}
 use Rattle.qm_engine.specs.Session.{Holds, Handles}
 use Rattle.qm_engine.proofs.LastingStores.{turned, turns-beside, items-cut, head-cut, stored-taken, left_taken, left_opening}
 use Rattle.qm_engine.proofs.LastingCommands.{fault-told}
@@ -49,7 +51,7 @@ read_all : (form : Form) (ops : List Operation) → Each (IsOf form) ops → map
 read_all form [] each = refl
 read_all form (op ∷ ops) (is, each) = ap (λ o. o ∷ map (decoded form) (map (spelling form) ops)) (decoded-spelling form op is) ∙ ap (λ os. Some op ∷ os) (read_all form ops each)
 
-module _ {X C B S M K V D : Type 0} (members : stores.Ghosts C) (means : words.Ghosts X C B S M) (key : K → Bytes) (value : V → Bytes) (digest : D → Bytes)
+module _ {X C B S M K V D : Type 0} (members : stores.Ghosts C) (means : meaning.Ghosts X C B S M) (key : K → Bytes) (value : V → Bytes) (digest : D → Bytes)
     (held : Given X C) (table : List (Slot B S M)) (opened : ℕ) (s : State) (bound : Option ℕ) (k : Holds members means held table opened s) (steady : IsSteady means.scheme s) (peakless : peaks means.scheme.shape 0 ≡ []) where
   abbrev Goes : Turn K V D → Given X C → List (Slot B S M) → ℕ → Answer × State → Type 0
   Goes = Turns members means key value digest
@@ -234,15 +236,15 @@ module _ {X C B S M K V D : Type 0} (members : stores.Ghosts C) (means : words.G
               subst (λ p. model.Turns p q (LeavesOpening means.scheme size)) (sym is) (subst (λ p. model.Turns (Some stored) p (LeavesOpening means.scheme size)) (sym t.1) (subst (λ n. LeavesOpening means.scheme n stored t.0) size_is t.2))
 
 -- what stands beside the items stays
-taken-beside : (m : machine.Scheme) (n : ℕ) (s t : Stored) → t ≡ taken m n s → (t.metadata ≡ s.metadata) × (t.ends ≡ s.ends)
+taken-beside : (m : Scheme) (n : ℕ) (s t : Stored) → t ≡ taken m n s → (t.metadata ≡ s.metadata) × (t.ends ≡ s.ends)
 taken-beside m zero s t is = (ap (λ x. x.metadata) is, ap (λ x. x.ends) is)
 taken-beside m (suc n) s t is = (ap (λ x. x.metadata) is, ap (λ x. x.ends) is)
 
-opening-beside : (m : machine.Scheme) (n : ℕ) (s t : Stored) → LeavesOpening m n s t → (t.metadata ≡ s.metadata) × (t.ends ≡ s.ends)
+opening-beside : (m : Scheme) (n : ℕ) (s t : Stored) → LeavesOpening m n s t → (t.metadata ≡ s.metadata) × (t.ends ≡ s.ends)
 opening-beside m zero s t r = (ap (λ x. x.metadata) r.reads, ap (λ x. x.ends) r.reads)
 opening-beside m (suc n) s t r = let i = r.left in (ap (λ x. x.metadata) r.reads ∙ ap (λ x. x.metadata) i.same, ap (λ x. x.ends) r.reads ∙ ap (λ x. x.ends) i.same)
 
-pub opened_handles : {C K V D : Type 0} (members : stores.Ghosts C) (m : machine.Scheme) (bound : Option ℕ) (old new : C) (answer : reply.Reply K V D)
+pub opened_handles : {C K V D : Type 0} (members : stores.Ghosts C) (m : Scheme) (bound : Option ℕ) (old new : C) (answer : reply.Reply K V D)
     → model.Turns (members.told old) (members.told new) (λ t next. next ≡ taken m (selected_size m bound t) t) → members.faults old ≤ members.faults new → Handles {K = K} {V = V} {D = D} members old new (Reply answer)
 opened_handles members m bound old new answer made later = record {
   beside = (turns-beside (members.told old) (members.told new) _ (λ s t. taken-beside m (selected_size m bound s) s t) made);
@@ -250,7 +252,7 @@ opened_handles members m bound old new answer made later = record {
   fault = λ e. absurd (cc);
 }
 
-pub unopened_handles : {C K V D : Type 0} (members : stores.Ghosts C) (m : machine.Scheme) (bound : Option ℕ) (old new : C) (error : Error)
+pub unopened_handles : {C K V D : Type 0} (members : stores.Ghosts C) (m : Scheme) (bound : Option ℕ) (old new : C) (error : Error)
     → model.Turns (members.told old) (members.told new) (λ t next. LeavesOpening m (selected_size m bound t) t next) → members.faults old ≤ members.faults new → (error ≡ errors.Journal journal.Store → Rose (members.faults old) (members.faults new))
     → Handles {K = K} {V = V} {D = D} members old new (turn_of_error error)
 unopened_handles members m bound old new error made later rose = record {

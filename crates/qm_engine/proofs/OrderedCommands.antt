@@ -12,7 +12,7 @@ use Rattle.qm_machine.specs.Machine as machine
 use Rattle.qm_base.specs.declared.error.Error.{Error}
 use Rattle.qm_lines.specs.declared.reply.Reply.TheVariants.{Beside}
 use Rattle.qm_store.specs.declared.Store as stores
-use Rattle.qm_engine.specs.declared.words.Words as words
+use Rattle.qm_offer.specs.declared.meaning.Meaning as meaning
 use Rattle.qm_store.specs.declared.refusal.Given.TheVariants.{Database}
 use Rattle.qm_engine.specs.declared.table.Slot.{Slot}
 use Rattle.qm_engine.specs.declared.table.Slot.TheVariants.{Gone, Merkleized}
@@ -20,13 +20,13 @@ use Rattle.qm_engine.specs.declared.session.Turn.{Turn}
 use Rattle.qm_engine.specs.declared.session.Turn.TheVariants.{Reply}
 use Rattle.qm_engine.specs.Table.{merkleized_of}
 use Rattle.qm_engine.specs.Turn.{turn_of_error}
-use Rattle.qm_engine.specs.Words.{AtTip, CanRead, IsReadFailure, ReadsOnly}
+use Rattle.qm_offer.specs.Words.{AtTip, CanRead, IsReadFailure, ReadsOnly}
 use Rattle.qm_engine.specs.Session.{SlotIs, Holds, Answers}
 use Rattle.qm_store.specs.Given.{TellsFrom}
 use Rattle.qm_engine.proofs.Commands.{with_told, Keeps, Holds-kept, Turns, answered, merkleized_slot}
 use Rattle.qm_engine.proofs.ReadCommands.{readable_ok, readable_err, readable_state}
 
-module _ {X C B S M K V D : Type 0} (members : stores.Ghosts C) (means : words.Ghosts X C B S M) (key : K → Bytes) (value : V → Bytes) (digest : D → Bytes)
+module _ {X C B S M K V D : Type 0} (members : stores.Ghosts C) (means : meaning.Ghosts X C B S M) (key : K → Bytes) (value : V → Bytes) (digest : D → Bytes)
     (x after : X) (table : List (Slot B S M)) (opened h : ℕ) (s : State) (beside : List Bytes → Option Bytes) (batch : M) where
   -- the turn does what the machine does for the key beside one
   abbrev pub Finds : Turn K V D → Type 0

@@ -8,7 +8,7 @@ use Rattle.qm_model.specs.Walk.{Rules}
 use Rattle.qm_model.specs.Own.{Log, IsKept}
 use Rattle.qm_model.specs.StoreModel.{Stored, end_of}
 use Rattle.qm_model.proofs.Chains.{Begins-length}
-use Rattle.qm_machine.specs.Machine.{Scheme, engine_of}
+use Rattle.qm_model.specs.Schemes.{Scheme, engine_of}
 use Rattle.qm_machine.proofs.Sounds.{kept-low}
 use Rattle.qm_engine.specs.Stores.{HasLog, least, MayBe, grown, cut, moved, emptied, IsLeft}
 use Rattle.qm_engine.specs.Runs.{IsOwnStore, IsOwnLeft}

@@ -6,7 +6,7 @@ use Rattle.qm_model.specs.Batches.{Chain, Apart, IsAmong, IsKnown, commitment, r
 use Rattle.qm_model.specs.Proofs.{Proof}
 use Rattle.qm_model.specs.Refusals.{proof_refusal, proof_count}
 use Rattle.qm_model.specs.Refused as refusals
-use Rattle.qm_machine.specs.Held.{pins_lacked, proof_lacked}
+use Rattle.qm_model.specs.Held.{pins_lacked, proof_lacked}
 use Rattle.qm_machine.specs.Lines.{Answer}
 use Rattle.qm_machine.specs.Lines as lines
 use Rattle.qm_machine.specs.Machine.{State, slot_at, refuse, unless, proof_in}
@@ -17,7 +17,7 @@ use Rattle.qm_lines.specs.Views.{answer_view, refused_view}
 use Rattle.qm_lines.specs.declared.reply.Reply as reply
 use Rattle.qm_lines.specs.declared.reply.Refused.{Refused}
 use Rattle.qm_store.specs.declared.Store as stores
-use Rattle.qm_engine.specs.declared.words.Words as words
+use Rattle.qm_offer.specs.declared.meaning.Meaning as meaning
 use Rattle.qm_store.specs.declared.refusal.Given.{Given}
 use Rattle.qm_store.specs.declared.refusal.Given.TheVariants.{Database}
 use Rattle.qm_engine.specs.declared.table.Slot.{Slot}
@@ -28,13 +28,13 @@ use Rattle.qm_engine.specs.Table.{merkleized_of}
 use Rattle.qm_engine.specs.Turn.{turn_of_error}
 use Rattle.qm_store.specs.Refusals.{refusal_of, IsDue}
 use Rattle.qm_store.specs.Given.{IsUnchanged}
-use Rattle.qm_engine.specs.Words.{AtTip, CanRead, IsProofFailure}
+use Rattle.qm_offer.specs.Words.{AtTip, CanRead, IsProofFailure}
 use Rattle.qm_engine.specs.Session.{SlotIs, Holds, Answers}
 use Rattle.qm_engine.proofs.Commands.{choice, none_some, due_told, refuses, by_refusal, with_list, Holds-kept, Turns, unless_err, answered, merkleized_slot}
 use Rattle.qm_engine.proofs.ReadCommands.{is_stale_read}
 use Rattle.qm_model.proofs.Chains.{known-readable}
 
-module _ {X C B S M K V D : Type 0} (members : stores.Ghosts C) (means : words.Ghosts X C B S M) (key : K → Bytes) (value : V → Bytes) (digest : D → Bytes) where
+module _ {X C B S M K V D : Type 0} (members : stores.Ghosts C) (means : meaning.Ghosts X C B S M) (key : K → Bytes) (value : V → Bytes) (digest : D → Bytes) where
   abbrev root : List Operation → Bytes
   root = means.scheme.root
 

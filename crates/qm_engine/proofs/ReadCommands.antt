@@ -16,7 +16,7 @@ use Rattle.qm_base.specs.declared.error.Error.TheVariants as errors
 use Rattle.qm_lines.specs.Views.{refused_view}
 use Rattle.qm_lines.specs.declared.reply.Refused.{Refused}
 use Rattle.qm_store.specs.declared.Store as stores
-use Rattle.qm_engine.specs.declared.words.Words as words
+use Rattle.qm_offer.specs.declared.meaning.Meaning as meaning
 use Rattle.qm_store.specs.declared.refusal.Given.{Given}
 use Rattle.qm_store.specs.declared.refusal.Given.TheVariants.{Database}
 use Rattle.qm_engine.specs.declared.table.Slot.{Slot}
@@ -26,7 +26,7 @@ use Rattle.qm_engine.specs.Table.{merkleized_of}
 use Rattle.qm_engine.specs.Turn.{turn_of_error}
 use Rattle.qm_store.specs.Refusals.{refusal_of}
 use Rattle.qm_store.specs.Given.{IsUnchanged, TellsFrom}
-use Rattle.qm_engine.specs.Words.{CanRead, IsReadFailure}
+use Rattle.qm_offer.specs.Words.{CanRead, IsReadFailure}
 use Rattle.qm_engine.specs.Session.{SlotIs, Holds, Answers}
 use Rattle.qm_engine.proofs.Commands.{choice, none_some, refuses, by_refusal, with_list, with_told, Holds-kept, Turns, answered}
 
@@ -47,7 +47,7 @@ pub map-through : {A B E : Type 0} (f : A → B) (g : B → E) (xs : List A) →
 map-through f g [] = refl
 map-through f g (x ∷ xs) = ap (λ r. g (f x) ∷ r) (map-through f g xs)
 
-module _ {X C B S M K V D : Type 0} (members : stores.Ghosts C) (means : words.Ghosts X C B S M) (key : K → Bytes) (value : V → Bytes) (digest : D → Bytes) where
+module _ {X C B S M K V D : Type 0} (members : stores.Ghosts C) (means : meaning.Ghosts X C B S M) (key : K → Bytes) (value : V → Bytes) (digest : D → Bytes) where
   abbrev root : List Operation → Bytes
   root = means.scheme.root
 

@@ -22,7 +22,7 @@ use Rattle.qm_store.specs.declared.refusal.Given.{Given}
 use Rattle.qm_store.specs.declared.refusal.Given.TheVariants.{Database, Store}
 use Rattle.qm_store.specs.Given.{store_given, IsUnchanged, TellsFrom}
 use Rattle.qm_store.specs.Refusals.{refusal_of}
-use Rattle.qm_engine.specs.declared.words.Words as words
+use Rattle.qm_offer.specs.declared.meaning.Meaning as meaning
 use Rattle.qm_engine.specs.declared.table.Slot.{Slot}
 use Rattle.qm_engine.specs.declared.table.Slot.TheVariants.{Gone, Writing, Staged, Merkleized}
 use Rattle.qm_engine.specs.declared.session.Session.{Session}
@@ -31,11 +31,11 @@ use Rattle.qm_engine.specs.declared.session.Turn.TheVariants.{Reply, Memory, Sto
 use Rattle.qm_engine.specs.Session.{HeldIs, SlotIs, Holds, Stands, IfReply, Answers, FollowsHeld, Uses}
 use Rattle.qm_engine.specs.Table.{merkleized_of}
 use Rattle.qm_engine.specs.Turn.{turn_of_error}
-use Rattle.qm_engine.specs.Words.{ReadsOnly}
+use Rattle.qm_offer.specs.Words.{ReadsOnly}
 use Rattle.qm_engine.proofs.Commands.{no_refusal, none_some, by_refusal, with_list, with_told, Holds-kept, answered}
 use Rattle.qm_engine.proofs.LastingCommands.{fault-told}
 
-module _ {X C B S M : Type 0} (members : stores.Ghosts C) (means : words.Ghosts X C B S M) {held : Given X C} {x after : X} {failed : Type 0} (is : held ≡ Database x) (reads : ReadsOnly means members x after failed) where
+module _ {X C B S M : Type 0} (members : stores.Ghosts C) (means : meaning.Ghosts X C B S M) {held : Given X C} {x after : X} {failed : Type 0} (is : held ≡ Database x) (reads : ReadsOnly means members x after failed) where
   -- it has what it had
   pub read-keeps : IsUnchanged members (store_given means.inside held) (means.inside after)
   read-keeps = subst (λ (h : Given X C). IsUnchanged members (store_given means.inside h) (means.inside after)) (sym is) reads.store
@@ -47,7 +47,7 @@ module _ {X C B S M : Type 0} (members : stores.Ghosts C) (means : words.Ghosts 
       (record { start = reads.store.start; beside = ap beside_items reads.store.told; later = reads.faults.later; fault = λ e. reads.faults.failed (why e) })
 
 -- What a command that only reads tells at each of its ways out: what is held, the batches and the count of openings.
-module _ {X C B S M K V D : Type 0} (members : stores.Ghosts C) (means : words.Ghosts X C B S M) (key : K → Bytes) (value : V → Bytes) (digest : D → Bytes) (old : Session X C B S M) where
+module _ {X C B S M K V D : Type 0} (members : stores.Ghosts C) (means : meaning.Ghosts X C B S M) (key : K → Bytes) (value : V → Bytes) (digest : D → Bytes) (old : Session X C B S M) where
   -- the turn does what the machine does
   abbrev pub Does : Given X C → Turn K V D → Answer × State → Type 0
   Does new turn next = FollowsHeld members means key value digest old.table.items old.opened new turn next
@@ -175,7 +175,7 @@ module _ {X C B S M K V D : Type 0} (members : stores.Ghosts C) (means : words.G
     read_err {turn} error why e none = read_left (λ s. with_database s s.database (λ list. (answer list, s))) turn (λ fault. why (fault-told error (sym e ∙ fault))) (answers turn (no_refusal-here error e none))
 
 -- What a call of a database comes to as a turn, where it answers so.
-module _ {X C B S M K V D T : Type 0} (members : stores.Ghosts C) (means : words.Ghosts X C B S M) (key : K → Bytes) (value : V → Bytes) (digest : D → Bytes) {old new : X} {read : Result T Error} (reads : ReadsOnly means members old new (IsErrOf read (errors.Journal journal.Store))) (answer : List Operation → Answer) where
+module _ {X C B S M K V D T : Type 0} (members : stores.Ghosts C) (means : meaning.Ghosts X C B S M) (key : K → Bytes) (value : V → Bytes) (digest : D → Bytes) {old new : X} {read : Result T Error} (reads : ReadsOnly means members old new (IsErrOf read (errors.Journal journal.Store))) (answer : List Operation → Answer) where
   abbrev pub Replies : Turn K V D → Type 0
   Replies turn = record {
     reply : IfReply turn (λ r. means.scheme.form.ordered ≡ true → (list : List Operation) → means.stands old list → TellsFrom members (means.inside old) list → answer_view key value digest r ≡ answer list);

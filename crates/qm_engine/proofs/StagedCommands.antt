@@ -24,7 +24,7 @@ use Rattle.qm_lines.specs.declared.reply.Reply.TheVariants as replies
 use Rattle.qm_lines.specs.declared.reply.Refused.{Refused}
 use Rattle.qm_lines.specs.declared.reply.Refused.TheVariants as refused
 use Rattle.qm_store.specs.declared.Store as stores
-use Rattle.qm_engine.specs.declared.words.Words as words
+use Rattle.qm_offer.specs.declared.meaning.Meaning as meaning
 use Rattle.qm_store.specs.declared.refusal.Given.{Given}
 use Rattle.qm_store.specs.declared.refusal.Given.TheVariants.{Database}
 use Rattle.qm_engine.specs.declared.table.Slot.{Slot}
@@ -35,7 +35,7 @@ use Rattle.qm_engine.specs.Table.{writing_of, staged_of}
 use Rattle.qm_engine.specs.Turn.{turn_of_error}
 use Rattle.qm_store.specs.Refusals.{refusal_of}
 use Rattle.qm_store.specs.Given.{TellsFrom}
-use Rattle.qm_engine.specs.Words.{AtBatch, AtStaged, Fits, CanRead, IsReadFailure, tip_of}
+use Rattle.qm_offer.specs.Words.{AtBatch, AtStaged, Fits, CanRead, IsReadFailure, tip_of}
 use Rattle.qm_engine.specs.Making.{made_into, IsMaking}
 use Rattle.qm_engine.specs.Session.{SlotIs, Holds}
 use Rattle.qm_engine.proofs.Tables.{set_set}
@@ -48,7 +48,7 @@ use Rattle.qm_machine.specs.Sound.{IsSoundSlot, IsSteady}
 pub expanded_is : {n k m first end : ℕ} (values : List (Option Bytes)) → first ≡ n → end ≡ n + k → m ≡ k → lines.Expanded first end values ≡ lines.Expanded n (n + m) values
 expanded_is {n} values e f g = ap₂ (λ a b. lines.Expanded a b values) e (f ∙ ap (λ i. n + i) (sym g))
 
-module _ {X C B S M K V D : Type 0} (members : stores.Ghosts C) (means : words.Ghosts X C B S M) (key : K → Bytes) (value : V → Bytes) (digest : D → Bytes) where
+module _ {X C B S M K V D : Type 0} (members : stores.Ghosts C) (means : meaning.Ghosts X C B S M) (key : K → Bytes) (value : V → Bytes) (digest : D → Bytes) where
   abbrev root : List Operation → Bytes
   root = means.scheme.root
 

@@ -6,7 +6,8 @@ use Rattle.qm_model.specs.StoreModel.{Stored}
 use Rattle.qm_model.specs.Walk.{Rules}
 use Rattle.qm_model.specs.Batches.{Apart}
 use Rattle.qm_machine.specs.Lines.{Line}
-use Rattle.qm_machine.specs.Machine.{Scheme, State, initial, turn, answers}
+use Rattle.qm_machine.specs.Machine.{State, initial, turn, answers}
+use Rattle.qm_model.specs.Schemes.{Scheme}
 use Rattle.qm_machine.specs.Text.{text_of}
 use Rattle.qm_engine.specs.Runs.{after, IsOwnStore, IsOwnLeft}
 

@@ -1,7 +1,6 @@
 pub mod Table
 pub mod Turn
 pub mod Stores
-pub mod Words
 pub mod Ordered
 pub mod Session
 pub mod Making

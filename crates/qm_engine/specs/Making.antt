@@ -5,12 +5,13 @@ use Rattle.qm_model.specs.Batches.{Chain, IsOnChain, commitment, fits}
 use Rattle.qm_model.specs.Refusals.{tip_refusal}
 use Rattle.qm_model.specs.Refused as refusals
 use Rattle.qm_machine.specs.Lines.{Answer}
-use Rattle.qm_machine.specs.Machine.{Scheme, State, gone, with_slot, refuse, merkleize_tip}
+use Rattle.qm_machine.specs.Machine.{State, gone, with_slot, refuse, merkleize_tip}
+use Rattle.qm_model.specs.Schemes.{Scheme}
 use Rattle.qm_base.specs.declared.error.Error.{Error}
 use Rattle.qm_base.specs.declared.error.Error.TheVariants.{StaleBatch}
 use Rattle.qm_store.specs.Refusals.{refusal_of}
-use Rattle.qm_engine.specs.declared.words.Words as words
-use Rattle.qm_engine.specs.Words.{Fits}
+use Rattle.qm_offer.specs.declared.meaning.Meaning as meaning
+use Rattle.qm_offer.specs.Words.{Fits}
 
 -- what the machine does where writes make this tip list of the batch of this number
 abbrev pub made_into : Scheme → State → ℕ → List Operation → Chain → List Operation → Answer × State
@@ -19,7 +20,7 @@ made_into m s h list chain tip =
     then merkleize_tip s h chain tip (tip_refusal m.form chain tip)
     else refuse (with_slot s h gone) refusals.StaleBatch
 
-module _ {X C B S M : Type 0} (means : words.Ghosts X C B S M) where
+module _ {X C B S M : Type 0} (means : meaning.Ghosts X C B S M) where
   -- the result of making this tip list of a batch of this chain, over this list
   pub record IsMaking (list : List Operation) (chain : Chain) (tip : List Operation) (result : Result M Error) : Type 0 where
     pub fits : IfOk result (λ _. Fits means list chain)

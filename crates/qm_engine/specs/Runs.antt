@@ -5,7 +5,8 @@ use Rattle.qm_model.specs.StoreModel.{Stored}
 use Rattle.qm_model.specs.Walk.{Rules}
 use Rattle.qm_model.specs.Batches.{Apart}
 use Rattle.qm_machine.specs.Lines.{Line, Answer}
-use Rattle.qm_machine.specs.Machine.{Scheme, State, initial, answers, state_after, engine_of}
+use Rattle.qm_machine.specs.Machine.{State, initial, answers, state_after}
+use Rattle.qm_model.specs.Schemes.{Scheme, engine_of}
 use Rattle.qm_engine.specs.Stores.{IsLeft}
 
 -- the machine's state after the first k commands, over a store of this log that chooses these ends

@@ -12,7 +12,7 @@ use Rattle.qm_machine.specs.Sound.{IsSteady}
 use Rattle.qm_lines.specs.Views.{answer_view}
 use Rattle.qm_lines.specs.declared.reply.Reply as reply
 use Rattle.qm_store.specs.declared.Store as store
-use Rattle.qm_engine.specs.declared.words.Words as words
+use Rattle.qm_offer.specs.declared.meaning.Meaning as meaning
 use Rattle.qm_store.specs.declared.refusal.Given.{Given}
 use Rattle.qm_store.specs.declared.refusal.Given.TheVariants.{Database, Store}
 use Rattle.qm_engine.specs.declared.table.Slot.{Slot}
@@ -23,7 +23,7 @@ use Rattle.qm_engine.specs.declared.session.Turn.TheVariants.{Reply, Memory, Sto
 use Rattle.qm_store.specs.Given.{store_given}
 use Rattle.qm_engine.specs.Stores.{IsStored, IsBeside, IsLeft}
 
-module _ {X C B S M : Type 0} (members : store.Ghosts C) (means : words.Ghosts X C B S M) where
+module _ {X C B S M : Type 0} (members : store.Ghosts C) (means : meaning.Ghosts X C B S M) where
   -- the database stands for the machine's list, one of those that the run has had; without one there is a store alone
   abbrev pub HeldIs : List (List Operation) → Given X C → Option (List Operation) → Type 0
   HeldIs had (Database x) (Some list) = means.stands x list × Contains had list
@@ -60,7 +60,7 @@ IfReply (Reply r) P = P r
 IfReply Memory P = Unit {0}
 IfReply StoreFault P = Unit {0}
 
-module _ {X C B S M : Type 0} (members : store.Ghosts C) (means : words.Ghosts X C B S M) where
+module _ {X C B S M : Type 0} (members : store.Ghosts C) (means : meaning.Ghosts X C B S M) where
   -- However a command ends before which the run was steady, the store has what may be left of it.
   abbrev pub LeavesSteady : Session X C B S M → Session X C B S M → (State → Answer × State) → Type 0
   LeavesSteady old new next =
@@ -146,14 +146,14 @@ pub record HandlesLine {C K V D P : Type 0} (members : store.Ghosts C) (line : L
 
 -- A command performs its line, as `next` does it in the machine: it does what that does, leaves what may be left of it, handles the
 -- store as the line may, and opens once at most.
-pub record Performs {X C B S M K V D P : Type 0} (members : store.Ghosts C) (means : words.Ghosts X C B S M) (key : K → Bytes) (value : V → Bytes) (digest : D → Bytes) (line : Line P) (next : State → Answer × State) (old new : Session X C B S M) (turn : Turn K V D) : Type 0 where
+pub record Performs {X C B S M K V D P : Type 0} (members : store.Ghosts C) (means : meaning.Ghosts X C B S M) (key : K → Bytes) (value : V → Bytes) (digest : D → Bytes) (line : Line P) (next : State → Answer × State) (old new : Session X C B S M) (turn : Turn K V D) : Type 0 where
   pub machine : ObeysSteady members means key value digest old new turn next
   pub left : LeavesSteady members means old new next
   pub handles : HandlesLine members line (store_given means.inside old.held) (store_given means.inside new.held) turn
   pub opened : new.opened ≤ old.opened + 1
 
 -- The same of a command that takes what is held and no more, with these batches: it may count an opening.
-pub record PerformsHeld {X C B S M K V D P : Type 0} (members : store.Ghosts C) (means : words.Ghosts X C B S M) (key : K → Bytes) (value : V → Bytes) (digest : D → Bytes) (line : Line P) (next : State → Answer × State) (table : List (Slot B S M)) (before : ℕ) (old : Given X C) (after : ℕ) (new : Given X C) (turn : Turn K V D) : Type 0 where
+pub record PerformsHeld {X C B S M K V D P : Type 0} (members : store.Ghosts C) (means : meaning.Ghosts X C B S M) (key : K → Bytes) (value : V → Bytes) (digest : D → Bytes) (line : Line P) (next : State → Answer × State) (table : List (Slot B S M)) (before : ℕ) (old : Given X C) (after : ℕ) (new : Given X C) (turn : Turn K V D) : Type 0 where
   pub machine : ObeysHeldSteady members means key value digest table before old after new turn next
   pub left : LeavesHeldSteady members means table before old new next
   pub handles : HandlesLine members line (store_given means.inside old) (store_given means.inside new) turn

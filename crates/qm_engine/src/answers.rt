@@ -11,15 +11,15 @@ ghost use Rattle.qm_lines.specs.Views.{line_view, answer_view};
 ghost use Rattle.qm_store.specs.Given.{store_given};
 ghost use Rattle.qm_engine.specs.Session.{Stands, LeavesSteady, IsChosen};
 ghost use Rattle.qm_engine.specs.Stores.{IsBeside, IsLeft};
-ghost use Rattle.qm_machine.specs.Machine.{engine_of};
+ghost use Rattle.qm_model.specs.Schemes.{engine_of};
 ghost use Rattle.qm_machine.specs.Sound.{IsSteady};
 ghost use Rattle.qm_model.specs.Own.{Log, IsOwn};
 ghost use Rattle.qm_model.specs.StoreModel.{Turns};
 ghost use Rattle.qm_engine.specs.Answered.{after_line, IsAnswered};
 
-use crate::engine::Engine;
+use qm_offer::Engine;
 use crate::runs::begin;
-use crate::session::{Of, Turn, returned};
+use crate::session::{SessionOf, Turn, returned};
 use crate::turns::turn;
 use qm_base::{ByteKey, ByteString, ByteValue, Digest, Gate, Twin};
 use qm_chain::Policy;
@@ -68,17 +68,17 @@ fn push_line<K: ByteString, V: ByteString, D: Digest>(
 fn answer<X: Engine<C>, C: Store, P: Policy<X::Family, X::Key, X::Value> + Twin>(
     alloc: Global,
     config: &X::Config,
-    session: Of<X, C>,
+    session: SessionOf<X, C>,
     text: &mut Vec<u8>,
     command: &Command<X::Key, X::Value, P>,
-) -> (Of<X, C>, Option<Ending>)
+) -> (SessionOf<X, C>, Option<Ending>)
     requires { session.opened + 1 < 2 ^ 64 }
-    ensures machine { (s : machine.State) → Stands C.Store X.Words session s → IsSteady X.scheme s
+    ensures machine { (s : machine.State) → Stands C.Store X.Meaning session s → IsSteady X.scheme s
         → (more rest : List ℕ) → Turns (C.told (store_given X.inside session.held)) (C.told (store_given X.inside result.0.held)) (IsBeside more) → s.choices ≡ more ++ rest → IfNone result.1
         (let next = machine.turn X.scheme P.rules s (line_view X.Key.bytes X.Value.bytes (λ p. p) command.now) in
         Apart X.scheme.root next.1.had → (text.new.items ≡ text.old.items ++ (reply_line next.0 ++ 10 ∷ []))
-        × Stands C.Store X.Words result.0 next.1) }
-    ensures left { LeavesSteady C.Store X.Words session result.0
+        × Stands C.Store X.Meaning result.0 next.1) }
+    ensures left { LeavesSteady C.Store X.Meaning session result.0
         (λ s. machine.turn X.scheme P.rules s (line_view X.Key.bytes X.Value.bytes (λ p. p) command.now)) }
     ensures kept { OnSome result.1 (text.new.items ≡ text.old.items) }
     ensures cause { IfSome result.1 (λ e. (e ≢ Ending.Done) × (e ≢ Ending.BadLine)) }
@@ -107,17 +107,17 @@ fn answer<X: Engine<C>, C: Store, P: Policy<X::Family, X::Key, X::Value> + Twin>
 fn answer_line<X: Engine<C, Key = ByteKey, Value = ByteValue>, C: Store>(
     alloc: Global,
     config: &X::Config,
-    session: Of<X, C>,
+    session: SessionOf<X, C>,
     text: &mut Vec<u8>,
     line: &[u8],
-) -> (Of<X, C>, Option<Ending>)
+) -> (SessionOf<X, C>, Option<Ending>)
     requires { session.opened + 1 < 2 ^ 64 }
-    ensures machine { (s : machine.State) → Stands C.Store X.Words session s → IsSteady X.scheme s
+    ensures machine { (s : machine.State) → Stands C.Store X.Meaning session s → IsSteady X.scheme s
         → (more rest : List ℕ) → Turns (C.told (store_given X.inside session.held)) (C.told (store_given X.inside result.0.held)) (IsBeside more) → s.choices ≡ more ++ rest → IfNone result.1 (IfSome (line_of line.now) (λ command.
         let next = machine.turn X.scheme policies s command in
         Apart X.scheme.root next.1.had → (text.new.items ≡ text.old.items ++ (reply_line next.0 ++ 10 ∷ []))
-        × Stands C.Store X.Words result.0 next.1)) }
-    ensures left { (s : machine.State) → Stands C.Store X.Words session s → IsSteady X.scheme s → Apart X.scheme.root s.had
+        × Stands C.Store X.Meaning result.0 next.1)) }
+    ensures left { (s : machine.State) → Stands C.Store X.Meaning session s → IsSteady X.scheme s → Apart X.scheme.root s.had
         → IsLeft X.scheme (C.told (store_given X.inside result.0.held)) s.log (after_line X.scheme policies s (line_of line.now)).log }
     ensures kept { OnSome result.1 (text.new.items ≡ text.old.items) }
     ensures command { IfNone result.1 (IsSome (line_of line.now)) }

@@ -8,14 +8,14 @@ ghost use Rattle.qm_lines.specs.Views.{line_view, answer_view};
 ghost use Rattle.qm_store.specs.Given.{store_given};
 ghost use Rattle.qm_engine.specs.Session.{Stands, LeavesSteady, IsChosen};
 ghost use Rattle.qm_engine.specs.Stores.{HasLog, IsBeside};
-ghost use Rattle.qm_machine.specs.Machine.{engine_of};
+ghost use Rattle.qm_model.specs.Schemes.{engine_of};
 ghost use Rattle.qm_machine.specs.Sound.{IsSteady};
 ghost use Rattle.qm_model.specs.Own.{Log, IsOwn};
 ghost use Rattle.qm_model.specs.StoreModel.{Turns};
 ghost use Rattle.qm_engine.specs.Runs.{IsRun};
 
-use crate::engine::{Basis, Engine};
-use crate::session::{Of, Session, Turn, returned};
+use qm_offer::{Common, Engine};
+use crate::session::{SessionOf, Session, Turn, returned};
 use crate::table::{Slot, push_slot};
 use crate::turns::turn;
 use qm_base::{Gate, Twin};
@@ -37,7 +37,7 @@ pub enum End {
 
 /// What a run gives: a reply to each command before the end, why it ended, and the store.
 #[derive(Drop)]
-pub struct Outcome<X: Basis<C>, C: Store> {
+pub struct Outcome<X: Common<C>, C: Store> {
     pub replies: Vec<Reply<X::Key, X::Value, X::Digest>>,
     pub end: End,
     pub store: C,
@@ -58,17 +58,17 @@ fn push_reply<K: Drop, V: Drop, D: Drop>(
 fn step<X: Engine<C>, C: Store, P: Policy<X::Family, X::Key, X::Value> + Twin>(
     alloc: Global,
     config: &X::Config,
-    session: Of<X, C>,
+    session: SessionOf<X, C>,
     replies: &mut Vec<Reply<X::Key, X::Value, X::Digest>>,
     command: &Command<X::Key, X::Value, P>,
-) -> (Of<X, C>, Option<End>)
+) -> (SessionOf<X, C>, Option<End>)
     requires { session.opened + 1 < 2 ^ 64 }
-    ensures machine { (s : machine.State) → Stands C.Store X.Words session s → IsSteady X.scheme s
+    ensures machine { (s : machine.State) → Stands C.Store X.Meaning session s → IsSteady X.scheme s
         → (more rest : List ℕ) → Turns (C.told (store_given X.inside session.held)) (C.told (store_given X.inside result.0.held)) (IsBeside more) → s.choices ≡ more ++ rest → IfNone result.1
         (let next = machine.turn X.scheme P.rules s (line_view X.Key.bytes X.Value.bytes (λ p. p) command.now) in
         Apart X.scheme.root next.1.had → (map (answer_view X.Key.bytes X.Value.bytes X.Digest.bytes) replies.new.items ≡ map (answer_view X.Key.bytes X.Value.bytes X.Digest.bytes) replies.old.items ++ next.0 ∷ [])
-        × Stands C.Store X.Words result.0 next.1) }
-    ensures left { LeavesSteady C.Store X.Words session result.0
+        × Stands C.Store X.Meaning result.0 next.1) }
+    ensures left { LeavesSteady C.Store X.Meaning session result.0
         (λ s. machine.turn X.scheme P.rules s (line_view X.Key.bytes X.Value.bytes (λ p. p) command.now)) }
     ensures grown { IfNone result.1 (length replies.new.items ≡ length replies.old.items + 1) }
     ensures kept { OnSome result.1 (replies.new.items ≡ replies.old.items) }
@@ -91,8 +91,8 @@ fn step<X: Engine<C>, C: Store, P: Policy<X::Family, X::Key, X::Value> + Twin>(
 }
 
 // A session with a closed store, and no batch.
-pub(crate) fn begin<X: Basis<C>, C: Store>(alloc: Global, store: C) -> Result<Of<X, C>, C>
-    ensures session { IfOk result (λ session. (log : Log) (choices : List ℕ) → HasLog X.scheme (C.told store) log → log.start ≤ log.stable → log.stable ≤ length log.list → Stands C.Store X.Words session (machine.initial log choices)) }
+pub(crate) fn begin<X: Common<C>, C: Store>(alloc: Global, store: C) -> Result<SessionOf<X, C>, C>
+    ensures session { IfOk result (λ session. (log : Log) (choices : List ℕ) → HasLog X.scheme (C.told store) log → log.start ≤ log.stable → log.stable ≤ length log.list → Stands C.Store X.Meaning session (machine.initial log choices)) }
     ensures store { IfOk result (λ session. store_given X.inside session.held ≡ store) }
     ensures opened { IfOk result (λ session. session.opened ≡ 0) }
     ensures back { IfErr result (λ c. c ≡ store) }

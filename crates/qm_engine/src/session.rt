@@ -4,9 +4,8 @@ ghost use Rattle.qm_model.specs.StoreModel.{end_of};
 ghost use Rattle.qm_store.specs.Given.{store_given};
 ghost use Rattle.qm_engine.specs.Turn.{turn_of_tree, turn_of_log, turn_of_error};
 
-use crate::engine::Lasting;
+use qm_offer::{Durable, Meaning};
 use crate::table::Slot;
-use crate::words::Words;
 use qm_base::{Error, JournalError, MerkleError};
 use qm_lines::{LogRefused, Refused, Reply, TreeRefused};
 use qm_store::{Given, Store};
@@ -19,12 +18,12 @@ pub struct Session<X, C, B, S, M> {
     pub opened: u64,
 }
 
-pub type Of<X, C> = Session<
+pub type SessionOf<X, C> = Session<
     X,
     C,
-    <X as Words<C>>::Batch,
-    <X as Words<C>>::Staged,
-    <X as Words<C>>::Merkleized,
+    <X as Meaning<C>>::Batch,
+    <X as Meaning<C>>::Staged,
+    <X as Meaning<C>>::Merkleized,
 >;
 
 /// What a command comes to: a reply, or why the run ends.
@@ -96,7 +95,7 @@ pub fn turn_of<K: Drop, V: Drop, D: Drop>(error: Error) -> Turn<K, V, D>
 }
 
 /// The store that a run gives back: the one that is held.
-pub fn returned<X: Lasting<C>, C: Store>(held: Given<X, C>) -> C
+pub fn returned<X: Durable<C>, C: Store>(held: Given<X, C>) -> C
     ensures store { result ≡ store_given X.inside held }
     ensures stable { IfSome (C.told result) (λ s. s.stable ≤ end_of s) }
 {
@@ -107,7 +106,7 @@ pub fn returned<X: Lasting<C>, C: Store>(held: Given<X, C>) -> C
 }
 
 /// The store that is held, by itself or inside the database.
-pub fn into_store<X: Lasting<C>, C: Store>(held: Given<X, C>) -> C
+pub fn into_store<X: Durable<C>, C: Store>(held: Given<X, C>) -> C
     ensures { result ≡ store_given X.inside held }
 {
     match held {

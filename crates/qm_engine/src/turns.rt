@@ -11,8 +11,8 @@ mod proofs;
 mod reads;
 mod staged;
 
-use crate::engine::{Batching, Engine, Lasting, Neighbours, Proving, Reading, Staging};
-use crate::session::{Of, Session, Turn};
+use qm_offer::{Batching, Engine, Durable, Neighbours, Proving, Reading, Staging};
+use crate::session::{SessionOf, Session, Turn};
 use crate::table::Slot;
 use batches::{apply, batch, child, merkleize, put, tip};
 use lasting::{close, commit, crash, destroy, open, prune, sync};
@@ -30,11 +30,11 @@ use std::alloc::Global;
 pub fn turn<X: Engine<C>, C: Store, P: Policy<X::Family, X::Key, X::Value> + Twin>(
     alloc: Global,
     config: &X::Config,
-    mut session: Of<X, C>,
+    mut session: SessionOf<X, C>,
     command: &Command<X::Key, X::Value, P>,
-) -> (Of<X, C>, Turn<X::Key, X::Value, X::Digest>)
+) -> (SessionOf<X, C>, Turn<X::Key, X::Value, X::Digest>)
     requires { session.opened + 1 < 2 ^ 64 }
-    ensures { Performs C.Store X.Words X.Key.bytes X.Value.bytes X.Digest.bytes (line_view X.Key.bytes X.Value.bytes (λ p. p) command.now)
+    ensures { Performs C.Store X.Meaning X.Key.bytes X.Value.bytes X.Digest.bytes (line_view X.Key.bytes X.Value.bytes (λ p. p) command.now)
         (λ s. machine.turn X.scheme P.rules s (line_view X.Key.bytes X.Value.bytes (λ p. p) command.now)) session result.0 result.1 }
 {
     match command {
@@ -57,10 +57,10 @@ pub fn turn<X: Engine<C>, C: Store, P: Policy<X::Family, X::Key, X::Value> + Twi
 // One that makes batches.
 fn batch_turn<X: Staging<C>, C: Store, P: Policy<X::Family, X::Key, X::Value> + Twin>(
     alloc: Global,
-    session: &mut Of<X, C>,
+    session: &mut SessionOf<X, C>,
     command: &BatchCommand<X::Key, X::Value, P>,
 ) -> Turn<X::Key, X::Value, X::Digest>
-    ensures { Performs C.Store X.Words X.Key.bytes X.Value.bytes X.Digest.bytes (batch_view X.Key.bytes X.Value.bytes (λ p. p) command.now) (λ s. machine.turn X.scheme P.rules s (batch_view X.Key.bytes X.Value.bytes (λ p. p) command.now)) session.old session.new result }
+    ensures { Performs C.Store X.Meaning X.Key.bytes X.Value.bytes X.Digest.bytes (batch_view X.Key.bytes X.Value.bytes (λ p. p) command.now) (λ s. machine.turn X.scheme P.rules s (batch_view X.Key.bytes X.Value.bytes (λ p. p) command.now)) session.old session.new result }
 {
     match command {
         BatchCommand::Batch => batch::<X, C>(alloc, session),
@@ -88,10 +88,10 @@ fn read_turn<
     P: Policy<X::Family, X::Key, X::Value> + Twin,
 >(
     alloc: Global,
-    session: &mut Of<X, C>,
+    session: &mut SessionOf<X, C>,
     command: &ReadCommand<X::Key>,
 ) -> Turn<X::Key, X::Value, X::Digest>
-    ensures { Performs {P = P} C.Store X.Words X.Key.bytes X.Value.bytes X.Digest.bytes (read_view X.Key.bytes X.Value.bytes command.now) (λ s. machine.turn X.scheme P.rules s (read_view X.Key.bytes X.Value.bytes command.now)) session.old session.new result }
+    ensures { Performs {P = P} C.Store X.Meaning X.Key.bytes X.Value.bytes X.Digest.bytes (read_view X.Key.bytes X.Value.bytes command.now) (λ s. machine.turn X.scheme P.rules s (read_view X.Key.bytes X.Value.bytes command.now)) session.old session.new result }
 {
     match command {
         ReadCommand::Get(key, from) => read_key::<X, C>(alloc, session, key, *from),
@@ -108,10 +108,10 @@ fn read_turn<
 // One that tells and proves.
 fn info_turn<X: Reading<C> + Proving<C>, C: Store, P: Policy<X::Family, X::Key, X::Value> + Twin>(
     alloc: Global,
-    session: &mut Of<X, C>,
+    session: &mut SessionOf<X, C>,
     command: &InfoCommand<X::Key>,
 ) -> Turn<X::Key, X::Value, X::Digest>
-    ensures { Performs {P = P} C.Store X.Words X.Key.bytes X.Value.bytes X.Digest.bytes (info_view X.Key.bytes X.Value.bytes command.now) (λ s. machine.turn X.scheme P.rules s (info_view X.Key.bytes X.Value.bytes command.now)) session.old session.new result }
+    ensures { Performs {P = P} C.Store X.Meaning X.Key.bytes X.Value.bytes X.Digest.bytes (info_view X.Key.bytes X.Value.bytes command.now) (λ s. machine.turn X.scheme P.rules s (info_view X.Key.bytes X.Value.bytes command.now)) session.old session.new result }
 {
     match command {
         InfoCommand::Ops(number) => ops::<X, C>(alloc, session, *number),
@@ -128,7 +128,7 @@ fn info_turn<X: Reading<C> + Proving<C>, C: Store, P: Policy<X::Family, X::Key, 
 }
 
 // One that takes the database, or opens it, over what is held.
-fn held_turn<X: Lasting<C> + Batching<C>, C: Store, P: Policy<X::Family, X::Key, X::Value> + Twin>(
+fn held_turn<X: Durable<C> + Batching<C>, C: Store, P: Policy<X::Family, X::Key, X::Value> + Twin>(
     alloc: Global,
     config: &X::Config,
     held: Given<X, C>,
@@ -137,7 +137,7 @@ fn held_turn<X: Lasting<C> + Batching<C>, C: Store, P: Policy<X::Family, X::Key,
     command: &StoreCommand,
 ) -> (Given<X, C>, Turn<X::Key, X::Value, X::Digest>)
     requires { opened.old + 1 < 2 ^ 64 }
-    ensures { PerformsHeld {P = P} C.Store X.Words X.Key.bytes X.Value.bytes X.Digest.bytes (store_view X.Key.bytes X.Value.bytes command.now) (λ s. machine.turn X.scheme P.rules s (store_view X.Key.bytes X.Value.bytes command.now)) table.now.items opened.old held opened.new result.0 result.1 }
+    ensures { PerformsHeld {P = P} C.Store X.Meaning X.Key.bytes X.Value.bytes X.Digest.bytes (store_view X.Key.bytes X.Value.bytes command.now) (λ s. machine.turn X.scheme P.rules s (store_view X.Key.bytes X.Value.bytes command.now)) table.now.items opened.old held opened.new result.0 result.1 }
 {
     match command {
         StoreCommand::Open(max_size) => open::<X, C>(alloc, config, held, opened, *max_size),
@@ -152,14 +152,14 @@ fn held_turn<X: Lasting<C> + Batching<C>, C: Store, P: Policy<X::Family, X::Key,
 }
 
 // The same over a session.
-fn store_turn<X: Lasting<C> + Batching<C>, C: Store, P: Policy<X::Family, X::Key, X::Value> + Twin>(
+fn store_turn<X: Durable<C> + Batching<C>, C: Store, P: Policy<X::Family, X::Key, X::Value> + Twin>(
     alloc: Global,
     config: &X::Config,
-    session: Of<X, C>,
+    session: SessionOf<X, C>,
     command: &StoreCommand,
-) -> (Of<X, C>, Turn<X::Key, X::Value, X::Digest>)
+) -> (SessionOf<X, C>, Turn<X::Key, X::Value, X::Digest>)
     requires { session.opened + 1 < 2 ^ 64 }
-    ensures { Performs {P = P} C.Store X.Words X.Key.bytes X.Value.bytes X.Digest.bytes (store_view X.Key.bytes X.Value.bytes command.now) (λ s. machine.turn X.scheme P.rules s (store_view X.Key.bytes X.Value.bytes command.now)) session result.0 result.1 }
+    ensures { Performs {P = P} C.Store X.Meaning X.Key.bytes X.Value.bytes X.Digest.bytes (store_view X.Key.bytes X.Value.bytes command.now) (λ s. machine.turn X.scheme P.rules s (store_view X.Key.bytes X.Value.bytes command.now)) session result.0 result.1 }
 {
     let Session {
         held,

@@ -18,7 +18,7 @@ use Rattle.qm_machine.specs.Grammar as grammar
 use Rattle.qm_machine.specs.Grammar.{number_of, policy_of, metadata_of, Reading, begins_with, behind}
 use Rattle.qm_lines.specs.declared.policy.AnyPolicy.{AnyPolicy}
 use Rattle.qm_lines.specs.declared.command.Command.{Command}
-use Rattle.qm_lines.specs.declared.command.Resolution.{Resolution}
+use Rattle.qm_base.specs.declared.slot.Resolution.{Resolution}
 use Rattle.qm_lines.specs.declared.parse.unread.Unread.{Unread}
 use Rattle.qm_lines.specs.declared.parse.unread.Unread.TheVariants as unreads
 use Rattle.qm_lines.specs.declared.parse.commands.ReadForm.{ReadForm}

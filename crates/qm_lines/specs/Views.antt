@@ -7,6 +7,7 @@ use Rattle.qm_machine.specs.Lines as lines
 use Rattle.qm_model.specs.Refused as refusals
 use Rattle.qm_base.specs.Views.{corrupt_view, limit_of, pair_view}
 use Rattle.qm_base.specs.Slots.{slot_views, write_views}
+use Rattle.qm_base.specs.Listed.{listed_view, span_view, whole_view}
 use Rattle.qm_lines.specs.declared.command.Command.{Command}
 use Rattle.qm_lines.specs.declared.command.Command.TheVariants as commands
 use Rattle.qm_lines.specs.declared.command.BatchCommand.{BatchCommand}
@@ -19,9 +20,6 @@ use Rattle.qm_lines.specs.declared.command.StoreCommand.{StoreCommand}
 use Rattle.qm_lines.specs.declared.command.StoreCommand.TheVariants as stores
 use Rattle.qm_lines.specs.declared.command.Question.{Question}
 use Rattle.qm_lines.specs.declared.command.Question.TheVariants as questions
-use Rattle.qm_lines.specs.declared.reply.Listed.{Listed}
-use Rattle.qm_lines.specs.declared.reply.Listed.TheVariants as listed
-use Rattle.qm_lines.specs.declared.reply.Span.{Span}
 use Rattle.qm_lines.specs.declared.reply.TreeRefused.{TreeRefused}
 use Rattle.qm_lines.specs.declared.reply.TreeRefused.TheVariants as tree
 use Rattle.qm_lines.specs.declared.reply.LogRefused.{LogRefused}
@@ -111,31 +109,18 @@ module _ {K V : Type 0} (key : K → Bytes) (value : V → Bytes) where
   line_view policy (commands.Info c) = info_view c
   line_view policy (commands.Store c) = store_view c
 
-  abbrev pub listed_view : Listed K V → Operation
-  listed_view (listed.Update k v n) = update (key k) (value v) (option_map key n)
-  listed_view (listed.Delete k) = delete (key k)
-  listed_view (listed.Commit m f) = commit (option_map value m) f
-
-  -- a live update
-  abbrev pub span_view : Span K V → Live
-  span_view s = record { location = s.location; key = key s.key; value = value s.value; next = Some (key s.next) }
-
-  -- a value, and the next key
-  abbrev pub whole_view : V × K → Bytes × Option Bytes
-  whole_view p = (value p.0, Some (key p.1))
-
   abbrev pub answer_view : {D : Type 0} → (D → Bytes) → Reply K V D → lines.Answer
   answer_view digest (replies.Opened i start size) = lines.Opened i start size
   answer_view digest (replies.Batch h) = lines.Started h
   answer_view digest replies.Done = lines.Done
   answer_view digest (replies.Merkleized h base size floor) = lines.Merkleized h base size floor
   answer_view digest (replies.Applied size) = lines.Applied size
-  answer_view digest (replies.Ops base ops) = lines.Listed base (map listed_view ops.items)
+  answer_view digest (replies.Ops base ops) = lines.Listed base (map (listed_view key value) ops.items)
   answer_view digest (replies.Read values) = lines.Read (map (option_map value) values.items)
   answer_view digest (replies.Expanded a b values) = lines.Expanded a b (map (option_map value) values.items)
   answer_view digest (replies.Beside k) = lines.Beside (option_map key k)
-  answer_view digest (replies.Span s) = lines.Spanning (option_map span_view s)
-  answer_view digest (replies.All p) = lines.Whole (option_map whole_view p)
+  answer_view digest (replies.Span s) = lines.Spanning (option_map (span_view key value) s)
+  answer_view digest (replies.All p) = lines.Whole (option_map (whole_view key value) p)
   answer_view digest (replies.Range pairs) = lines.Ranged (map (pair_view key value) pairs.items)
   answer_view digest (replies.Keys keys) = lines.Keyed (map key keys.items)
   answer_view digest (replies.Info start size floor boundary is_live) = lines.Told start size floor boundary is_live
@@ -143,7 +128,7 @@ module _ {K V : Type 0} (key : K → Bytes) (value : V → Bytes) where
   answer_view digest (replies.Root r o) = lines.Rooted (digest r) (digest o)
   answer_view digest (replies.Meta v) = lines.Metadata (option_map value v)
   answer_view digest (replies.Proof leaves inactive digests ops) =
-      lines.Proved (record { leaves = leaves; inactive = inactive; digests = map digest digests.items }) (map listed_view ops.items)
+      lines.Proved (record { leaves = leaves; inactive = inactive; digests = map digest digests.items }) (map (listed_view key value) ops.items)
   answer_view digest (replies.BatchProof leaves inactive digests pins) =
       lines.BatchProved (record { leaves = leaves; inactive = inactive; digests = map digest digests.items }) (map digest pins.items)
   answer_view digest (replies.Pins digests) = lines.Pinned (map digest digests.items)

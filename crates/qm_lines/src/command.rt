@@ -1,15 +1,8 @@
 //! What a line asks for.
 
-use qm_base::{Slot, Write};
+use qm_base::Resolution;
 use std::num::NonZeroU64;
 use std::ops::Bound;
-
-/// What becomes of staged keys, a slot for each in their order, and other writes behind these.
-#[derive(Drop)]
-pub struct Resolution<K, V> {
-    pub slots: Vec<Slot<V>>,
-    pub others: Vec<Write<K, V>>,
-}
 
 /// What only a current database offers.
 #[derive(Drop)]

@@ -12,13 +12,11 @@ pub mod text;
 pub mod whole;
 
 pub use adapters::{StdSink, StdSource};
-pub use command::{
-    BatchCommand, Command, InfoCommand, Question, ReadCommand, Resolution, StoreCommand,
-};
+pub use command::{BatchCommand, Command, InfoCommand, Question, ReadCommand, StoreCommand};
 pub use memory::{MemSink, MemSource};
 pub use parse::{ByteCommand, next_line, parse_line};
 pub use policy::AnyPolicy;
 pub use ports::{Failed, Sink, SinkError, Source};
-pub use reply::{Listed, LogRefused, Refused, Reply, Span, TreeRefused};
+pub use reply::{LogRefused, Refused, Reply, TreeRefused};
 pub use text::reply_text;
 pub use whole::{InputError, LIMIT, read_all, write_all};

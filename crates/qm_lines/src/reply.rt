@@ -1,25 +1,6 @@
 //! What a command answers.
 
-use qm_base::Corrupt;
-
-/// An operation as a reply lists it.
-#[derive(Drop)]
-pub enum Listed<K, V> {
-    /// Key, value and, in an ordered database, the next key.
-    Update(K, V, Option<K>),
-    Delete(K),
-    /// Metadata and floor.
-    Commit(Option<V>, u64),
-}
-
-/// A live update of an ordered database as a reply tells it.
-#[derive(Drop)]
-pub struct Span<K, V> {
-    pub location: u64,
-    pub key: K,
-    pub value: V,
-    pub next: K,
-}
+use qm_base::{Corrupt, Listed, Span};
 
 /// Why a tree refused.
 #[derive(Clone, Copy)]

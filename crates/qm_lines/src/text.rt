@@ -9,10 +9,11 @@ ghost use Rattle.qm_machine.specs.Lines as lines;
 ghost use Rattle.qm_machine.specs.Text as texts;
 ghost use Rattle.qm_lines.specs.Written.{Adds};
 ghost use Rattle.qm_base.specs.Views.{pair_view};
-ghost use Rattle.qm_lines.specs.Views.{tree_view, log_view, refused_view, listed_view, span_view, whole_view, answer_view};
+ghost use Rattle.qm_lines.specs.Views.{tree_view, log_view, refused_view, answer_view};
+ghost use Rattle.qm_base.specs.Listed.{listed_view, span_view, whole_view};
 
-use crate::reply::{Listed, LogRefused, Refused, Reply, Span, TreeRefused};
-use qm_base::{ByteString, Corrupt, Digest};
+use crate::reply::{LogRefused, Refused, Reply, TreeRefused};
+use qm_base::{ByteString, Corrupt, Digest, Listed, Span};
 use std::alloc::{AllocError, Global};
 use std::fmt::Write;
 

@@ -9,7 +9,8 @@ use Rattle.qm_model.specs.Operations.{Operation}
 use Rattle.qm_model.specs.Refused.{Refused, DataCorrupted}
 use Rattle.qm_model.specs.Own.{Log}
 use Rattle.qm_model.specs.Opening.{Found, Selected, opens, first_refusal, commit_refusal, commit_at, last_commit, below_bound, selected, size_of, is_empty, checks, opening_of, opening}
-use Rattle.qm_machine.specs.Machine.{Scheme, layout_of, found_in}
+use Rattle.qm_machine.specs.Machine.{found_in}
+use Rattle.qm_model.specs.Schemes.{Scheme, layout_of}
 
 -- no check fails
 none-at : {A : Type 0} (rs : List (Option A)) (k : ℕ) → first_refusal rs ≡ None → get_or rs k None ≡ None

@@ -11,7 +11,8 @@ use Rattle.qm_model.specs.Refused.{StaleBatch, SlotCount}
 use Rattle.qm_model.specs.Refusals.{tip_refusal}
 use Rattle.qm_model.specs.Step.{Kind, step}
 use Rattle.qm_machine.specs.Lines.{Line, Open, Batch, Child, Tip, Put, Del, Merkleize, Stage, Expand, Resolve, Apply, Ops, Get, Many, Next, Prev, Span, All, Range, Keys, Info, BatchInfo, Root, BatchRoot, BatchProof, Meta, Prove, Pins, Current, Prune, Commit, Sync, Close, Destroy, Crash}
-use Rattle.qm_machine.specs.Machine.{Scheme, kind_of, takes, choices_after, State, Slot, gone, writing, staged, merkleized, slot_at, with_slot, with_database, refuse, merkleize_tip, merkleize_writes, merkleize_in, merkleize, resolve_in, resolve, turn}
+use Rattle.qm_machine.specs.Machine.{choices_after, State, Slot, gone, writing, staged, merkleized, slot_at, with_slot, with_database, refuse, merkleize_tip, merkleize_writes, merkleize_in, merkleize, resolve_in, resolve, turn}
+use Rattle.qm_model.specs.Schemes.{Scheme, kind_of, takes}
 
 -- a line with its policy under this name
 abbrev pub relabelled : {P Q : Type 0} → (P → Q) → Line P → Line Q

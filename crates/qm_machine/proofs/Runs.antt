@@ -13,8 +13,9 @@ use Rattle.qm_model.specs.Batches.{Chain, Apart, commitment, fits, readable}
 use Rattle.qm_machine.specs.Lines.{Line, Open, Batch, Child, Tip, Put, Del, Merkleize, Stage, Expand, Resolve, Apply, Ops, Get, Many, Next, Prev, Span, All, Range, Keys, Info, BatchInfo, Root, BatchRoot, BatchProof, Meta, Prove, Pins, Question, Held, Absent, Witness, Current, Prune, Commit, Sync, Close, Destroy, Crash, Answer}
 use Rattle.qm_machine.specs.Lines as lines
 use Rattle.qm_model.specs.Refused.{Refused}
-use Rattle.qm_machine.specs.Machine.{Scheme, State, Slot, choices_after, gone, writing, staged, merkleized, turn, answers, state_after, slot_at, start_child, put_in, list_operations, with_database, opened_as, found_in, layout_of, closed, unless, merkleize_tip, merkleize_writes, merkleize_in, resolve_in, apply_in, if_readable, if_staged, stage_in, expand_in, read_in, read, if_ordered, beside_in, beside_of, info_in, root_in, proof_in, prune_in, Grafts, takes, if_any, if_current, if_absences, held_at, absent_at, answered}
-use Rattle.qm_machine.specs.Held.{pins_lacked, proof_lacked}
+use Rattle.qm_machine.specs.Machine.{State, Slot, choices_after, gone, writing, staged, merkleized, turn, answers, state_after, slot_at, start_child, put_in, list_operations, with_database, opened_as, found_in, closed, unless, merkleize_tip, merkleize_writes, merkleize_in, resolve_in, apply_in, if_readable, if_staged, stage_in, expand_in, read_in, read, if_ordered, beside_in, beside_of, info_in, root_in, proof_in, prune_in, if_any, if_current, if_absences, held_at, absent_at, answered}
+use Rattle.qm_model.specs.Schemes.{Scheme, layout_of, Grafts, takes}
+use Rattle.qm_model.specs.Held.{pins_lacked, proof_lacked}
 use Rattle.qm_model.specs.Ranges.{key_above, key_below}
 use Rattle.qm_model.specs.Refusals.{tip_refusal, proof_refusal, range_refusal}
 use Rattle.qm_model.proofs.Chains.{Contains-more}

@@ -17,7 +17,8 @@ use Rattle.qm_model.specs.CurrentRows.{toy}
 use Rattle.qm_model.specs.Own.{no_log}
 use Rattle.qm_model.specs.Policies.{Policy, policies}
 use Rattle.qm_machine.specs.Lines.{Line, Crash}
-use Rattle.qm_machine.specs.Machine.{Scheme, State, initial, answers}
+use Rattle.qm_machine.specs.Machine.{State, initial, answers}
+use Rattle.qm_model.specs.Schemes.{Scheme}
 use Rattle.qm_machine.specs.Grammar.{commands_in}
 use Rattle.qm_machine.specs.Text.{text_of}
 use lib.Count.{ones, ones_in}

@@ -1,5 +1,4 @@
 pub mod Lines
-pub mod Held
 pub mod Machine
 pub mod Sound
 pub mod Grammar

@@ -14,7 +14,8 @@ use Rattle.qm_machine.specs.Lines.{Line, Open, Crash, Child, Put, Del, Merkleize
 use Rattle.qm_model.specs.Refused.{DataCorrupted, FloorExceedsCommit, InvalidInitializationBound, ItemDoesNotDecode, Journal, LinksFormNoRing, NoRetainedCommit, Merkle, ElementPruned, ItemPruned, ItemTooLarge, LocationOverflow, MissingNode}
 use Rattle.qm_model.specs.Refusals.{too_many}
 use Rattle.qm_model.specs.Own.{no_log}
-use Rattle.qm_machine.specs.Machine.{Scheme, initial, answers}
+use Rattle.qm_machine.specs.Machine.{initial, answers}
+use Rattle.qm_model.specs.Schemes.{Scheme}
 use Rattle.qm_machine.specs.Grammar.{line_of, commands_in, bad_in}
 use Rattle.qm_machine.specs.Text.{operation_text, refused_text, text_of}
 use lib.Count.{ones, ones_in}

@@ -21,56 +21,7 @@ use Rattle.qm_machine.specs.Lines.{Line, Open, Batch, Child, Tip, Put, Del, Merk
 use Rattle.qm_machine.specs.Lines as lines
 use Rattle.qm_model.specs.Refused.{Refused, NotOffered, NoDatabase, NoSuchHandle, SlotCount, StaleBatch, StaleRead, KeyNotFound, KeyExists, PruneBeyondMinRequired}
 use Rattle.qm_model.specs.Refusals.{tip_refusal, proof_refusal, proof_count, range_refusal}
-use Rattle.qm_machine.specs.Held.{pins_lacked, proof_lacked}
-
--- what a current database has over an any one: chunks of activity bits, grafted onto its trees, and the checks of its proofs
-pub record Grafts : Type 0 where
-  pub chunks : Chunks
-  pub checks : Checks
-
--- what a machine stands on: how operations are spelled and hashed, over which family of trees, and how many bytes a digest
--- has; a list's roots and boundary, the proofs of its operations and its pins
-pub record Scheme : Type 0 where
-  pub form : Form
-  pub shape : Shape
-  pub hash : Bytes → Bytes
-  pub digest_size : ℕ
-  -- the operations root, which tells a batch whether it fits
-  pub root : List Operation → Bytes
-  -- the root: of a current database the canonical root, of an any one the operations root
-  pub canonical : List Operation → Bytes
-  pub boundary : List Operation → ℕ
-  -- of the whole list, for the operations from a up to b
-  pub proof : List Operation → ℕ → ℕ → Proof
-  pub pins : List Operation → ℕ → List Bytes
-  -- none in an any database
-  pub grafts : Option Grafts
-
--- the kind of its databases
-abbrev pub kind_of : Scheme → Kind
-kind_of m = if m.form.ordered then ordered else unordered
-
--- the chunks of its databases' bits, if they are current ones
-abbrev pub chunks_of : Scheme → Option Chunks
-chunks_of m = option_map (λ g. g.chunks) m.grafts
-
--- how its databases lie in a store
-abbrev pub layout_of : Scheme → Layout
-layout_of m = record { form = m.form; shape = m.shape; digest_size = m.digest_size; chunks = chunks_of m }
-
--- what makes their lists under policies with these rules, and how they lie in a store
-abbrev pub engine_of : Scheme → {P : Type 0} → Rules P → Engine P
-engine_of m rules = record { kind = kind_of m; rules = rules; hash = m.hash; layout = layout_of m }
-
--- whether a database of the first instance number makes lists of batches of the second: an any one of all, a current one of its own
-abbrev pub takes : Option Grafts → ℕ → ℕ → Bool
-takes None own other = true
-takes (Some g) own other = own == other
-
--- how many chunks are pruned after a prune to a location, of which so many were: an any database has none
-abbrev pub chunks_after : Option Grafts → ℕ → ℕ → ℕ
-chunks_after None pruned to = pruned
-chunks_after (Some g) pruned to = max pruned (to / 2 ^ g.chunks.height)
+use Rattle.qm_model.specs.Held.{pins_lacked, proof_lacked}
 
 -- a batch number: used up; a batch with the chain of its parent, which made its base, and its writes; the same with the
 -- keys that were staged; a merkleized batch with its tip list. The parent of a batch that was begun on a database is that as

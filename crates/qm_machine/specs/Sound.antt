@@ -10,7 +10,8 @@ use Rattle.qm_model.specs.Opening.{opens, opening, opened_list}
 use Rattle.qm_model.specs.Step.{Made, IsGood}
 use Rattle.qm_model.specs.Batches.{IsAmong, IsRising, Begins}
 use Rattle.qm_model.specs.Own.{ArePrompt, IsKept}
-use Rattle.qm_machine.specs.Machine.{Scheme, State, Slot, gone, writing, staged, merkleized, slot_at, kind_of, chunks_of, engine_of, layout_of, found_in}
+use Rattle.qm_machine.specs.Machine.{State, Slot, gone, writing, staged, merkleized, slot_at, found_in}
+use Rattle.qm_model.specs.Schemes.{Scheme, kind_of, chunks_of, engine_of, layout_of}
 
 -- No list may be pruned past its floor, nor, in a current database, past the boundary of its chunks; and no node over a chunk waits
 -- for longer than the threshold tells.

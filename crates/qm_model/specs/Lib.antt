@@ -27,6 +27,9 @@ pub mod Refused
 pub mod Refusals
 pub mod Opening
 pub mod Own
+pub mod Held
+pub mod Schemes
+pub mod Taken
 pub mod Rows
 pub mod TreeRows
 pub mod CurrentRows

@@ -39,8 +39,8 @@ use Rattle.qm_store.specs.Refusals.{refusal_of}
 use Rattle.qm_store.specs.Given.{IsUnchanged, TellsFrom}
 use Rattle.qm_store.specs.declared.refusal.Given.{Given}
 use Rattle.qm_store.specs.declared.refusal.Given.TheVariants as given
-use Rattle.qm_engine.specs.declared.words.Words as words
-use Rattle.qm_engine.specs.Words.{IsReadFailure, ReadsOnly}
+use Rattle.qm_offer.specs.declared.meaning.Meaning as meaning
+use Rattle.qm_offer.specs.Words.{IsReadFailure, ReadsOnly}
 use Rattle.qm_run.specs.declared.database.Database as engine
 use Rattle.qm_run.specs.Held.{held}
 
@@ -171,7 +171,7 @@ module _ {C D : Type 0} (members : store.Ghosts C) (old new : Log C D) (can : Bo
   rose-read (inr (inr told)) fault = log-rose members old new e told.1 fault
 
   -- so it is a failure of a read of the engine
-  pub read-failure : {X B S M : Type 0} (means : words.Ghosts X C B S M) (list : List Operation) (chain : Chain) (tip : List Operation) → can ≡ readable means.scheme.root (commitment means.scheme.root list) chain tip
+  pub read-failure : {X B S M : Type 0} (means : meaning.Ghosts X C B S M) (list : List Operation) (chain : Chain) (tip : List Operation) → can ≡ readable means.scheme.root (commitment means.scheme.root list) chain tip
       → (TellsFrom members old.store list → IsKeptItem e) → IsReadErr members old new can e → IsReadFailure means (TellsFrom members old.store list) list chain tip e
   read-failure means list chain tip is whole why = record {
     stale = λ stale known. apart (sym (is ∙ readable-known means.scheme.root list chain tip known) ∙ stale-read why stale);
@@ -359,7 +359,7 @@ unapplied-untold e (inr (inl memory)) fresh = ap refusal_of memory
 unapplied-untold e (inr (inr fault)) fresh = ap refusal_of fault
 
 -- a call that ended before it read left all as it was
-module _ {X C B S M : Type 0} (means : words.Ghosts X C B S M) (members : store.Ghosts C) (x : X) where
+module _ {X C B S M : Type 0} (means : meaning.Ghosts X C B S M) (members : store.Ghosts C) (x : X) where
   unread : (failed : Type 0) → (failed → ⊥) → ReadsOnly means members x x failed
   unread failed never = record {
     same = λ list is. is;
@@ -380,7 +380,7 @@ err-memory r y P is memory p = subst (λ r. IfErr r P) (sym (is ∙ ap Err memor
 pub memory-not_stale : errors.Memory ≢ errors.StaleBatch
 memory-not_stale e = cc
 
-pub memory-failure : {X C B S M : Type 0} (means : words.Ghosts X C B S M) (tells : Type 0) (list : List Operation) (chain : Chain) (tip : List Operation) → IsReadFailure means tells list chain tip errors.Memory
+pub memory-failure : {X C B S M : Type 0} (means : meaning.Ghosts X C B S M) (tells : Type 0) (list : List Operation) (chain : Chain) (tip : List Operation) → IsReadFailure means tells list chain tip errors.Memory
 memory-failure means tells list chain tip = record { stale = λ e. absurd (cc e); refused = λ fresh tells known. refl; order = λ fresh other. absurd (other refl) }
 
 -- an unordered database offers nothing of an ordered one

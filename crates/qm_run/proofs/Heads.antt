@@ -15,7 +15,7 @@ use Rattle.qm_base.specs.declared.sha256.Sha256Digest.{Sha256Digest}
 use Rattle.qm_merkle.proofs.Growth.{digest-append, map_same}
 use Rattle.qm_store.specs.Log.{IsHead, digests_from}
 use Rattle.qm_store.proofs.Leaves.{leaves-spelled, length-digests_from, digests_from-split}
-use Rattle.qm_engine.specs.Stores.{head_at}
+use Rattle.qm_model.specs.Taken.{head_at}
 use Rattle.qm_run.specs.Databases.{digest_bytes}
 use Rattle.qm_run.specs.Schemes.{scheme}
 

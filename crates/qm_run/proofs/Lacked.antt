@@ -18,7 +18,7 @@ use Rattle.qm_model.specs.Batches.{Chain, Commitment, boundary_list}
 use Rattle.qm_model.specs.Refused.{Merkle, ElementPruned, RangeOutOfBounds}
 use Rattle.qm_model.specs.Refusals.{pins_refusal}
 use Rattle.qm_model.proofs.Results.{err-then}
-use Rattle.qm_machine.specs.Held.{is_between, is_held, first_pruned, pins_lacked, proof_lacked}
+use Rattle.qm_model.specs.Held.{is_between, is_held, first_pruned, pins_lacked, proof_lacked}
 use Rattle.qm_base.specs.declared.error.Error.{Error}
 use Rattle.qm_base.specs.declared.error.Error.TheVariants as errors
 use Rattle.qm_base.specs.declared.error.MerkleError.TheVariants as merkle

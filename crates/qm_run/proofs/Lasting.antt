@@ -22,8 +22,8 @@ use Rattle.qm_store.specs.Refusals.{refusal_of}
 use Rattle.qm_any.specs.Restoring as any
 use Rattle.qm_any.specs.Lasting.{cut_to, IsHeadAt}
 use Rattle.qm_any.specs.Databases.{Database, IsDatabase}
-use Rattle.qm_machine.specs.Machine.{layout_of}
-use Rattle.qm_engine.specs.Stores.{IsTaken, selected_size, head_at, taken, pruned_from, LeavesOpening, LeavesPruning}
+use Rattle.qm_model.specs.Schemes.{layout_of}
+use Rattle.qm_model.specs.Taken.{IsTaken, selected_size, head_at, taken, pruned_from, LeavesOpening, LeavesPruning}
 use Rattle.qm_engine.proofs.LastingStores.{turned-each}
 use Rattle.qm_run.specs.Databases.{hashing, layout}
 use Rattle.qm_run.specs.Schemes.{scheme}

@@ -9,7 +9,7 @@ use Rattle.qm_model.specs.Own.{Log, IsOwn}
 use Rattle.qm_model.specs.StoreModel.{Stored}
 use Rattle.qm_model.specs.Policies.{policies}
 use Rattle.qm_machine.specs.Grammar.{commands_in, bad_in}
-use Rattle.qm_machine.specs.Machine.{Scheme, engine_of}
+use Rattle.qm_model.specs.Schemes.{Scheme, engine_of}
 use Rattle.qm_engine.specs.Answered.{IsAnswered}
 use Rattle.qm_run.specs.Program.{count, state, model_text, IsApart, IsOwnAt, bad_text, fault_text, IsPartial, SaysOver, Says, machine_of}
 use Rattle.qm_run.specs.Endings.{tail_text, tail_status}

@@ -6,7 +6,8 @@ use Rattle.qm_model.specs.StoreModel.{Stored, Turns}
 use Rattle.qm_model.specs.Policies.{policies}
 use Rattle.qm_model.specs.Batches.{Apart}
 use Rattle.qm_model.specs.Mmr.{mmr}
-use Rattle.qm_machine.specs.Machine.{Scheme, State, engine_of, initial, answers}
+use Rattle.qm_machine.specs.Machine.{State, initial, answers}
+use Rattle.qm_model.specs.Schemes.{Scheme, engine_of}
 use Rattle.qm_machine.specs.Grammar.{commands_in, bad_in}
 use Rattle.qm_machine.specs.Text.{text_of}
 use Rattle.qm_engine.specs.Stores.{IsBeside}

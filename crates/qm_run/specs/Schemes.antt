@@ -6,7 +6,7 @@ use Rattle.qm_model.specs.Forms.{Form}
 use Rattle.qm_model.specs.Live.{floor}
 use Rattle.qm_model.specs.Trees.{Shape}
 use Rattle.qm_model.specs.Roots.{sha256_root, sha256_proof, sha256_pins}
-use Rattle.qm_machine.specs.Machine.{Scheme}
+use Rattle.qm_model.specs.Schemes.{Scheme}
 
 -- a key or a value: bytes whose count four bytes tell
 abbrev pub is_string : Bytes → Bool

@@ -23,7 +23,7 @@ use qm_any::batch::{MerkleizedBatch, UnmerkleizedBatch};
 use qm_any::db::Db;
 use qm_any::staged::Staged;
 use qm_base::{ByteKey, ByteString, ByteValue, Location, Sha256, Sha256Digest, VariableValue};
-use qm_engine::{Basis, BatchSizes, Engine, Numbers, Words};
+use qm_offer::{BatchSizes, Common, Engine, Meaning, Numbers};
 use qm_index::{Factory, FourCap};
 use qm_merkle::mmr;
 use qm_operations::{Ordered, Unordered, Update, VariableEncoding};
@@ -95,7 +95,7 @@ impl<
     C: Store + Drop,
     I: Factory<Value = Location<mmr::Family>, Translator = FourCap> + Drop,
     U: Kind<I, Key = ByteKey, Value = ByteValue>,
-> Words<C> for Database<C, I, U> {
+> Meaning<C> for Database<C, I, U> {
     type Batch = UnmerkleizedBatch<mmr::Family, Sha256Digest, U>;
 
     type Staged = Staged<mmr::Family, Sha256Digest, U>;
@@ -129,7 +129,7 @@ impl<
     C: Store + Drop,
     I: Factory<Value = Location<mmr::Family>, Translator = FourCap> + Drop,
     U: Kind<I, Key = ByteKey, Value = ByteValue>,
-> Basis<C> for Database<C, I, U> {
+> Common<C> for Database<C, I, U> {
     type Family = mmr::Family;
 
     type Key = ByteKey;

@@ -2,11 +2,10 @@
 ghost use Rattle.std.specs.Prelude.{◌≡◌, true, IfOk, map, option_map};
 ghost use Rattle.qm_step.specs.Changes.{located};
 ghost use Rattle.qm_step.specs.Views.{read_view};
-ghost use Rattle.qm_lines.specs.Views.{listed_view, span_view};
+ghost use Rattle.qm_base.specs.Listed.{listed_view, span_view};
 ghost use Rattle.qm_operations.specs.Views.{operation_view, operation_views};
 
-use qm_base::{ByteString, Location, twin_option};
-use qm_lines::{Listed, Span};
+use qm_base::{ByteString, Listed, Location, Span, twin_option};
 use qm_operations::{Operation, Update};
 use std::alloc::{AllocError, Global};
 

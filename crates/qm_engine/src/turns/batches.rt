@@ -7,12 +7,12 @@ ghost use Rattle.qm_model.specs.Batches.{Chain, IsAmong, IsOnChain};
 ghost use Rattle.qm_machine.specs.Machine.{State};
 ghost use Rattle.qm_machine.specs.Machine as machine;
 ghost use Rattle.qm_store.specs.Given.{store_given, IsUnchanged, TellsFrom};
-ghost use Rattle.qm_engine.specs.Words.{AtBatch, ReadsOnly, tip_of};
+ghost use Rattle.qm_offer.specs.Words.{AtBatch, ReadsOnly, tip_of};
 ghost use Rattle.qm_engine.specs.Making.{IsMaking, made_into};
 ghost use Rattle.qm_engine.specs.Session.{SlotIs, Stands, Follows, Obeys, ObeysSteady, ObeysHeldSteady, LeavesHeldSteady, Uses};
 
-use crate::engine::{Basis, Batching};
-use crate::session::{Of, Turn, no_database, no_such_handle, turn_of};
+use qm_offer::{Common, Batching};
+use crate::session::{SessionOf, Turn, no_database, no_such_handle, turn_of};
 use crate::table::{Slot, merkleized_at, push_slot, put_slot, take_writing};
 use crate::turns::lasting::without_database;
 use qm_base::{ByteString, Error, JournalError, Twin};
@@ -22,12 +22,12 @@ use qm_store::{Given, Store};
 use std::alloc::{AllocError, Global};
 
 // Gives a batch the next number.
-fn started<X: Basis<C>, C: Store>(
-    session: &mut Of<X, C>,
+fn started<X: Common<C>, C: Store>(
+    session: &mut SessionOf<X, C>,
     slot: Slot<X::Batch, X::Staged, X::Merkleized>,
 ) -> Turn<X::Key, X::Value, X::Digest>
-    ensures machine { (s : State) (new : machine.Slot) → Stands C.Store X.Words session.old s → SlotIs C.Store X.Words s.had slot new
-        → Follows C.Store X.Words X.Key.bytes X.Value.bytes X.Digest.bytes session.new result (machine.started s new) }
+    ensures machine { (s : State) (new : machine.Slot) → Stands C.Store X.Meaning session.old s → SlotIs C.Store X.Meaning s.had slot new
+        → Follows C.Store X.Meaning X.Key.bytes X.Value.bytes X.Digest.bytes session.new result (machine.started s new) }
     ensures rest { session.new ≡ record session.old { table = session.new.table } }
     ensures never { result ≢ Turn.StoreFault }
 {
@@ -41,9 +41,9 @@ fn started<X: Basis<C>, C: Store>(
 /// Begins a batch on the database, and gives it the next number.
 pub fn batch<X: Batching<C>, C: Store>(
     alloc: Global,
-    session: &mut Of<X, C>,
+    session: &mut SessionOf<X, C>,
 ) -> Turn<X::Key, X::Value, X::Digest>
-    ensures machine { Obeys C.Store X.Words X.Key.bytes X.Value.bytes X.Digest.bytes session.old session.new result
+    ensures machine { Obeys C.Store X.Meaning X.Key.bytes X.Value.bytes X.Digest.bytes session.old session.new result
         (machine.start_batch) }
     ensures rest { session.new ≡ record session.old { table = session.new.table } }
     ensures never { result ≢ Turn.StoreFault }
@@ -60,11 +60,11 @@ pub fn batch<X: Batching<C>, C: Store>(
 /// Begins a batch on a merkleized one, and gives it the next number.
 pub fn child<X: Batching<C>, C: Store>(
     alloc: Global,
-    session: &mut Of<X, C>,
+    session: &mut SessionOf<X, C>,
     number: u64,
     keep: Option<u64>,
 ) -> Turn<X::Key, X::Value, X::Digest>
-    ensures machine { Obeys C.Store X.Words X.Key.bytes X.Value.bytes X.Digest.bytes session.old session.new result
+    ensures machine { Obeys C.Store X.Meaning X.Key.bytes X.Value.bytes X.Digest.bytes session.old session.new result
         (λ s. machine.child s number keep) }
     ensures rest { session.new ≡ record session.old { table = session.new.table } }
     ensures never { result ≢ Turn.StoreFault }
@@ -81,9 +81,9 @@ pub fn child<X: Batching<C>, C: Store>(
 /// Takes the database as a merkleized batch, and gives it the next number.
 pub fn tip<X: Batching<C>, C: Store>(
     alloc: Global,
-    session: &mut Of<X, C>,
+    session: &mut SessionOf<X, C>,
 ) -> Turn<X::Key, X::Value, X::Digest>
-    ensures machine { Obeys C.Store X.Words X.Key.bytes X.Value.bytes X.Digest.bytes session.old session.new result
+    ensures machine { Obeys C.Store X.Meaning X.Key.bytes X.Value.bytes X.Digest.bytes session.old session.new result
         (machine.start_tip) }
     ensures rest { session.new ≡ record session.old { table = session.new.table } }
     ensures never { result ≢ Turn.StoreFault }
@@ -117,12 +117,12 @@ fn write<X: Batching<C>, C: Store>(
 /// Writes a value for a key in a batch, or deletes the key where there is none.
 pub fn put<'a, X: Batching<C>, C: Store>(
     alloc: Global,
-    session: &mut Of<X, C>,
+    session: &mut SessionOf<X, C>,
     number: u64,
     key: &'a X::Key,
     value: Option<&'a X::Value>,
 ) -> Turn<X::Key, X::Value, X::Digest>
-    ensures machine { Obeys C.Store X.Words X.Key.bytes X.Value.bytes X.Digest.bytes session.old session.new result
+    ensures machine { Obeys C.Store X.Meaning X.Key.bytes X.Value.bytes X.Digest.bytes session.old session.new result
         (λ s. machine.put_in s number (record { key = X.Key.bytes key.now; value = option_map (λ v. X.Value.bytes v.now) value.entry }) (machine.slot_at s.table number)) }
     ensures rest { session.new ≡ record session.old { table = session.new.table } }
     ensures never { result ≢ Turn.StoreFault }
@@ -147,9 +147,9 @@ fn merkleize_batch<X: Batching<C>, C: Store, P: Policy<X::Family, X::Key, X::Val
     policy: &P,
     metadata: &Option<X::Value>,
 ) -> Result<X::Merkleized, Error>
-    ensures made { AtBatch X.Words database.old batch (λ list chain above ws. TellsFrom C.Store (X.inside database.old) list → (IsOnChain list chain → floor list ≤ floor chain.base)
-        → IsMaking X.Words list chain (tip_of X.scheme P.rules chain ws policy.now (option_map X.Value.bytes metadata.now)) result) }
-    ensures reads { ReadsOnly X.Words C.Store database.old database.new (IsErrOf result (Error.Journal JournalError.Store)) }
+    ensures made { AtBatch X.Meaning database.old batch (λ list chain above ws. TellsFrom C.Store (X.inside database.old) list → (IsOnChain list chain → floor list ≤ floor chain.base)
+        → IsMaking X.Meaning list chain (tip_of X.scheme P.rules chain ws policy.now (option_map X.Value.bytes metadata.now)) result) }
+    ensures reads { ReadsOnly X.Meaning C.Store database.old database.new (IsErrOf result (Error.Journal JournalError.Store)) }
 {
     let mut policy = policy.twin(alloc)?;
     database.merkleize(alloc, batch, &mut policy, metadata)
@@ -157,14 +157,14 @@ fn merkleize_batch<X: Batching<C>, C: Store, P: Policy<X::Family, X::Key, X::Val
 
 /// Gives a merkleized batch the number under which the batch was taken out of the table, or tells why there is none.
 pub fn put_made<X: Batching<C>, C: Store>(
-    session: &mut Of<X, C>,
+    session: &mut SessionOf<X, C>,
     number: u64,
     made: Result<X::Merkleized, Error>,
 ) -> Turn<X::Key, X::Value, X::Digest>
     ensures machine { (s : State) (list : List Operation) (chain : Chain) (tip : List Operation)
-        → Stands C.Store X.Words session.old (machine.with_slot s number machine.gone) → Contains s.had list → IsAmong s.had chain
-        → IsMaking X.Words list chain tip made
-        → Follows C.Store X.Words X.Key.bytes X.Value.bytes X.Digest.bytes session.new result (made_into X.scheme s number list chain tip) }
+        → Stands C.Store X.Meaning session.old (machine.with_slot s number machine.gone) → Contains s.had list → IsAmong s.had chain
+        → IsMaking X.Meaning list chain tip made
+        → Follows C.Store X.Meaning X.Key.bytes X.Value.bytes X.Digest.bytes session.new result (made_into X.scheme s number list chain tip) }
     ensures rest { session.new ≡ record session.old { table = session.new.table } }
     ensures fault { result ≡ Turn.StoreFault → IsErrOf made (Error.Journal JournalError.Store) }
 {
@@ -181,12 +181,12 @@ pub fn put_made<X: Batching<C>, C: Store>(
 /// Merkleizes a batch, which keeps its number.
 pub fn merkleize<X: Batching<C>, C: Store, P: Policy<X::Family, X::Key, X::Value> + Twin>(
     alloc: Global,
-    session: &mut Of<X, C>,
+    session: &mut SessionOf<X, C>,
     number: u64,
     policy: &P,
     metadata: &Option<X::Value>,
 ) -> Turn<X::Key, X::Value, X::Digest>
-    ensures machine { ObeysSteady C.Store X.Words X.Key.bytes X.Value.bytes X.Digest.bytes session.old session.new result
+    ensures machine { ObeysSteady C.Store X.Meaning X.Key.bytes X.Value.bytes X.Digest.bytes session.old session.new result
         (λ s. machine.merkleize X.scheme P.rules s number policy.now (option_map X.Value.bytes metadata.now)) }
     ensures store { IsUnchanged C.Store (store_given X.inside session.old.held) (store_given X.inside session.new.held) }
     ensures uses { Uses C.Store (store_given X.inside session.old.held) (store_given X.inside session.new.held) result }
@@ -209,9 +209,9 @@ pub fn apply<X: Batching<C>, C: Store>(
     table: &Vec<Slot<X::Batch, X::Staged, X::Merkleized>>,
     number: u64,
 ) -> (Given<X, C>, Turn<X::Key, X::Value, X::Digest>)
-    ensures machine { (count : ℕ) → ObeysHeldSteady C.Store X.Words X.Key.bytes X.Value.bytes X.Digest.bytes table.now.items count held count result.0 result.1
+    ensures machine { (count : ℕ) → ObeysHeldSteady C.Store X.Meaning X.Key.bytes X.Value.bytes X.Digest.bytes table.now.items count held count result.0 result.1
         (λ s. machine.apply X.scheme s number) }
-    ensures left { (count : ℕ) → LeavesHeldSteady C.Store X.Words table.now.items count held result.0
+    ensures left { (count : ℕ) → LeavesHeldSteady C.Store X.Meaning table.now.items count held result.0
         (λ s. machine.apply X.scheme s number) }
     ensures uses { Uses C.Store (store_given X.inside held) (store_given X.inside result.0) result.1 }
 {

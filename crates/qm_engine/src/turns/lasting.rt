@@ -6,7 +6,7 @@ ghost use Rattle.qm_store.specs.Given.{store_given};
 ghost use Rattle.qm_engine.specs.Session.{ObeysHeld, ObeysHeldSteady, LeavesHeld, LeavesHeldSteady, Handles, HandlesLine};
 ghost use Rattle.qm_engine.specs.Turn.{given_after, turn_settled};
 
-use crate::engine::{Basis, Lasting};
+use qm_offer::{Common, Durable};
 use crate::session::{Turn, into_store, no_database, turn_of};
 use qm_base::Error;
 use qm_chain::Policy;
@@ -15,7 +15,7 @@ use qm_store::{Given, Refusal, Store};
 use std::alloc::Global;
 
 /// Opens what the store keeps, whatever was open, and counts the opening.
-pub fn open<X: Lasting<C>, C: Store>(
+pub fn open<X: Durable<C>, C: Store>(
     alloc: Global,
     config: &X::Config,
     held: Given<X, C>,
@@ -23,8 +23,8 @@ pub fn open<X: Lasting<C>, C: Store>(
     max_size: Option<u64>,
 ) -> (Given<X, C>, Turn<X::Key, X::Value, X::Digest>)
     requires { opened.old + 1 < 2 ^ 64 }
-    ensures machine { (table : _) → ObeysHeldSteady C.Store X.Words X.Key.bytes X.Value.bytes X.Digest.bytes table opened.old held opened.new result.0 result.1 (λ s. machine.open_store X.scheme s max_size) }
-    ensures left { (table : _) (count : ℕ) → LeavesHeldSteady C.Store X.Words table count held result.0 (λ s. machine.open_store X.scheme s max_size) }
+    ensures machine { (table : _) → ObeysHeldSteady C.Store X.Meaning X.Key.bytes X.Value.bytes X.Digest.bytes table opened.old held opened.new result.0 result.1 (λ s. machine.open_store X.scheme s max_size) }
+    ensures left { (table : _) (count : ℕ) → LeavesHeldSteady C.Store X.Meaning table count held result.0 (λ s. machine.open_store X.scheme s max_size) }
     ensures handles { Handles C.Store (store_given X.inside held) (store_given X.inside result.0) result.1 }
     ensures opened { opened.new ≤ opened.old + 1 }
 {
@@ -41,7 +41,7 @@ pub fn open<X: Lasting<C>, C: Store>(
 }
 
 /// A store without a database, as it is.
-pub fn without_database<X: Basis<C>, C: Store>(
+pub fn without_database<X: Common<C>, C: Store>(
     store: C,
 ) -> (Given<X, C>, Turn<X::Key, X::Value, X::Digest>)
     ensures given { result.0 ≡ Given.Store store }
@@ -51,7 +51,7 @@ pub fn without_database<X: Basis<C>, C: Store>(
 }
 
 // What a commit, a sync or a prune came to.
-fn settled<X: Basis<C>, C: Store>(
+fn settled<X: Common<C>, C: Store>(
     settling: Result<X, Refusal<X, C>>,
 ) -> (Given<X, C>, Turn<X::Key, X::Value, X::Digest>)
     ensures given { result.0 ≡ given_after settling }
@@ -64,11 +64,11 @@ fn settled<X: Basis<C>, C: Store>(
 }
 
 /// Makes the operations stable.
-pub fn commit<X: Lasting<C>, C: Store>(
+pub fn commit<X: Durable<C>, C: Store>(
     held: Given<X, C>,
 ) -> (Given<X, C>, Turn<X::Key, X::Value, X::Digest>)
-    ensures machine { (table : _) (count : ℕ) → ObeysHeld C.Store X.Words X.Key.bytes X.Value.bytes X.Digest.bytes table count held result.0 result.1 machine.commit }
-    ensures left { (table : _) (count : ℕ) → LeavesHeld C.Store X.Words table count held result.0 machine.commit }
+    ensures machine { (table : _) (count : ℕ) → ObeysHeld C.Store X.Meaning X.Key.bytes X.Value.bytes X.Digest.bytes table count held result.0 result.1 machine.commit }
+    ensures left { (table : _) (count : ℕ) → LeavesHeld C.Store X.Meaning table count held result.0 machine.commit }
     ensures handles { Handles C.Store (store_given X.inside held) (store_given X.inside result.0) result.1 }
 {
     match held {
@@ -78,11 +78,11 @@ pub fn commit<X: Lasting<C>, C: Store>(
 }
 
 /// Makes all that the store holds stable.
-pub fn sync<X: Lasting<C>, C: Store>(
+pub fn sync<X: Durable<C>, C: Store>(
     held: Given<X, C>,
 ) -> (Given<X, C>, Turn<X::Key, X::Value, X::Digest>)
-    ensures machine { (table : _) (count : ℕ) → ObeysHeld C.Store X.Words X.Key.bytes X.Value.bytes X.Digest.bytes table count held result.0 result.1 machine.commit }
-    ensures left { (table : _) (count : ℕ) → LeavesHeld C.Store X.Words table count held result.0 machine.commit }
+    ensures machine { (table : _) (count : ℕ) → ObeysHeld C.Store X.Meaning X.Key.bytes X.Value.bytes X.Digest.bytes table count held result.0 result.1 machine.commit }
+    ensures left { (table : _) (count : ℕ) → LeavesHeld C.Store X.Meaning table count held result.0 machine.commit }
     ensures handles { Handles C.Store (store_given X.inside held) (store_given X.inside result.0) result.1 }
 {
     match held {
@@ -92,13 +92,13 @@ pub fn sync<X: Lasting<C>, C: Store>(
 }
 
 /// Takes the operations before a location away, and makes all others stable.
-pub fn prune<X: Lasting<C>, C: Store>(
+pub fn prune<X: Durable<C>, C: Store>(
     alloc: Global,
     held: Given<X, C>,
     to: u64,
 ) -> (Given<X, C>, Turn<X::Key, X::Value, X::Digest>)
-    ensures machine { (table : _) (count : ℕ) → ObeysHeldSteady C.Store X.Words X.Key.bytes X.Value.bytes X.Digest.bytes table count held count result.0 result.1 (λ s. machine.prune X.scheme s to) }
-    ensures left { (table : _) (count : ℕ) → LeavesHeldSteady C.Store X.Words table count held result.0 (λ s. machine.prune X.scheme s to) }
+    ensures machine { (table : _) (count : ℕ) → ObeysHeldSteady C.Store X.Meaning X.Key.bytes X.Value.bytes X.Digest.bytes table count held count result.0 result.1 (λ s. machine.prune X.scheme s to) }
+    ensures left { (table : _) (count : ℕ) → LeavesHeldSteady C.Store X.Meaning table count held result.0 (λ s. machine.prune X.scheme s to) }
     ensures handles { Handles C.Store (store_given X.inside held) (store_given X.inside result.0) result.1 }
 {
     match held {
@@ -108,11 +108,11 @@ pub fn prune<X: Lasting<C>, C: Store>(
 }
 
 /// Closes the database.
-pub fn close<X: Lasting<C>, C: Store>(
+pub fn close<X: Durable<C>, C: Store>(
     held: Given<X, C>,
 ) -> (Given<X, C>, Turn<X::Key, X::Value, X::Digest>)
-    ensures machine { (table : _) (count : ℕ) → ObeysHeld C.Store X.Words X.Key.bytes X.Value.bytes X.Digest.bytes table count held result.0 result.1 machine.close }
-    ensures left { (table : _) (count : ℕ) → LeavesHeld C.Store X.Words table count held result.0 machine.close }
+    ensures machine { (table : _) (count : ℕ) → ObeysHeld C.Store X.Meaning X.Key.bytes X.Value.bytes X.Digest.bytes table count held result.0 result.1 machine.close }
+    ensures left { (table : _) (count : ℕ) → LeavesHeld C.Store X.Meaning table count held result.0 machine.close }
     ensures handles { Handles C.Store (store_given X.inside held) (store_given X.inside result.0) result.1 }
 {
     match held {
@@ -122,11 +122,11 @@ pub fn close<X: Lasting<C>, C: Store>(
 }
 
 /// Closes the database, and empties the store.
-pub fn destroy<X: Lasting<C>, C: Store>(
+pub fn destroy<X: Durable<C>, C: Store>(
     held: Given<X, C>,
 ) -> (Given<X, C>, Turn<X::Key, X::Value, X::Digest>)
-    ensures machine { (table : _) (count : ℕ) → ObeysHeld C.Store X.Words X.Key.bytes X.Value.bytes X.Digest.bytes table count held result.0 result.1 machine.destroy }
-    ensures left { (table : _) (count : ℕ) → LeavesHeld C.Store X.Words table count held result.0 machine.destroy }
+    ensures machine { (table : _) (count : ℕ) → ObeysHeld C.Store X.Meaning X.Key.bytes X.Value.bytes X.Digest.bytes table count held result.0 result.1 machine.destroy }
+    ensures left { (table : _) (count : ℕ) → LeavesHeld C.Store X.Meaning table count held result.0 machine.destroy }
     ensures handles { Handles C.Store (store_given X.inside held) (store_given X.inside result.0) result.1 }
 {
     match held {
@@ -139,12 +139,12 @@ pub fn destroy<X: Lasting<C>, C: Store>(
 }
 
 /// Closes what is open, and has the store go through a crash, with the end that is asked for.
-pub fn crash<X: Lasting<C>, C: Store, P: Policy<X::Family, X::Key, X::Value>>(
+pub fn crash<X: Durable<C>, C: Store, P: Policy<X::Family, X::Key, X::Value>>(
     held: Given<X, C>,
     keep: u64,
 ) -> (Given<X, C>, Turn<X::Key, X::Value, X::Digest>)
-    ensures machine { (table : _) (count : ℕ) → ObeysHeldSteady C.Store X.Words X.Key.bytes X.Value.bytes X.Digest.bytes table count held count result.0 result.1 machine.crash }
-    ensures left { (table : _) (count : ℕ) → LeavesHeld C.Store X.Words table count held result.0 machine.crash }
+    ensures machine { (table : _) (count : ℕ) → ObeysHeldSteady C.Store X.Meaning X.Key.bytes X.Value.bytes X.Digest.bytes table count held count result.0 result.1 machine.crash }
+    ensures left { (table : _) (count : ℕ) → LeavesHeld C.Store X.Meaning table count held result.0 machine.crash }
     ensures handles { HandlesLine {P = P} C.Store (Crash keep) (store_given X.inside held) (store_given X.inside result.0) result.1 }
 {
     let mut store = into_store::<X, C>(held);

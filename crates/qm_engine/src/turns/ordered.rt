@@ -8,10 +8,10 @@ ghost use Rattle.qm_lines.specs.Views.{answer_view};
 ghost use Rattle.qm_store.specs.Given.{store_given, IsUnchanged, TellsFrom};
 ghost use Rattle.qm_engine.specs.Ordered.{key_beside, answer_to};
 ghost use Rattle.qm_engine.specs.Session.{Obeys, IfReply, Uses};
-ghost use Rattle.qm_engine.specs.Words.{AtTip, CanRead, IsReadFailure, ReadsOnly};
+ghost use Rattle.qm_offer.specs.Words.{AtTip, CanRead, IsReadFailure, ReadsOnly};
 
-use crate::engine::Neighbours;
-use crate::session::{Of, Turn, no_database, no_such_handle, turn_of};
+use qm_offer::Neighbours;
+use crate::session::{SessionOf, Turn, no_database, no_such_handle, turn_of};
 use crate::table::merkleized_at;
 use qm_base::{Error, JournalError};
 use qm_lines::{Refused, Reply};
@@ -49,7 +49,7 @@ fn reply_to<X: Neighbours<C>, C: Store>(
 ) -> Turn<X::Key, X::Value, X::Digest>
     ensures reply { IfReply result (λ r. X.scheme.form.ordered ≡ true → (list : List Operation) → X.stands database.old list → TellsFrom C.Store (X.inside database.old) list
         → answer_view X.Key.bytes X.Value.bytes X.Digest.bytes r ≡ answer_to X.Key.bytes question.entry list) }
-    ensures reads { ReadsOnly X.Words C.Store database.old database.new (result ≡ Turn.StoreFault) }
+    ensures reads { ReadsOnly X.Meaning C.Store database.old database.new (result ≡ Turn.StoreFault) }
 {
     match question {
         Question::Beside(Side::Above, key) => match database.next(alloc, key) {
@@ -82,10 +82,10 @@ fn reply_to<X: Neighbours<C>, C: Store>(
 /// Answers a question from the database alone.
 pub fn ask<X: Neighbours<C>, C: Store>(
     alloc: Global,
-    session: &mut Of<X, C>,
+    session: &mut SessionOf<X, C>,
     question: Question<'_, X::Key>,
 ) -> Turn<X::Key, X::Value, X::Digest>
-    ensures machine { Obeys C.Store X.Words X.Key.bytes X.Value.bytes X.Digest.bytes session.old session.new result
+    ensures machine { Obeys C.Store X.Meaning X.Key.bytes X.Value.bytes X.Digest.bytes session.old session.new result
         (λ s. machine.if_ordered X.scheme s (machine.with_database s s.database (λ list. (answer_to X.Key.bytes question.entry list, s)))) }
     ensures store { IsUnchanged C.Store (store_given X.inside session.old.held) (store_given X.inside session.new.held) }
     ensures uses { Uses C.Store (store_given X.inside session.old.held) (store_given X.inside session.new.held) result }
@@ -108,11 +108,11 @@ fn beside_from<X: Neighbours<C>, C: Store>(
     side: Side,
     key: &X::Key,
 ) -> Result<Option<X::Key>, Error>
-    ensures readable { IfOk result (λ _. X.scheme.form.ordered ≡ true → AtTip X.Words database.old batch.now (λ list chain tip. CanRead X.Words list chain tip)) }
-    ensures beside { IfOk result (λ k. X.scheme.form.ordered ≡ true → AtTip X.Words database.old batch.now (λ list chain tip. IsKnown list chain tip
+    ensures readable { IfOk result (λ _. X.scheme.form.ordered ≡ true → AtTip X.Meaning database.old batch.now (λ list chain tip. CanRead X.Meaning list chain tip)) }
+    ensures beside { IfOk result (λ k. X.scheme.form.ordered ≡ true → AtTip X.Meaning database.old batch.now (λ list chain tip. IsKnown list chain tip
         → option_map X.Key.bytes k ≡ key_beside side (X.Key.bytes key.now) (live_keys tip))) }
-    ensures failure { IfErr result (λ e. AtTip X.Words database.old batch.now (λ list chain tip. IsReadFailure X.Words (TellsFrom C.Store (X.inside database.old) list) list chain tip e)) }
-    ensures reads { ReadsOnly X.Words C.Store database.old database.new (IsErrOf result (Error.Journal JournalError.Store)) }
+    ensures failure { IfErr result (λ e. AtTip X.Meaning database.old batch.now (λ list chain tip. IsReadFailure X.Meaning (TellsFrom C.Store (X.inside database.old) list) list chain tip e)) }
+    ensures reads { ReadsOnly X.Meaning C.Store database.old database.new (IsErrOf result (Error.Journal JournalError.Store)) }
 {
     match side {
         Side::Above => database.next_from(alloc, batch, key),
@@ -123,12 +123,12 @@ fn beside_from<X: Neighbours<C>, C: Store>(
 /// The nearest live key on a side of this one, through a merkleized batch where its number is given.
 pub fn beside<X: Neighbours<C>, C: Store>(
     alloc: Global,
-    session: &mut Of<X, C>,
+    session: &mut SessionOf<X, C>,
     side: Side,
     key: &X::Key,
     from: Option<u64>,
 ) -> Turn<X::Key, X::Value, X::Digest>
-    ensures machine { Obeys C.Store X.Words X.Key.bytes X.Value.bytes X.Digest.bytes session.old session.new result
+    ensures machine { Obeys C.Store X.Meaning X.Key.bytes X.Value.bytes X.Digest.bytes session.old session.new result
         (λ s. machine.if_ordered X.scheme s (machine.beside_of X.scheme s (key_beside side (X.Key.bytes key.now)) from)) }
     ensures store { IsUnchanged C.Store (store_given X.inside session.old.held) (store_given X.inside session.new.held) }
     ensures uses { Uses C.Store (store_given X.inside session.old.held) (store_given X.inside session.new.held) result }

@@ -5,8 +5,8 @@ ghost use Rattle.qm_machine.specs.Machine as machine;
 ghost use Rattle.qm_store.specs.Given.{store_given, IsUnchanged};
 ghost use Rattle.qm_engine.specs.Session.{Obeys, Tells, Uses};
 
-use crate::engine::Proving;
-use crate::session::{Of, Turn, no_database, no_such_handle, turn_of};
+use qm_offer::Proving;
+use crate::session::{SessionOf, Turn, no_database, no_such_handle, turn_of};
 use crate::table::merkleized_at;
 use qm_lines::Reply;
 use qm_proofs::Proof;
@@ -17,10 +17,10 @@ use std::num::NonZeroU64;
 /// The proof of a merkleized batch's own operations, and the pins at the list that it was made from.
 pub fn batch_proof<X: Proving<C>, C: Store>(
     alloc: Global,
-    session: &Of<X, C>,
+    session: &SessionOf<X, C>,
     number: u64,
 ) -> Turn<X::Key, X::Value, X::Digest>
-    ensures machine { Tells C.Store X.Words X.Key.bytes X.Value.bytes X.Digest.bytes session.now result
+    ensures machine { Tells C.Store X.Meaning X.Key.bytes X.Value.bytes X.Digest.bytes session.now result
         (λ s. machine.batch_proof X.scheme s number) }
     ensures never { result ≢ Turn.StoreFault }
 {
@@ -46,12 +46,12 @@ pub fn batch_proof<X: Proving<C>, C: Store>(
 /// Operations from `start` on, at most `max`, and their proof in the list of the first `size` operations.
 pub fn prove<X: Proving<C>, C: Store>(
     alloc: Global,
-    session: &mut Of<X, C>,
+    session: &mut SessionOf<X, C>,
     size: u64,
     start: u64,
     max: NonZeroU64,
 ) -> Turn<X::Key, X::Value, X::Digest>
-    ensures machine { Obeys C.Store X.Words X.Key.bytes X.Value.bytes X.Digest.bytes session.old session.new result
+    ensures machine { Obeys C.Store X.Meaning X.Key.bytes X.Value.bytes X.Digest.bytes session.old session.new result
         (λ s. machine.prove X.scheme s size start (non_zero_u64_get max)) }
     ensures store { IsUnchanged C.Store (store_given X.inside session.old.held) (store_given X.inside session.new.held) }
     ensures uses { Uses C.Store (store_given X.inside session.old.held) (store_given X.inside session.new.held) result }
@@ -76,10 +76,10 @@ pub fn prove<X: Proving<C>, C: Store>(
 /// The pins at a location.
 pub fn pins<X: Proving<C>, C: Store>(
     alloc: Global,
-    session: &Of<X, C>,
+    session: &SessionOf<X, C>,
     at: u64,
 ) -> Turn<X::Key, X::Value, X::Digest>
-    ensures machine { Tells C.Store X.Words X.Key.bytes X.Value.bytes X.Digest.bytes session.now result
+    ensures machine { Tells C.Store X.Meaning X.Key.bytes X.Value.bytes X.Digest.bytes session.now result
         (λ s. machine.pins X.scheme s at) }
     ensures never { result ≢ Turn.StoreFault }
 {

@@ -7,8 +7,8 @@ ghost use Rattle.qm_machine.specs.Machine as machine;
 ghost use Rattle.qm_store.specs.Given.{store_given, IsUnchanged, TellsFrom};
 ghost use Rattle.qm_engine.specs.Session.{SlotIs, Answers, Obeys, Tells, Uses};
 
-use crate::engine::{Basis, BatchSizes, Numbers, Reading};
-use crate::session::{Of, Turn, no_database, no_such_handle, turn_of};
+use qm_offer::{Common, BatchSizes, Numbers, Reading};
+use crate::session::{SessionOf, Turn, no_database, no_such_handle, turn_of};
 use crate::table::{Slot, merkleized_at, slot_at};
 use qm_base::ByteString;
 use qm_lines::{Refused, Reply};
@@ -24,8 +24,8 @@ fn read_slot<X: Reading<C>, C: Store>(
     keys: &[X::Key],
 ) -> Turn<X::Key, X::Value, X::Digest>
     ensures machine { (s : State) (list : List Operation) (named : machine.Slot) → TellsFrom C.Store (X.inside database.old) list → X.stands database.old list → Contains s.had list
-        → SlotIs C.Store X.Words s.had slot.now named
-        → Answers C.Store X.Words X.Key.bytes X.Value.bytes X.Digest.bytes result s (machine.read_in X.scheme s number (map X.Key.bytes keys.now) list named) }
+        → SlotIs C.Store X.Meaning s.had slot.now named
+        → Answers C.Store X.Meaning X.Key.bytes X.Value.bytes X.Digest.bytes result s (machine.read_in X.scheme s number (map X.Key.bytes keys.now) list named) }
     ensures same { (list : List Operation) → X.stands database.old list → X.stands database.new list }
     ensures store { IsUnchanged C.Store (X.inside database.old) (X.inside database.new) }
     ensures uses { Uses C.Store (X.inside database.old) (X.inside database.new) result }
@@ -46,11 +46,11 @@ fn read_slot<X: Reading<C>, C: Store>(
 /// Reads the values of keys, through a batch where its number is given.
 pub fn read<X: Reading<C>, C: Store>(
     alloc: Global,
-    session: &mut Of<X, C>,
+    session: &mut SessionOf<X, C>,
     keys: &[X::Key],
     from: Option<u64>,
 ) -> Turn<X::Key, X::Value, X::Digest>
-    ensures machine { Obeys C.Store X.Words X.Key.bytes X.Value.bytes X.Digest.bytes session.old session.new result
+    ensures machine { Obeys C.Store X.Meaning X.Key.bytes X.Value.bytes X.Digest.bytes session.old session.new result
         (λ s. machine.read X.scheme s (map X.Key.bytes keys.now) from) }
     ensures store { IsUnchanged C.Store (store_given X.inside session.old.held) (store_given X.inside session.new.held) }
     ensures uses { Uses C.Store (store_given X.inside session.old.held) (store_given X.inside session.new.held) result }
@@ -84,11 +84,11 @@ fn alone<K: ByteString>(alloc: Global, key: &K) -> Result<Vec<K>, AllocError>
 /// Reads the value of a key, through a batch where its number is given.
 pub fn read_key<X: Reading<C>, C: Store>(
     alloc: Global,
-    session: &mut Of<X, C>,
+    session: &mut SessionOf<X, C>,
     key: &X::Key,
     from: Option<u64>,
 ) -> Turn<X::Key, X::Value, X::Digest>
-    ensures machine { Obeys C.Store X.Words X.Key.bytes X.Value.bytes X.Digest.bytes session.old session.new result
+    ensures machine { Obeys C.Store X.Meaning X.Key.bytes X.Value.bytes X.Digest.bytes session.old session.new result
         (λ s. machine.read X.scheme s (X.Key.bytes key.now ∷ []) from) }
     ensures store { IsUnchanged C.Store (store_given X.inside session.old.held) (store_given X.inside session.new.held) }
     ensures uses { Uses C.Store (store_given X.inside session.old.held) (store_given X.inside session.new.held) result }
@@ -103,10 +103,10 @@ pub fn read_key<X: Reading<C>, C: Store>(
 /// A merkleized batch's own operations, and the size of the list that it was made from.
 pub fn ops<X: Reading<C>, C: Store>(
     alloc: Global,
-    session: &Of<X, C>,
+    session: &SessionOf<X, C>,
     number: u64,
 ) -> Turn<X::Key, X::Value, X::Digest>
-    ensures machine { Tells C.Store X.Words X.Key.bytes X.Value.bytes X.Digest.bytes session.now result
+    ensures machine { Tells C.Store X.Meaning X.Key.bytes X.Value.bytes X.Digest.bytes session.now result
         (λ s. machine.ops s number) }
     ensures never { result ≢ Turn.StoreFault }
 {
@@ -120,8 +120,8 @@ pub fn ops<X: Reading<C>, C: Store>(
 }
 
 /// What only a current database offers.
-pub fn current<X: Basis<C>, C: Store>(session: &Of<X, C>) -> Turn<X::Key, X::Value, X::Digest>
-    ensures machine { Tells C.Store X.Words X.Key.bytes X.Value.bytes X.Digest.bytes session.now result
+pub fn current<X: Common<C>, C: Store>(session: &SessionOf<X, C>) -> Turn<X::Key, X::Value, X::Digest>
+    ensures machine { Tells C.Store X.Meaning X.Key.bytes X.Value.bytes X.Digest.bytes session.now result
         (λ s. machine.refuse s refusals.NotOffered) }
     ensures never { result ≢ Turn.StoreFault }
 {
@@ -129,8 +129,8 @@ pub fn current<X: Basis<C>, C: Store>(session: &Of<X, C>) -> Turn<X::Key, X::Val
 }
 
 /// The numbers of the database.
-pub fn info<X: Basis<C>, C: Store>(session: &Of<X, C>) -> Turn<X::Key, X::Value, X::Digest>
-    ensures machine { Tells C.Store X.Words X.Key.bytes X.Value.bytes X.Digest.bytes session.now result
+pub fn info<X: Common<C>, C: Store>(session: &SessionOf<X, C>) -> Turn<X::Key, X::Value, X::Digest>
+    ensures machine { Tells C.Store X.Meaning X.Key.bytes X.Value.bytes X.Digest.bytes session.now result
         (machine.info X.scheme) }
     ensures never { result ≢ Turn.StoreFault }
 {
@@ -148,11 +148,11 @@ pub fn info<X: Basis<C>, C: Store>(session: &Of<X, C>) -> Turn<X::Key, X::Value,
 }
 
 /// The numbers of a merkleized batch.
-pub fn batch_info<X: Basis<C>, C: Store>(
-    session: &Of<X, C>,
+pub fn batch_info<X: Common<C>, C: Store>(
+    session: &SessionOf<X, C>,
     number: u64,
 ) -> Turn<X::Key, X::Value, X::Digest>
-    ensures machine { Tells C.Store X.Words X.Key.bytes X.Value.bytes X.Digest.bytes session.now result
+    ensures machine { Tells C.Store X.Meaning X.Key.bytes X.Value.bytes X.Digest.bytes session.now result
         (λ s. machine.batch_info X.scheme s number) }
     ensures never { result ≢ Turn.StoreFault }
 {
@@ -171,9 +171,9 @@ pub fn batch_info<X: Basis<C>, C: Store>(
 /// The root of the database.
 pub fn root<X: Reading<C>, C: Store>(
     alloc: Global,
-    session: &Of<X, C>,
+    session: &SessionOf<X, C>,
 ) -> Turn<X::Key, X::Value, X::Digest>
-    ensures machine { Tells C.Store X.Words X.Key.bytes X.Value.bytes X.Digest.bytes session.now result
+    ensures machine { Tells C.Store X.Meaning X.Key.bytes X.Value.bytes X.Digest.bytes session.now result
         (machine.root X.scheme) }
     ensures never { result ≢ Turn.StoreFault }
 {
@@ -188,10 +188,10 @@ pub fn root<X: Reading<C>, C: Store>(
 
 /// The root of the list that a merkleized batch makes.
 pub fn batch_root<X: Reading<C>, C: Store>(
-    session: &Of<X, C>,
+    session: &SessionOf<X, C>,
     number: u64,
 ) -> Turn<X::Key, X::Value, X::Digest>
-    ensures machine { Tells C.Store X.Words X.Key.bytes X.Value.bytes X.Digest.bytes session.now result
+    ensures machine { Tells C.Store X.Meaning X.Key.bytes X.Value.bytes X.Digest.bytes session.now result
         (λ s. machine.batch_root X.scheme s number) }
     ensures never { result ≢ Turn.StoreFault }
 {
@@ -205,9 +205,9 @@ pub fn batch_root<X: Reading<C>, C: Store>(
 /// The metadata of the list's last commit.
 pub fn meta<X: Reading<C>, C: Store>(
     alloc: Global,
-    session: &Of<X, C>,
+    session: &SessionOf<X, C>,
 ) -> Turn<X::Key, X::Value, X::Digest>
-    ensures machine { Tells C.Store X.Words X.Key.bytes X.Value.bytes X.Digest.bytes session.now result
+    ensures machine { Tells C.Store X.Meaning X.Key.bytes X.Value.bytes X.Digest.bytes session.now result
         (machine.meta) }
     ensures never { result ≢ Turn.StoreFault }
 {

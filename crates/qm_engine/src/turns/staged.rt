@@ -7,28 +7,28 @@ ghost use Rattle.qm_model.specs.Slots.{slotted};
 ghost use Rattle.qm_machine.specs.Machine as machine;
 ghost use Rattle.qm_store.specs.Given.{store_given, IsUnchanged, TellsFrom};
 ghost use Rattle.qm_engine.specs.Table.{staged_of};
-ghost use Rattle.qm_engine.specs.Words.{AtStaged, ReadsOnly, tip_of};
+ghost use Rattle.qm_offer.specs.Words.{AtStaged, ReadsOnly, tip_of};
 ghost use Rattle.qm_engine.specs.Making.{IsMaking};
 ghost use Rattle.qm_engine.specs.Session.{Obeys, ObeysSteady, Uses};
 
 use super::batches::put_made;
-use crate::engine::Staging;
-use crate::session::{Of, Turn, no_database, no_such_handle, turn_of};
+use qm_offer::Staging;
+use crate::session::{SessionOf, Turn, no_database, no_such_handle, turn_of};
 use crate::table::{Slot, put_slot, take_staged, take_writing};
-use qm_base::{Error, JournalError, Twin};
+use qm_base::{Error, JournalError, Resolution, Twin};
 use qm_chain::Policy;
-use qm_lines::{Refused, Reply, Resolution};
+use qm_lines::{Refused, Reply};
 use qm_store::{Given, Store};
 use std::alloc::Global;
 
 /// Reads the values of keys through a batch, which becomes a staged one and keeps its number.
 pub fn stage<X: Staging<C>, C: Store>(
     alloc: Global,
-    session: &mut Of<X, C>,
+    session: &mut SessionOf<X, C>,
     number: u64,
     keys: &[X::Key],
 ) -> Turn<X::Key, X::Value, X::Digest>
-    ensures machine { Obeys C.Store X.Words X.Key.bytes X.Value.bytes X.Digest.bytes session.old session.new result
+    ensures machine { Obeys C.Store X.Meaning X.Key.bytes X.Value.bytes X.Digest.bytes session.old session.new result
         (λ s. machine.stage X.scheme s number (map X.Key.bytes keys.now)) }
     ensures store { IsUnchanged C.Store (store_given X.inside session.old.held) (store_given X.inside session.new.held) }
     ensures uses { Uses C.Store (store_given X.inside session.old.held) (store_given X.inside session.new.held) result }
@@ -52,11 +52,11 @@ pub fn stage<X: Staging<C>, C: Store>(
 /// Reads the values of more keys through a staged batch, which keeps its number.
 pub fn expand<X: Staging<C>, C: Store>(
     alloc: Global,
-    session: &mut Of<X, C>,
+    session: &mut SessionOf<X, C>,
     number: u64,
     keys: &[X::Key],
 ) -> Turn<X::Key, X::Value, X::Digest>
-    ensures machine { Obeys C.Store X.Words X.Key.bytes X.Value.bytes X.Digest.bytes session.old session.new result
+    ensures machine { Obeys C.Store X.Meaning X.Key.bytes X.Value.bytes X.Digest.bytes session.old session.new result
         (λ s. machine.expand X.scheme s number (map X.Key.bytes keys.now)) }
     ensures store { IsUnchanged C.Store (store_given X.inside session.old.held) (store_given X.inside session.new.held) }
     ensures uses { Uses C.Store (store_given X.inside session.old.held) (store_given X.inside session.new.held) result }
@@ -111,9 +111,9 @@ fn resolve_batch<X: Staging<C>, C: Store, P: Policy<X::Family, X::Key, X::Value>
     metadata: &Option<X::Value>,
 ) -> Result<X::Merkleized, Error>
     requires { length resolution.now.slots.items ≡ X.count batch }
-    ensures made { AtStaged X.Words database.old batch (λ list chain above ws keys. TellsFrom C.Store (X.inside database.old) list → (IsOnChain list chain → floor list ≤ floor chain.base)
-        → IsMaking X.Words list chain (tip_of X.scheme P.rules chain (slotted ws keys (slot_views X.Value.bytes resolution.now.slots.items) (write_views X.Key.bytes X.Value.bytes resolution.now.others.items)) policy.now (option_map X.Value.bytes metadata.now)) result) }
-    ensures reads { ReadsOnly X.Words C.Store database.old database.new (IsErrOf result (Error.Journal JournalError.Store)) }
+    ensures made { AtStaged X.Meaning database.old batch (λ list chain above ws keys. TellsFrom C.Store (X.inside database.old) list → (IsOnChain list chain → floor list ≤ floor chain.base)
+        → IsMaking X.Meaning list chain (tip_of X.scheme P.rules chain (slotted ws keys (slot_views X.Value.bytes resolution.now.slots.items) (write_views X.Key.bytes X.Value.bytes resolution.now.others.items)) policy.now (option_map X.Value.bytes metadata.now)) result) }
+    ensures reads { ReadsOnly X.Meaning C.Store database.old database.new (IsErrOf result (Error.Journal JournalError.Store)) }
 {
     let mut policy = policy.twin(alloc)?;
     database.resolve(alloc, batch, resolution, &mut policy, metadata)
@@ -123,13 +123,13 @@ fn resolve_batch<X: Staging<C>, C: Store, P: Policy<X::Family, X::Key, X::Value>
 /// stays a staged one.
 pub fn resolve<X: Staging<C>, C: Store, P: Policy<X::Family, X::Key, X::Value> + Twin>(
     alloc: Global,
-    session: &mut Of<X, C>,
+    session: &mut SessionOf<X, C>,
     number: u64,
     policy: &P,
     metadata: &Option<X::Value>,
     resolution: &Resolution<X::Key, X::Value>,
 ) -> Turn<X::Key, X::Value, X::Digest>
-    ensures machine { ObeysSteady C.Store X.Words X.Key.bytes X.Value.bytes X.Digest.bytes session.old session.new result
+    ensures machine { ObeysSteady C.Store X.Meaning X.Key.bytes X.Value.bytes X.Digest.bytes session.old session.new result
         (λ s. machine.resolve X.scheme P.rules s number policy.now (option_map X.Value.bytes metadata.now) (slot_views X.Value.bytes resolution.now.slots.items) (write_views X.Key.bytes X.Value.bytes resolution.now.others.items)) }
     ensures store { IsUnchanged C.Store (store_given X.inside session.old.held) (store_given X.inside session.new.held) }
     ensures uses { Uses C.Store (store_given X.inside session.old.held) (store_given X.inside session.new.held) result }

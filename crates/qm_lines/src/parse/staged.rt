@@ -9,8 +9,8 @@ use super::merkleize::parse_merkleizing;
 use super::numbers::number;
 use super::pieces::{is, pieces};
 use super::unread::Unread;
-use crate::command::{BatchCommand, Command, Resolution};
-use qm_base::{ByteKey, ByteValue, Slot, Write};
+use crate::command::{BatchCommand, Command};
+use qm_base::{ByteKey, ByteValue, Resolution, Slot, Write};
 use std::alloc::{AllocError, Global};
 
 // A word for itself, or a value behind a name.

@@ -3,7 +3,7 @@ use crate::database::{Database, Kind, refusal};
 use qm_any::batch::MerkleizedBatch;
 use qm_base::{ByteKey, ByteValue, Error, Location, twin_option};
 use qm_chain::Policy;
-use qm_engine::Batching;
+use qm_offer::Batching;
 use qm_index::{Factory, FourCap};
 use qm_merkle::mmr;
 use qm_store::{Refusal, Store};

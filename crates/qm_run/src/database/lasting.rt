@@ -2,7 +2,7 @@
 use crate::database::{Database, Kind, kept_keys, refusal};
 use qm_any::{Config, init};
 use qm_base::{ByteKey, ByteValue, Location, Sha256};
-use qm_engine::Lasting;
+use qm_offer::Durable;
 use qm_index::{Factory, FourCap};
 use qm_merkle::mmr;
 use qm_store::{Refusal, Store};
@@ -12,7 +12,7 @@ impl<
     C: Store + Drop,
     I: Factory<Value = Location<mmr::Family>, Translator = FourCap> + Drop,
     U: Kind<I, Key = ByteKey, Value = ByteValue>,
-> Lasting<C> for Database<C, I, U> {
+> Durable<C> for Database<C, I, U> {
     type Config = ();
 
     fn open(

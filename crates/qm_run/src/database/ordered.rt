@@ -2,10 +2,9 @@
 use crate::database::{Database, Kind};
 use crate::listed::span_from;
 use crate::ranges::{keys_of, pairs_of};
-use qm_base::{ByteKey, ByteValue, Error, Location};
-use qm_engine::Neighbours;
+use qm_base::{ByteKey, ByteValue, Error, Location, Span};
+use qm_offer::Neighbours;
 use qm_index::{Factory, FourCap};
-use qm_lines::Span;
 use qm_merkle::mmr;
 use qm_store::Store;
 use std::alloc::Global;

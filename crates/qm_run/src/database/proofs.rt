@@ -1,10 +1,9 @@
 // Proofs and pins.
 use crate::database::{Database, Kind};
 use crate::listed::listed;
-use qm_base::{ByteKey, ByteValue, Error, Location, Sha256Digest};
-use qm_engine::Proving;
+use qm_base::{ByteKey, ByteValue, Error, Listed, Location, Sha256Digest};
+use qm_offer::Proving;
 use qm_index::{Factory, FourCap};
-use qm_lines::Listed;
 use qm_merkle::mmr;
 use qm_proofs::Proof;
 use qm_store::Store;

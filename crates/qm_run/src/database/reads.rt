@@ -1,10 +1,9 @@
 // Reads of a database, and of its batches.
 use crate::database::{Database, Kind};
 use crate::listed::listed;
-use qm_base::{ByteKey, ByteValue, Error, Location, Sha256Digest};
-use qm_engine::Reading;
+use qm_base::{ByteKey, ByteValue, Error, Listed, Location, Sha256Digest};
+use qm_offer::Reading;
 use qm_index::{Factory, FourCap};
-use qm_lines::Listed;
 use qm_merkle::mmr;
 use qm_store::Store;
 use std::alloc::{AllocError, Global};

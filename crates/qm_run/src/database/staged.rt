@@ -1,11 +1,10 @@
 // Staged batches.
 use crate::database::{Database, Kind};
 use crate::listed::twin_keys;
-use qm_base::{ByteKey, ByteValue, Error, Location, twin_option};
+use qm_base::{ByteKey, ByteValue, Error, Location, Resolution, twin_option};
 use qm_chain::Policy;
-use qm_engine::Staging;
+use qm_offer::Staging;
 use qm_index::{Factory, FourCap};
-use qm_lines::Resolution;
 use qm_merkle::mmr;
 use qm_store::Store;
 use std::alloc::Global;

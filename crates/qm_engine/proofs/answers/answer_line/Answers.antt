@@ -19,10 +19,10 @@ use Rattle.qm_engine.proofs.answers.answer_line.Goals as goal
 
 pub returns-in-Err : goal.returns-in-Err
 returns-in-Err g c =
-    let told = g.C.Store.told (store_given g.X.Words.inside c.args.session.held) in
+    let told = g.C.Store.told (store_given g.X.Meaning.inside c.args.session.held) in
     record {
       machine = λ s k sound more rest told choices. tt;
-      left = λ s k sound apart. left_none g.X.Words.scheme s.log _ told k.store.told;
+      left = λ s k sound apart. left_none g.X.Meaning.scheme s.log _ told k.store.told;
       kept = refl;
       command = tt;
       unused = λ none. refl;
@@ -37,10 +37,10 @@ returns-in-Err g c =
 
 pub returns-in-Ok-None : goal.returns-in-Ok-None
 returns-in-Ok-None g c =
-    let told = g.C.Store.told (store_given g.X.Words.inside c.args.session.held) in
+    let told = g.C.Store.told (store_given g.X.Meaning.inside c.args.session.held) in
     record {
       machine = λ s k sound more rest told choices. tt;
-      left = λ s k sound apart. left_none g.X.Words.scheme s.log _ told k.store.told;
+      left = λ s k sound apart. left_none g.X.Meaning.scheme s.log _ told k.store.told;
       kept = refl;
       command = tt;
       unused = λ none. refl;
@@ -59,14 +59,14 @@ returns-in-Ok-Some g c =
     let beside = c.answer-answered.ensures.beside in
     record {
       machine = λ s k sound more rest told choices.
-          subst (λ (o : Option (Line Policy)). IfNone c.answer-answered.result.1 (IfSome o (λ command. Apart g.X.Words.scheme.root (turn g.X.Words.scheme policies s command).1.had
-          → (c.answer-answered.new.text.items ≡ c.args.text.now.items ++ (reply_line (turn g.X.Words.scheme policies s command).0 ++ 10 ∷ []))
-          × Holds g.C.Store g.X.Words c.answer-answered.result.0.held c.answer-answered.result.0.table.items c.answer-answered.result.0.opened (turn g.X.Words.scheme policies s command).1))) line
-          (subst (λ (next : Answer × State). IfNone c.answer-answered.result.1 (Apart g.X.Words.scheme.root next.1.had → (c.answer-answered.new.text.items ≡ c.args.text.now.items ++ (reply_line next.0 ++ 10 ∷ []))
-          × Holds g.C.Store g.X.Words c.answer-answered.result.0.held c.answer-answered.result.0.table.items c.answer-answered.result.0.opened next.1)) (same_turn g.X.Words.scheme s c.in-Ok-Some.command) (c.answer-answered.ensures.machine s k sound more rest told choices));
+          subst (λ (o : Option (Line Policy)). IfNone c.answer-answered.result.1 (IfSome o (λ command. Apart g.X.Meaning.scheme.root (turn g.X.Meaning.scheme policies s command).1.had
+          → (c.answer-answered.new.text.items ≡ c.args.text.now.items ++ (reply_line (turn g.X.Meaning.scheme policies s command).0 ++ 10 ∷ []))
+          × Holds g.C.Store g.X.Meaning c.answer-answered.result.0.held c.answer-answered.result.0.table.items c.answer-answered.result.0.opened (turn g.X.Meaning.scheme policies s command).1))) line
+          (subst (λ (next : Answer × State). IfNone c.answer-answered.result.1 (Apart g.X.Meaning.scheme.root next.1.had → (c.answer-answered.new.text.items ≡ c.args.text.now.items ++ (reply_line next.0 ++ 10 ∷ []))
+          × Holds g.C.Store g.X.Meaning c.answer-answered.result.0.held c.answer-answered.result.0.table.items c.answer-answered.result.0.opened next.1)) (same_turn g.X.Meaning.scheme s c.in-Ok-Some.command) (c.answer-answered.ensures.machine s k sound more rest told choices));
       left = λ s k sound apart.
-          subst (λ (o : Option (Line Policy)). IsLeft g.X.Words.scheme (g.C.Store.told (store_given g.X.Words.inside c.answer-answered.result.0.held)) s.log (after_line g.X.Words.scheme policies s o).log) line
-          (subst (λ (next : Answer × State). IsLeft g.X.Words.scheme (g.C.Store.told (store_given g.X.Words.inside c.answer-answered.result.0.held)) s.log next.1.log) (same_turn g.X.Words.scheme s c.in-Ok-Some.command) (c.answer-answered.ensures.left s k sound apart));
+          subst (λ (o : Option (Line Policy)). IsLeft g.X.Meaning.scheme (g.C.Store.told (store_given g.X.Meaning.inside c.answer-answered.result.0.held)) s.log (after_line g.X.Meaning.scheme policies s o).log) line
+          (subst (λ (next : Answer × State). IsLeft g.X.Meaning.scheme (g.C.Store.told (store_given g.X.Meaning.inside c.answer-answered.result.0.held)) s.log next.1.log) (same_turn g.X.Meaning.scheme s c.in-Ok-Some.command) (c.answer-answered.ensures.left s k sound apart));
       kept = c.answer-answered.ensures.kept;
       command = none-any c.answer-answered.result.1 (ap is_some (sym line));
       unused = λ none. absurd (none-not_some _ (sym (line ∙ none)));

@@ -2,7 +2,7 @@ use Rattle.std.proofs.Common.{length, ◌∙◌, ◌++◌, [], ap, append_assoc,
 use Rattle.std.specs.String.{string_bytes}
 use Rattle.qm_model.specs.Operations.{Bytes}
 use Rattle.qm_machine.specs.Text as texts
-use Rattle.qm_lines.specs.Views.{listed_view}
+use Rattle.qm_base.specs.Listed.{listed_view}
 use Rattle.qm_lines.proofs.Written.{all_written, fewer, one_more}
 use Rattle.qm_lines.proofs.text.write_operations.Goals as goal
 

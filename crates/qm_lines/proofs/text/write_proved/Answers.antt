@@ -1,7 +1,7 @@
 use Rattle.std.proofs.Common.{◌++◌, append_assoc, codes, decimal, map}
 use Rattle.std.specs.declared.alloc.AllocError.{AllocError}
 use Rattle.std.specs.String.{string_bytes}
-use Rattle.qm_lines.specs.Views.{listed_view}
+use Rattle.qm_base.specs.Listed.{listed_view}
 use Rattle.qm_machine.specs.Text as texts
 use Rattle.qm_lines.proofs.Written.{written_behind}
 use Rattle.qm_lines.proofs.text.write_proved.Goals as goal

@@ -1,5 +1,5 @@
 use Rattle.std.proofs.Common.{◌≡◌, take, map}
-use Rattle.qm_lines.specs.Views.{listed_view}
+use Rattle.qm_base.specs.Listed.{listed_view}
 use Rattle.qm_operations.specs.Views.{operation_views}
 use Rattle.qm_run.proofs.listed.listed.Given as goal
 

@@ -9,7 +9,7 @@ use Rattle.qm_engine.proofs.turns.batches.child.Goals as goal
 pub returns-in-Ok : goal.returns-in-Ok
 returns-in-Ok g c = record {
   machine = λ s k.
-      child_in g.C.Store g.X.Words g.X.Key.ByteString.bytes g.X.Value.ByteString.bytes g.X.Digest.Digest.bytes (Follows g.C.Store g.X.Words g.X.Key.ByteString.bytes g.X.Value.ByteString.bytes g.X.Digest.Digest.bytes c.started.new.session c.started.result)
+      child_in g.C.Store g.X.Meaning g.X.Key.ByteString.bytes g.X.Value.ByteString.bytes g.X.Digest.Digest.bytes (Follows g.C.Store g.X.Meaning g.X.Key.ByteString.bytes g.X.Value.ByteString.bytes g.X.Digest.Digest.bytes c.started.new.session c.started.result)
       c.args.number c.args.keep c.in-Some.batch.now c.in-Ok.made s (get_or c.args.session.now.table.items c.args.number Gone) (slot_at s.table c.args.number) (k.slots c.args.number) (sym c.in-Some.ensures)
       c.in-Ok.ensures (λ new is. c.started.ensures.machine s new k is);
   rest = c.started.ensures.rest;
@@ -17,9 +17,9 @@ returns-in-Ok g c = record {
 }
 
 pub returns-in-Err : goal.returns-in-Err
-returns-in-Err g c = no_room g.C.Store g.X.Words g.X.Key.ByteString.bytes g.X.Value.ByteString.bytes g.X.Digest.Digest.bytes c.args.session.now (λ s. child s c.args.number c.args.keep)
+returns-in-Err g c = no_room g.C.Store g.X.Meaning g.X.Key.ByteString.bytes g.X.Value.ByteString.bytes g.X.Digest.Digest.bytes c.args.session.now (λ s. child s c.args.number c.args.keep)
 
 pub returns-in_default : goal.returns-in_default
 returns-in_default g c =
-    none_made g.C.Store g.X.Words g.X.Key.ByteString.bytes g.X.Value.ByteString.bytes g.X.Digest.Digest.bytes c.args.session.now (λ s. start_child s c.args.number c.args.keep) c.args.number c.no_such_handle.ensures
-    (λ s slot. not_made g.C.Store g.X.Words (start_child s c.args.number c.args.keep) refl (λ chain above ws. refl) (λ chain above ws keys. refl) s.had _ _ slot c.in_default.ensures)
+    none_made g.C.Store g.X.Meaning g.X.Key.ByteString.bytes g.X.Value.ByteString.bytes g.X.Digest.Digest.bytes c.args.session.now (λ s. start_child s c.args.number c.args.keep) c.args.number c.no_such_handle.ensures
+    (λ s slot. not_made g.C.Store g.X.Meaning (start_child s c.args.number c.args.keep) refl (λ chain above ws. refl) (λ chain above ws keys. refl) s.had _ _ slot c.in_default.ensures)

@@ -3,15 +3,15 @@ use Rattle.qm_engine.proofs.turns.lasting.close.Goals as goal
 
 pub returns-in-Store-clause-left : goal.returns-in-Store-clause-left
 returns-in-Store-clause-left g c = λ table opened s k apart.
-    rw c.without_database.ensures.given (not_open-left g.C.Store g.X.Words g.X.Key.ByteString.bytes g.X.Value.ByteString.bytes g.X.Digest.Digest.bytes c.in-Store.store table opened s _ (rw c.in-Store.is at k))
+    rw c.without_database.ensures.given (not_open-left g.C.Store g.X.Meaning g.X.Key.ByteString.bytes g.X.Value.ByteString.bytes g.X.Digest.Digest.bytes c.in-Store.store table opened s _ (rw c.in-Store.is at k))
 
 pub returns-in-Store-clause-handles : goal.returns-in-Store-clause-handles
 returns-in-Store-clause-handles g c = rw (c.in-Store.is, c.without_database.ensures.given, c.without_database.ensures.turn) (same_handles g.C.Store c.in-Store.store _)
 
 pub returns-in-Database-clause-machine : goal.returns-in-Database-clause-machine
 returns-in-Database-clause-machine g c = λ table opened s k.
-    rw c.close.ensures (closed_turn g.C.Store g.X.Words g.X.Key.ByteString.bytes g.X.Value.ByteString.bytes g.X.Digest.Digest.bytes c.in-Database.x table opened s (rw c.in-Database.is at k))
+    rw c.close.ensures (closed_turn g.C.Store g.X.Meaning g.X.Key.ByteString.bytes g.X.Value.ByteString.bytes g.X.Digest.Digest.bytes c.in-Database.x table opened s (rw c.in-Database.is at k))
 
 pub returns-in-Database-clause-left : goal.returns-in-Database-clause-left
 returns-in-Database-clause-left g c = λ table opened s k apart.
-    rw c.close.ensures (closed_left g.C.Store g.X.Words g.X.Key.ByteString.bytes g.X.Value.ByteString.bytes g.X.Digest.Digest.bytes c.in-Database.x table opened s (rw c.in-Database.is at k))
+    rw c.close.ensures (closed_left g.C.Store g.X.Meaning g.X.Key.ByteString.bytes g.X.Value.ByteString.bytes g.X.Digest.Digest.bytes c.in-Database.x table opened s (rw c.in-Database.is at k))

@@ -9,7 +9,7 @@ use Rattle.qm_engine.proofs.turns.reads.meta.Goals as goal
 pub returns-in-Ok-clause-machine : goal.returns-in-Ok-clause-machine
 returns-in-Ok-clause-machine g c = λ s k apart.
     let held = rw c.in-Database.is at k in
-    rw c.in-Database.is (of_list g.C.Store g.X.Words c.in-Database.x c.args.session.now.table.items c.args.session.now.opened s (lines.Metadata (option_map g.X.Value.ByteString.bytes c.in-Ok.metadata)) (λ list. lines.Metadata (last_metadata list)) held (λ list stands. ap lines.Metadata (c.in-Ok.ensures list stands)))
+    rw c.in-Database.is (of_list g.C.Store g.X.Meaning c.in-Database.x c.args.session.now.table.items c.args.session.now.opened s (lines.Metadata (option_map g.X.Value.ByteString.bytes c.in-Ok.metadata)) (λ list. lines.Metadata (last_metadata list)) held (λ list stands. ap lines.Metadata (c.in-Ok.ensures list stands)))
 
 pub returns-in_default : goal.returns-in_default
-returns-in_default g c = none_told g.C.Store g.X.Words g.X.Key.ByteString.bytes g.X.Value.ByteString.bytes g.X.Digest.Digest.bytes c.args.session.now (λ s list. (lines.Metadata (last_metadata list), s)) c.in_default.is c.no_database.ensures
+returns-in_default g c = none_told g.C.Store g.X.Meaning g.X.Key.ByteString.bytes g.X.Value.ByteString.bytes g.X.Digest.Digest.bytes c.args.session.now (λ s list. (lines.Metadata (last_metadata list), s)) c.in_default.is c.no_database.ensures

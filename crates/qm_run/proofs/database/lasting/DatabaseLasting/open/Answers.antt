@@ -6,11 +6,11 @@ use Rattle.std.specs.Prelude.{IsSome}
 use Rattle.qm_model.specs.Causes.{Rose}
 use Rattle.qm_model.specs.Opening.{found, opening_refusal}
 use Rattle.qm_model.specs.StoreModel.{Turns}
-use Rattle.qm_machine.specs.Machine.{layout_of}
+use Rattle.qm_model.specs.Schemes.{layout_of}
 use Rattle.qm_any.specs.Databases.{IsDatabase}
 use Rattle.qm_store.specs.Given.{IsUnchanged, store_given}
 use Rattle.qm_store.specs.Refusals.{IsDue}
-use Rattle.qm_engine.specs.Stores.{selected_size, LeavesOpening}
+use Rattle.qm_model.specs.Taken.{selected_size, LeavesOpening}
 use Rattle.qm_run.specs.Databases.{layout}
 use Rattle.qm_run.specs.Schemes.{scheme}
 use Rattle.qm_run.proofs.Engines.{held-database}

@@ -11,7 +11,7 @@ use Rattle.qm_base.specs.declared.error.Error.TheVariants as errors
 use Rattle.qm_base.specs.declared.error.JournalError.TheVariants as journal
 use Rattle.qm_any.specs.Databases.{IsDatabase}
 use Rattle.qm_any.specs.Lasting.{boundary_of, HasLeftPruned, HasLeftStable}
-use Rattle.qm_engine.specs.Stores.{head_at, pruned_from, LeavesPruning}
+use Rattle.qm_model.specs.Taken.{head_at, pruned_from, LeavesPruning}
 use Rattle.qm_run.specs.Databases.{hashing, layout}
 use Rattle.qm_run.specs.Held.{held}
 use Rattle.qm_run.specs.Schemes.{scheme}

@@ -3,7 +3,7 @@ use Rattle.std.proofs.Common.{◌≡◌, Option, option_map}
 use Rattle.qm_model.proofs.Results.{err-then, ok-each, ok-then}
 use Rattle.qm_model.specs.Live.{live, live_of}
 use Rattle.qm_model.specs.Operations.{Bytes}
-use Rattle.qm_lines.specs.Views.{whole_view}
+use Rattle.qm_base.specs.Listed.{whole_view}
 use Rattle.qm_any.specs.Databases.{IsDatabase}
 use Rattle.qm_any.proofs.Reading.{left-database}
 use Rattle.qm_base.specs.declared.error.Error.TheVariants.{Journal}

@@ -1,7 +1,7 @@
 use Rattle.qm_model.specs.Mmr.{mmr}
 use Rattle.std.proofs.Common.{◌∙◌, option_map}
 use Rattle.qm_model.specs.Ranges.{span_of}
-use Rattle.qm_lines.specs.Views.{span_view}
+use Rattle.qm_base.specs.Listed.{span_view}
 use Rattle.qm_any.proofs.Reading.{left-database}
 use Rattle.qm_run.specs.Databases.{hashing, layout}
 use Rattle.qm_run.proofs.Engines.{left-store, none-below, log-untold, log-rose, log-kept, unoffered, unread-answer}

@@ -6,7 +6,7 @@ use Rattle.std.specs.Prelude.{IfErr, IfOk}
 use Rattle.sha2.specs.Sha256.{sha256}
 use Rattle.qm_model.proofs.Results.{err-each, ok-each, ok-then}
 use Rattle.qm_model.specs.Proofs.{pins_at}
-use Rattle.qm_machine.specs.Held.{pins_lacked}
+use Rattle.qm_model.specs.Held.{pins_lacked}
 use Rattle.qm_any.specs.Databases.{IsDatabase}
 use Rattle.qm_any.proofs.Lasting.{ok-two}
 use Rattle.qm_store.specs.Refusals.{IsDue}

@@ -5,19 +5,19 @@ ghost use Rattle.qm_model.specs.Causes.{Rose};
 ghost use Rattle.qm_model.specs.Opening.{found, opening_refusal};
 ghost use Rattle.qm_model.specs.StoreModel.{Turns};
 ghost use Rattle.qm_model.specs.Operations.{Operation};
-ghost use Rattle.qm_machine.specs.Machine.{layout_of};
+ghost use Rattle.qm_model.specs.Schemes.{layout_of};
 ghost use Rattle.qm_store.specs.Given.{store_given, store_after, IsUnchanged};
 ghost use Rattle.qm_store.specs.Refusals.{IsDue};
-ghost use Rattle.qm_engine.specs.Stores.{IsTaken, selected_size, taken, LeavesOpening};
-ghost use Rattle.qm_engine.specs.Words.{IsSettling, IsPruned, IsUnpruned, IsDestroying};
+ghost use Rattle.qm_model.specs.Taken.{IsTaken, selected_size, taken, LeavesOpening};
+ghost use Rattle.qm_offer.specs.Words.{IsSettling, IsPruned, IsUnpruned, IsDestroying};
 
-use crate::engine::Basis;
+use crate::offer::Common;
 use qm_base::{Error, JournalError};
 use qm_store::{Given, Refusal, Store};
 use std::alloc::Global;
 
 /// The calls that open, settle and end a database.
-pub trait Lasting<C: Store>: Basis<C> {
+pub trait Durable<C: Store>: Common<C> {
     type Config: Drop;
 
     /// Opens what the store keeps: the longest list of at most so many operations, where a number is given, that ends with a
@@ -42,21 +42,21 @@ pub trait Lasting<C: Store>: Basis<C> {
 
     /// Makes the operations stable: from then on a crash leaves them all. A refusal gives back the store.
     fn commit(self) -> Result<Self, Refusal<Self, C>>
-        ensures { IsSettling Self.Words C.Store self result };
+        ensures { IsSettling Self.Meaning C.Store self result };
 
     /// Makes all that the store holds stable. A refusal gives back the store.
     fn sync(self) -> Result<Self, Refusal<Self, C>>
-        ensures { IsSettling Self.Words C.Store self result };
+        ensures { IsSettling Self.Meaning C.Store self result };
 
     /// Takes the operations before a location away from the store, and makes all others stable first. The database comes back as
     /// it was where the location is past its boundary; every other refusal gives back the store.
     fn prune(self, alloc: Global, to: u64) -> Result<Self, Refusal<Self, C>>
-        ensures pruned { IfOk result (IsPruned Self.Words C.Store to self) }
-        ensures refused { IfErr result (IsUnpruned Self.Words C.Store to self) };
+        ensures pruned { IfOk result (IsPruned Self.Meaning C.Store to self) }
+        ensures refused { IfErr result (IsUnpruned Self.Meaning C.Store to self) };
 
     /// Empties the store. A refusal gives it back.
     fn destroy(self) -> Result<C, Refusal<Self, C>>
-        ensures { IsDestroying Self.Words C.Store self result };
+        ensures { IsDestroying Self.Meaning C.Store self result };
 
     /// Lends the store.
     fn store(&self) -> &C

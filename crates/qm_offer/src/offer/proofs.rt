@@ -5,23 +5,22 @@ ghost use Rattle.std.specs.Int.NonZero.{non_zero_u64_get};
 ghost use Rattle.qm_model.specs.Operations.{Operation};
 ghost use Rattle.qm_model.specs.Batches.{IsKnown};
 ghost use Rattle.qm_model.specs.Refusals.{proof_refusal, proof_count};
-ghost use Rattle.qm_machine.specs.Held.{pins_lacked, proof_lacked};
-ghost use Rattle.qm_lines.specs.Views.{listed_view};
+ghost use Rattle.qm_model.specs.Held.{pins_lacked, proof_lacked};
+ghost use Rattle.qm_base.specs.Listed.{listed_view};
 ghost use Rattle.qm_proofs.specs.Proofs.{proof_view};
 ghost use Rattle.qm_store.specs.Refusals.{IsDue};
-ghost use Rattle.qm_engine.specs.Stores.{taken};
-ghost use Rattle.qm_engine.specs.Words.{AtTip, CanRead, IsProofFailure, ReadsOnly};
+ghost use Rattle.qm_model.specs.Taken.{taken};
+ghost use Rattle.qm_offer.specs.Words.{AtTip, CanRead, IsProofFailure, ReadsOnly};
 
-use crate::engine::Basis;
-use qm_base::{Error, JournalError};
-use qm_lines::Listed;
+use crate::offer::Common;
+use qm_base::{Error, JournalError, Listed};
 use qm_proofs::Proof;
 use qm_store::Store;
 use std::alloc::Global;
 use std::num::NonZeroU64;
 
 /// The calls for proofs and pins.
-pub trait Proving<C: Store>: Basis<C> {
+pub trait Proving<C: Store>: Common<C> {
     /// The proof of a merkleized batch's own operations in the list that it makes, and the digests of the peaks over its base
     /// list. It is refused where the database is at no state at which the batch can be read, and where a node was taken away
     /// with what stood before the store's start.
@@ -30,11 +29,11 @@ pub trait Proving<C: Store>: Basis<C> {
         alloc: Global,
         batch: &Self::Merkleized,
     ) -> Result<(Proof<Self::Digest>, Vec<Self::Digest>), Error>
-        ensures readable { IfOk result (λ _. AtTip Self.Words self.now batch.now (λ list chain tip. CanRead Self.Words list chain tip)) }
-        ensures proof { IfOk result (λ r. AtTip Self.Words self.now batch.now (λ list chain tip. IsKnown list chain tip
+        ensures readable { IfOk result (λ _. AtTip Self.Meaning self.now batch.now (λ list chain tip. CanRead Self.Meaning list chain tip)) }
+        ensures proof { IfOk result (λ r. AtTip Self.Meaning self.now batch.now (λ list chain tip. IsKnown list chain tip
             → (proof_lacked Self.scheme.shape (C.start (Self.inside self.now)) list chain tip ≡ None)
             × (proof_view Self.Digest.bytes r.0 ≡ Self.scheme.proof tip (length chain.base) (length tip)) × (map Self.Digest.bytes r.1.items ≡ Self.scheme.pins tip (length chain.base)))) }
-        ensures failure { IfErr result (λ e. AtTip Self.Words self.now batch.now (λ list chain tip. IsProofFailure Self.Words (C.start (Self.inside self.now)) list chain tip e)) }
+        ensures failure { IfErr result (λ e. AtTip Self.Meaning self.now batch.now (λ list chain tip. IsProofFailure Self.Meaning (C.start (Self.inside self.now)) list chain tip e)) }
         ensures never { IfErr result (λ e. (e ≢ Error.StaleBatch) × (e ≢ Error.Journal JournalError.Store)) };
 
     /// Operations from `start` on, at most `max`, and their proof in the list of the database's first `size`
@@ -52,7 +51,7 @@ pub trait Proving<C: Store>: Basis<C> {
         ensures ops { IfOk result (λ r. (list : List Operation) → Self.stands self.old list
             → map (listed_view Self.Key.bytes Self.Value.bytes) r.1.items ≡ take (proof_count size start (non_zero_u64_get max)) (drop start list)) }
         ensures refused { IfErr result (λ e. (list : List Operation) → Self.stands self.old list → IsDue e (proof_refusal (C.start (Self.inside self.old)) list size start)) }
-        ensures reads { ReadsOnly Self.Words C.Store self.old self.new (IsErrOf result (Error.Journal JournalError.Store)) }
+        ensures reads { ReadsOnly Self.Meaning C.Store self.old self.new (IsErrOf result (Error.Journal JournalError.Store)) }
         ensures never { IfErr result (λ e. e ≢ Error.StaleBatch) };
 
     /// The digests of the peaks over the first `at` operations, which a node that starts there has to keep. It is

@@ -5,19 +5,18 @@ ghost use Rattle.qm_model.specs.Operations.{Operation};
 ghost use Rattle.qm_model.specs.Live.{value_of, last_metadata};
 ghost use Rattle.qm_model.specs.Writes.{read_through};
 ghost use Rattle.qm_model.specs.Batches.{Chain, IsKnown, own_operations};
-ghost use Rattle.qm_lines.specs.Views.{listed_view};
+ghost use Rattle.qm_base.specs.Listed.{listed_view};
 ghost use Rattle.qm_store.specs.Given.{TellsFrom};
 ghost use Rattle.qm_store.specs.Refusals.{refusal_of};
-ghost use Rattle.qm_engine.specs.Words.{AtBatch, AtTip, CanRead, IsReadFailure, ReadsOnly};
+ghost use Rattle.qm_offer.specs.Words.{AtBatch, AtTip, CanRead, IsReadFailure, ReadsOnly};
 
-use crate::engine::Basis;
-use qm_base::{Error, JournalError};
-use qm_lines::Listed;
+use crate::offer::Common;
+use qm_base::{Error, JournalError, Listed};
 use qm_store::Store;
 use std::alloc::{AllocError, Global};
 
 /// The calls that read a database or its batches.
-pub trait Reading<C: Store>: Basis<C> {
+pub trait Reading<C: Store>: Common<C> {
     /// The root of the list that a merkleized batch makes.
     fn batch_root(batch: &Self::Merkleized) -> Self::Digest
         ensures { (chain : Chain) (tip : List Operation) → Self.is_merkleized batch.now chain tip → Self.Digest.bytes result ≡ Self.scheme.root tip };
@@ -34,7 +33,7 @@ pub trait Reading<C: Store>: Basis<C> {
     fn get(&mut self, alloc: Global, keys: &[Self::Key]) -> Result<Vec<Option<Self::Value>>, Error>
         ensures values { IfOk result (λ v. (list : List Operation) → Self.stands self.old list
             → map (option_map Self.Value.bytes) v.items ≡ map (λ k. value_of list (Self.Key.bytes k)) keys.now) }
-        ensures reads { ReadsOnly Self.Words C.Store self.old self.new (IsErrOf result (Error.Journal JournalError.Store)) }
+        ensures reads { ReadsOnly Self.Meaning C.Store self.old self.new (IsErrOf result (Error.Journal JournalError.Store)) }
         ensures never { IfErr result (λ e. e ≢ Error.StaleBatch) }
         ensures refused { IfErr result (λ e. (list : List Operation) → Self.stands self.old list → TellsFrom C.Store (Self.inside self.old) list → refusal_of e ≡ None) };
 
@@ -46,12 +45,12 @@ pub trait Reading<C: Store>: Basis<C> {
         batch: &Self::Batch,
         keys: &[Self::Key],
     ) -> Result<Vec<Option<Self::Value>>, Error>
-        ensures readable { IfOk result (λ _. AtBatch Self.Words self.old batch.now (λ list chain above ws. CanRead Self.Words list above chain.base)) }
-        ensures values { IfOk result (λ v. AtBatch Self.Words self.old batch.now (λ list chain above ws. IsKnown list above chain.base
+        ensures readable { IfOk result (λ _. AtBatch Self.Meaning self.old batch.now (λ list chain above ws. CanRead Self.Meaning list above chain.base)) }
+        ensures values { IfOk result (λ v. AtBatch Self.Meaning self.old batch.now (λ list chain above ws. IsKnown list above chain.base
             → map (option_map Self.Value.bytes) v.items ≡ map (λ k. read_through chain.base ws (Self.Key.bytes k)) keys.now)) }
-        ensures failure { IfErr result (λ e. AtBatch Self.Words self.old batch.now (λ list chain above ws.
-            IsReadFailure Self.Words (TellsFrom C.Store (Self.inside self.old) list) list above chain.base e)) }
-        ensures reads { ReadsOnly Self.Words C.Store self.old self.new (IsErrOf result (Error.Journal JournalError.Store)) }
+        ensures failure { IfErr result (λ e. AtBatch Self.Meaning self.old batch.now (λ list chain above ws.
+            IsReadFailure Self.Meaning (TellsFrom C.Store (Self.inside self.old) list) list above chain.base e)) }
+        ensures reads { ReadsOnly Self.Meaning C.Store self.old self.new (IsErrOf result (Error.Journal JournalError.Store)) }
         ensures never { IfErr result (λ e. e ≢ Error.StaleBatch) };
 
     /// Reads the values of keys through a merkleized batch, on the list that it makes. It is refused where the database is at
@@ -62,11 +61,11 @@ pub trait Reading<C: Store>: Basis<C> {
         batch: &Self::Merkleized,
         keys: &[Self::Key],
     ) -> Result<Vec<Option<Self::Value>>, Error>
-        ensures readable { IfOk result (λ _. AtTip Self.Words self.old batch.now (λ list chain tip. CanRead Self.Words list chain tip)) }
-        ensures values { IfOk result (λ v. AtTip Self.Words self.old batch.now (λ list chain tip. IsKnown list chain tip
+        ensures readable { IfOk result (λ _. AtTip Self.Meaning self.old batch.now (λ list chain tip. CanRead Self.Meaning list chain tip)) }
+        ensures values { IfOk result (λ v. AtTip Self.Meaning self.old batch.now (λ list chain tip. IsKnown list chain tip
             → map (option_map Self.Value.bytes) v.items ≡ map (λ k. value_of tip (Self.Key.bytes k)) keys.now)) }
-        ensures failure { IfErr result (λ e. AtTip Self.Words self.old batch.now (λ list chain tip. IsReadFailure Self.Words (TellsFrom C.Store (Self.inside self.old) list) list chain tip e)) }
-        ensures reads { ReadsOnly Self.Words C.Store self.old self.new (IsErrOf result (Error.Journal JournalError.Store)) }
+        ensures failure { IfErr result (λ e. AtTip Self.Meaning self.old batch.now (λ list chain tip. IsReadFailure Self.Meaning (TellsFrom C.Store (Self.inside self.old) list) list chain tip e)) }
+        ensures reads { ReadsOnly Self.Meaning C.Store self.old self.new (IsErrOf result (Error.Journal JournalError.Store)) }
         ensures never { IfErr result (λ e. e ≢ Error.StaleBatch) };
 
     /// The operations root of the database's list.

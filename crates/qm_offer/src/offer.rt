@@ -7,15 +7,15 @@ ghost use Rattle.qm_model.specs.Operations.{Operation};
 ghost use Rattle.qm_model.specs.Trees.{peaks};
 
 pub mod batches;
-pub mod lasting;
+pub mod durable;
 pub mod ordered;
 pub mod proofs;
 pub mod reads;
 pub mod staged;
 
-use crate::words::Words;
+use crate::meaning::Meaning;
 pub use batches::Batching;
-pub use lasting::Lasting;
+pub use durable::Durable;
 pub use ordered::Neighbours;
 pub use proofs::Proving;
 use qm_base::{ByteString, Digest};
@@ -53,7 +53,7 @@ pub struct BatchSizes {
 
 /// What the groups of calls stand on: what keys, values and digests are, whether the database is an ordered one, and the
 /// numbers of it and of its merkleized batches.
-pub trait Basis<C: Store>: Words<C> + Drop + Sized {
+pub trait Common<C: Store>: Meaning<C> + Drop + Sized {
     type Family;
 
     type Key: ByteString;
@@ -82,4 +82,4 @@ pub trait Basis<C: Store>: Words<C> + Drop + Sized {
 }
 
 /// A kind of database: one call for each command of a run.
-pub trait Engine<C: Store>: Lasting<C> + Staging<C> + Reading<C> + Neighbours<C> + Proving<C> {}
+pub trait Engine<C: Store>: Durable<C> + Staging<C> + Reading<C> + Neighbours<C> + Proving<C> {}

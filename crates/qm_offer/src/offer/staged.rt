@@ -9,12 +9,11 @@ ghost use Rattle.qm_store.specs.Given.{TellsFrom};
 ghost use Rattle.qm_store.specs.Refusals.{refusal_of};
 ghost use Rattle.qm_base.specs.Slots.{slot_views, write_views};
 ghost use Rattle.qm_model.specs.Slots.{slotted};
-ghost use Rattle.qm_engine.specs.Words.{AtBatch, AtStaged, Fits, CanRead, IsReadFailure, ReadsOnly, tip_of};
+ghost use Rattle.qm_offer.specs.Words.{AtBatch, AtStaged, Fits, CanRead, IsReadFailure, ReadsOnly, tip_of};
 
-use crate::engine::batches::Batching;
-use qm_base::{Error, JournalError};
+use crate::offer::batches::Batching;
+use qm_base::{Error, JournalError, Resolution};
 use qm_chain::Policy;
-use qm_lines::Resolution;
 use qm_store::Store;
 use std::alloc::Global;
 use std::ops::Range;
@@ -29,13 +28,13 @@ pub trait Staging<C: Store>: Batching<C> {
         batch: Self::Batch,
         keys: &[Self::Key],
     ) -> Result<(Vec<Option<Self::Value>>, Self::Staged), Error>
-        ensures readable { IfOk result (λ _. AtBatch Self.Words self.old batch (λ list chain above ws. CanRead Self.Words list above chain.base)) }
-        ensures values { IfOk result (λ r. AtBatch Self.Words self.old batch (λ list chain above ws. IsKnown list above chain.base
+        ensures readable { IfOk result (λ _. AtBatch Self.Meaning self.old batch (λ list chain above ws. CanRead Self.Meaning list above chain.base)) }
+        ensures values { IfOk result (λ r. AtBatch Self.Meaning self.old batch (λ list chain above ws. IsKnown list above chain.base
             → (map (option_map Self.Value.bytes) r.0.items ≡ map (λ k. read_through chain.base ws (Self.Key.bytes k)) keys.now)
             × Self.is_staged r.1 chain above ws (map Self.Key.bytes keys.now))) }
-        ensures failure { IfErr result (λ e. AtBatch Self.Words self.old batch (λ list chain above ws.
-            IsReadFailure Self.Words (TellsFrom C.Store (Self.inside self.old) list) list above chain.base e)) }
-        ensures reads { ReadsOnly Self.Words C.Store self.old self.new (IsErrOf result (Error.Journal JournalError.Store)) }
+        ensures failure { IfErr result (λ e. AtBatch Self.Meaning self.old batch (λ list chain above ws.
+            IsReadFailure Self.Meaning (TellsFrom C.Store (Self.inside self.old) list) list above chain.base e)) }
+        ensures reads { ReadsOnly Self.Meaning C.Store self.old self.new (IsErrOf result (Error.Journal JournalError.Store)) }
         ensures never { IfErr result (λ e. e ≢ Error.StaleBatch) };
 
     /// Reads the values of more keys, as `stage` does, and puts them behind the staged ones; their places are told.
@@ -45,14 +44,14 @@ pub trait Staging<C: Store>: Batching<C> {
         batch: Self::Staged,
         keys: &[Self::Key],
     ) -> Result<(Range<usize>, Vec<Option<Self::Value>>, Self::Staged), Error>
-        ensures readable { IfOk result (λ _. AtStaged Self.Words self.old batch (λ list chain above ws staged. CanRead Self.Words list above chain.base)) }
+        ensures readable { IfOk result (λ _. AtStaged Self.Meaning self.old batch (λ list chain above ws staged. CanRead Self.Meaning list above chain.base)) }
         ensures range { IfOk result (λ r. (r.0.start ≡ Self.count batch) × (r.0.end ≡ Self.count batch + length keys.now)) }
-        ensures values { IfOk result (λ r. AtStaged Self.Words self.old batch (λ list chain above ws staged. IsKnown list above chain.base
+        ensures values { IfOk result (λ r. AtStaged Self.Meaning self.old batch (λ list chain above ws staged. IsKnown list above chain.base
             → (map (option_map Self.Value.bytes) r.1.items ≡ map (λ k. read_through chain.base ws (Self.Key.bytes k)) keys.now)
             × Self.is_staged r.2 chain above ws (staged ++ map Self.Key.bytes keys.now))) }
-        ensures failure { IfErr result (λ e. AtStaged Self.Words self.old batch (λ list chain above ws staged.
-            IsReadFailure Self.Words (TellsFrom C.Store (Self.inside self.old) list) list above chain.base e)) }
-        ensures reads { ReadsOnly Self.Words C.Store self.old self.new (IsErrOf result (Error.Journal JournalError.Store)) }
+        ensures failure { IfErr result (λ e. AtStaged Self.Meaning self.old batch (λ list chain above ws staged.
+            IsReadFailure Self.Meaning (TellsFrom C.Store (Self.inside self.old) list) list above chain.base e)) }
+        ensures reads { ReadsOnly Self.Meaning C.Store self.old self.new (IsErrOf result (Error.Journal JournalError.Store)) }
         ensures never { IfErr result (λ e. e ≢ Error.StaleBatch) };
 
     /// How many keys a staged batch has.
@@ -70,13 +69,13 @@ pub trait Staging<C: Store>: Batching<C> {
         metadata: &Option<Self::Value>,
     ) -> Result<Self::Merkleized, Error>
         requires { length resolution.now.slots.items ≡ Self.count batch }
-        ensures fits { IfOk result (λ _. AtStaged Self.Words self.old batch (λ list chain above ws keys. Fits Self.Words list chain)) }
-        ensures made { IfOk result (λ b. AtStaged Self.Words self.old batch (λ list chain above ws keys. IsOnChain list chain
+        ensures fits { IfOk result (λ _. AtStaged Self.Meaning self.old batch (λ list chain above ws keys. Fits Self.Meaning list chain)) }
+        ensures made { IfOk result (λ b. AtStaged Self.Meaning self.old batch (λ list chain above ws keys. IsOnChain list chain
             → let tip = tip_of Self.scheme P.rules chain (slotted ws keys (slot_views Self.Value.bytes resolution.now.slots.items) (write_views Self.Key.bytes Self.Value.bytes resolution.now.others.items)) policy.old (option_map Self.Value.bytes metadata.now) in
             (tip_refusal Self.scheme.form chain tip ≡ None) × Self.is_merkleized b chain tip)) }
-        ensures stale { IfErr result (λ e. e ≡ Error.StaleBatch → AtStaged Self.Words self.old batch (λ list chain above ws keys. ¬ IsOnChain list chain)) }
-        ensures refused { IfErr result (λ e. e ≢ Error.StaleBatch → AtStaged Self.Words self.old batch (λ list chain above ws keys.
-            TellsFrom C.Store (Self.inside self.old) list → IfSome (refusal_of e) (λ r. Fits Self.Words list chain
+        ensures stale { IfErr result (λ e. e ≡ Error.StaleBatch → AtStaged Self.Meaning self.old batch (λ list chain above ws keys. ¬ IsOnChain list chain)) }
+        ensures refused { IfErr result (λ e. e ≢ Error.StaleBatch → AtStaged Self.Meaning self.old batch (λ list chain above ws keys.
+            TellsFrom C.Store (Self.inside self.old) list → IfSome (refusal_of e) (λ r. Fits Self.Meaning list chain
             × (IsOnChain list chain → floor list ≤ floor chain.base → tip_refusal Self.scheme.form chain (tip_of Self.scheme P.rules chain (slotted ws keys (slot_views Self.Value.bytes resolution.now.slots.items) (write_views Self.Key.bytes Self.Value.bytes resolution.now.others.items)) policy.old (option_map Self.Value.bytes metadata.now)) ≡ Some r)))) }
-        ensures reads { ReadsOnly Self.Words C.Store self.old self.new (IsErrOf result (Error.Journal JournalError.Store)) };
+        ensures reads { ReadsOnly Self.Meaning C.Store self.old self.new (IsErrOf result (Error.Journal JournalError.Store)) };
 }

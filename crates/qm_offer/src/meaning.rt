@@ -6,12 +6,12 @@ ghost use Rattle.qm_model.specs.Live.{floor};
 ghost use Rattle.qm_model.specs.Operations.{Bytes, Operation};
 ghost use Rattle.qm_model.specs.Writes.{Write};
 ghost use Rattle.qm_model.specs.Batches.{Chain};
-ghost use Rattle.qm_machine.specs.Machine.{Scheme};
+ghost use Rattle.qm_model.specs.Schemes.{Scheme};
 
 use qm_store::Store;
 
 /// The words that an engine's clauses are said by.
-pub trait Words<C: Store> {
+pub trait Meaning<C: Store> {
     type Batch: Drop;
 
     type Staged: Drop;

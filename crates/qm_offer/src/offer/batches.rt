@@ -11,16 +11,16 @@ ghost use Rattle.qm_model.specs.Batches.{Chain, begun_on, child_of, IsOnChain, c
 ghost use Rattle.qm_model.specs.Refusals.{tip_refusal};
 ghost use Rattle.qm_store.specs.Given.{store_given, store_after, Appended, AppendedPart, TellsFrom};
 ghost use Rattle.qm_store.specs.Refusals.{refusal_of};
-ghost use Rattle.qm_engine.specs.Words.{AtBatch, AtTip, Fits, ReadsOnly, tip_of};
+ghost use Rattle.qm_offer.specs.Words.{AtBatch, AtTip, Fits, ReadsOnly, tip_of};
 
-use crate::engine::Basis;
+use crate::offer::Common;
 use qm_base::{Error, JournalError};
 use qm_chain::Policy;
 use qm_store::{Given, Refusal, Store};
 use std::alloc::{AllocError, Global};
 
 /// The calls on batches: what begins, writes, makes and applies them.
-pub trait Batching<C: Store>: Basis<C> {
+pub trait Batching<C: Store>: Common<C> {
     /// Begins a batch.
     fn batch(&self, alloc: Global) -> Result<Self::Batch, AllocError>
         ensures { IfOk result (λ b. (list : List Operation) → Self.stands self.now list → Self.is_batch b (begun_on list) (begun_on list) []) };
@@ -62,25 +62,25 @@ pub trait Batching<C: Store>: Basis<C> {
         policy: &mut P,
         metadata: &Option<Self::Value>,
     ) -> Result<Self::Merkleized, Error>
-        ensures fits { IfOk result (λ _. AtBatch Self.Words self.old batch (λ list chain above ws. Fits Self.Words list chain)) }
-        ensures made { IfOk result (λ b. AtBatch Self.Words self.old batch (λ list chain above ws. IsOnChain list chain
+        ensures fits { IfOk result (λ _. AtBatch Self.Meaning self.old batch (λ list chain above ws. Fits Self.Meaning list chain)) }
+        ensures made { IfOk result (λ b. AtBatch Self.Meaning self.old batch (λ list chain above ws. IsOnChain list chain
             → let tip = tip_of Self.scheme P.rules chain ws policy.old (option_map Self.Value.bytes metadata.now) in
             (tip_refusal Self.scheme.form chain tip ≡ None) × Self.is_merkleized b chain tip)) }
-        ensures stale { IfErr result (λ e. e ≡ Error.StaleBatch → AtBatch Self.Words self.old batch (λ list chain above ws. ¬ IsOnChain list chain)) }
-        ensures refused { IfErr result (λ e. e ≢ Error.StaleBatch → AtBatch Self.Words self.old batch (λ list chain above ws.
-            TellsFrom C.Store (Self.inside self.old) list → IfSome (refusal_of e) (λ r. Fits Self.Words list chain
+        ensures stale { IfErr result (λ e. e ≡ Error.StaleBatch → AtBatch Self.Meaning self.old batch (λ list chain above ws. ¬ IsOnChain list chain)) }
+        ensures refused { IfErr result (λ e. e ≢ Error.StaleBatch → AtBatch Self.Meaning self.old batch (λ list chain above ws.
+            TellsFrom C.Store (Self.inside self.old) list → IfSome (refusal_of e) (λ r. Fits Self.Meaning list chain
             × (IsOnChain list chain → floor list ≤ floor chain.base → tip_refusal Self.scheme.form chain (tip_of Self.scheme P.rules chain ws policy.old (option_map Self.Value.bytes metadata.now)) ≡ Some r)))) }
-        ensures reads { ReadsOnly Self.Words C.Store self.old self.new (IsErrOf result (Error.Journal JournalError.Store)) };
+        ensures reads { ReadsOnly Self.Meaning C.Store self.old self.new (IsErrOf result (Error.Journal JournalError.Store)) };
 
     /// Takes the batch's tip list, and appends to the store what it lacks of it.
     fn apply(self, alloc: Global, batch: &Self::Merkleized) -> Result<Self, Refusal<Self, C>>
-        ensures fits { IfOk result (λ _. AtTip Self.Words self batch.now (λ list chain tip. Fits Self.Words list chain)) }
-        ensures applied { IfOk result (λ next. AtTip Self.Words self batch.now (λ list chain tip. IsOnChain list chain → Self.stands next tip)) }
-        ensures grown { IfOk result (λ next. AtTip Self.Words self batch.now (λ list chain tip. IsOnChain list chain
+        ensures fits { IfOk result (λ _. AtTip Self.Meaning self batch.now (λ list chain tip. Fits Self.Meaning list chain)) }
+        ensures applied { IfOk result (λ next. AtTip Self.Meaning self batch.now (λ list chain tip. IsOnChain list chain → Self.stands next tip)) }
+        ensures grown { IfOk result (λ next. AtTip Self.Meaning self batch.now (λ list chain tip. IsOnChain list chain
             → Appended C.Store (Self.inside self) (Self.inside next) (map (spelling Self.scheme.form) (drop (length list) tip)))) }
-        ensures stale { IfErr result (λ r. r.error ≡ Error.StaleBatch → (r.given ≡ Given.Database self) × AtTip Self.Words self batch.now (λ list chain tip. ¬ IsOnChain list chain)) }
+        ensures stale { IfErr result (λ r. r.error ≡ Error.StaleBatch → (r.given ≡ Given.Database self) × AtTip Self.Meaning self batch.now (λ list chain tip. ¬ IsOnChain list chain)) }
         ensures refused { IfErr result (λ r. r.error ≢ Error.StaleBatch → refusal_of r.error ≡ None) }
-        ensures kept { IfErr result (λ r. AtTip Self.Words self batch.now (λ list chain tip.
+        ensures kept { IfErr result (λ r. AtTip Self.Meaning self batch.now (λ list chain tip.
             AppendedPart C.Store (Self.inside self) (store_given Self.inside r.given) (if fits Self.scheme.root (commitment Self.scheme.root list) chain then map (spelling Self.scheme.form) (drop (length list) tip) else []))) }
         ensures back { IfErr result (λ r. (x : Self) → r.given ≡ Given.Database x → x ≡ self) }
         ensures start { C.start (store_after Self.inside result) ≡ C.start (Self.inside self) }

@@ -6,8 +6,8 @@ use Rattle.qm_model.specs.Walk.{Rules}
 use Rattle.qm_model.specs.StoreModel.{Stored, settled, destroyed, IsImage, ReadsAs, DestroyLeaves, Becomes, Turns}
 use Rattle.qm_model.specs.Writes.{Write}
 use Rattle.qm_model.specs.Step.{step}
-use Rattle.qm_machine.specs.Held.{proof_lacked}
-use Rattle.qm_machine.specs.Machine.{Scheme, kind_of}
+use Rattle.qm_model.specs.Held.{proof_lacked}
+use Rattle.qm_model.specs.Schemes.{Scheme, kind_of}
 use Rattle.qm_model.specs.Batches.{Chain, IsKnown, commitment, fits, readable}
 use Rattle.qm_base.specs.declared.error.Error.{Error}
 use Rattle.qm_base.specs.declared.error.Error.TheVariants.{Memory, StaleRead, PruneBeyondMinRequired, Journal}
@@ -17,14 +17,14 @@ use Rattle.qm_store.specs.declared.refusal.Given.TheVariants.{Database, Store}
 use Rattle.qm_store.specs.declared.refusal.Refusal.{Refusal}
 use Rattle.qm_store.specs.Given.{IsUnchanged}
 use Rattle.qm_store.specs.Refusals.{refusal_of, IsDue}
-use Rattle.qm_engine.specs.Stores.{head_at, pruned_from, LeavesPruning}
-use Rattle.qm_engine.specs.declared.words.Words as words
+use Rattle.qm_model.specs.Taken.{head_at, pruned_from, LeavesPruning}
+use Rattle.qm_offer.specs.declared.meaning.Meaning as meaning
 
 -- the list that writes make of a chain's base list, under a policy
 abbrev pub tip_of : {P : Type 0} → Scheme → Rules P → Chain → List Write → P → Option Bytes → List Operation
 tip_of m rules chain ws policy meta = step (kind_of m) rules chain.base ws policy meta
 
-module _ {X C B S M : Type 0} (means : words.Ghosts X C B S M) where
+module _ {X C B S M : Type 0} (means : meaning.Ghosts X C B S M) where
   -- at each list that the database stands for, and each chain and writes of the batch
   abbrev pub AtBatch : X → B → (List Operation → Chain → Chain → List Write → Type 0) → Type 0
   AtBatch db batch P = (list : List Operation) (chain above : Chain) (ws : List Write) → means.stands db list → means.is_batch batch chain above ws → P list chain above ws
