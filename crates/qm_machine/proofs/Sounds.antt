@@ -35,9 +35,9 @@ use Rattle.qm_model.proofs.Openings.{IsPart, ended-part, ended-whole, unordered-
 use Rattle.qm_machine.specs.Lines.{Line, Open, Batch, Child, Tip, Put, Del, Merkleize, Stage, Expand, Resolve, Apply, Ops, Get, Many, Next, Prev, Span, Range, Keys, Info, BatchInfo, Root, BatchRoot, BatchProof, Meta, Prove, Pins, Question, Held, Absent, Witness, Current, Prune, Commit, Sync, Close, Destroy, Crash, Answer}
 use Rattle.qm_machine.specs.Lines as lines
 use Rattle.qm_machine.specs.Machine.{State, Slot, gone, writing, staged, merkleized, turn, slot_at, with_slot, initial, started, start_child, put_in, list_operations, with_database, closed, settled, commit, restarted, opened_as, if_any, if_current, if_absences, held_at, absent_at, answered, found_in, unless, merkleize_tip, merkleize_writes, merkleize_in, resolve_in, apply_in, if_readable, if_staged, stage_in, expand_in, read_in, read, if_ordered, beside_in, beside_of, info_in, root_in, proof_in, pruned, prune_in}
-use Rattle.qm_model.specs.Schemes.{Scheme, Grafts, takes, chunks_of, chunks_after, kind_of, engine_of, layout_of}
+use Rattle.qm_model.specs.Schemes.{Scheme, Grafts, takes, chunks_of, chunks_after, kind_of, engine_of, layout_of, HasBounds}
 use Rattle.qm_model.specs.Held.{pins_lacked, proof_lacked}
-use Rattle.qm_machine.specs.Sound.{HasBounds, IsSoundSlot, IsSteady, IsSound}
+use Rattle.qm_machine.specs.Sound.{IsSoundSlot, IsSteady, IsSound}
 
 -- Slots.
 

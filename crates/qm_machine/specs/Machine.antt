@@ -1,27 +1,25 @@
 -- The machine: databases and batches are operation lists, and each command is a function of the state.
-use Rattle.std.specs.Prelude.{ℕ, ◌+◌, ◌/◌, ◌^◌, min, max, nat_lt, ◌==◌, ◌&&◌, Bool, true, if◌then◌else◌, List, [], ◌∷◌, ◌++◌, length, map, take, drop, slice_index_or, slice_set, Option, Some, None, option_map}
+use Rattle.std.specs.Prelude.{ℕ, ◌+◌, min, max, nat_lt, ◌==◌, ◌&&◌, Bool, true, if◌then◌else◌, List, [], ◌∷◌, ◌++◌, length, map, take, drop, slice_index_or, slice_set, Option, Some, None, option_map}
 use Rattle.std.specs.List.{concat}
 use Rattle.qm_model.specs.Operations.{Bytes, Operation}
-use Rattle.qm_model.specs.Forms.{Form}
-use Rattle.qm_model.specs.Trees.{Shape}
 use Rattle.qm_model.specs.Live.{Live, live, live_of, live_keys, floor, value_of, last_metadata}
 use Rattle.qm_model.specs.Ranges.{Limit, key_above, key_below, span_of, keys_in, pairs_in}
 use Rattle.qm_model.specs.Writes.{Write, read_through}
 use Rattle.qm_model.specs.Slots.{slotted}
 use Rattle.qm_model.specs.Slots as slots
 use Rattle.qm_model.specs.Walk.{Rules}
-use Rattle.qm_model.specs.Step.{Kind, ordered, unordered}
 use Rattle.qm_model.specs.Step as steps
-use Rattle.qm_model.specs.Proofs.{Proof, pins_at}
+use Rattle.qm_model.specs.Proofs.{pins_at}
 use Rattle.qm_model.specs.Checks.{Checks}
-use Rattle.qm_model.specs.Opening.{Chunks, Layout, Found, Opening, refuses, opens, opening, opened_list}
-use Rattle.qm_model.specs.Own.{Engine, Log, no_log, taken_up}
+use Rattle.qm_model.specs.Opening.{Found, Opening, refuses, opens, opening, opened_list}
+use Rattle.qm_model.specs.Own.{Log, no_log, taken_up}
 use Rattle.qm_model.specs.Batches.{Chain, begun_on, child_of, commitment, fits, readable, own_operations}
 use Rattle.qm_machine.specs.Lines.{Line, Open, Batch, Child, Tip, Put, Del, Merkleize, Stage, Expand, Resolve, Apply, Ops, Get, Many, Next, Prev, Span, All, Range, Keys, Info, BatchInfo, Root, BatchRoot, BatchProof, Meta, Prove, Pins, Question, Held, Absent, Witness, Current, Prune, Commit, Sync, Close, Destroy, Crash, Answer, Opened, Started, Done, Merkleized, Applied, Listed, Read, Expanded, Beside, Spanning, Whole, Ranged, Keyed, Told, BatchTold, Rooted, Metadata, Proved, BatchProved, Pinned, HeldAt, AbsentAt, Chunked, Witnessed, Refuses}
 use Rattle.qm_machine.specs.Lines as lines
 use Rattle.qm_model.specs.Refused.{Refused, NotOffered, NoDatabase, NoSuchHandle, SlotCount, StaleBatch, StaleRead, KeyNotFound, KeyExists, PruneBeyondMinRequired}
 use Rattle.qm_model.specs.Refusals.{tip_refusal, proof_refusal, proof_count, range_refusal}
 use Rattle.qm_model.specs.Held.{pins_lacked, proof_lacked}
+use Rattle.qm_model.specs.Schemes.{Grafts, Scheme, kind_of, layout_of, takes, chunks_after}
 
 -- a batch number: used up; a batch with the chain of its parent, which made its base, and its writes; the same with the
 -- keys that were staged; a merkleized batch with its tip list. The parent of a batch that was begun on a database is that as

@@ -1,24 +1,16 @@
 -- What each state of a run over an own store is, whatever its commands were.
-use Rattle.std.specs.Prelude.{◌≡◌, ◌≤◌, ◌<◌, ◌^◌, ℕ, List, length, All, Contains, true, Option, Some, IfSome, ⊤}
+use Rattle.std.specs.Prelude.{◌≡◌, ◌≤◌, ◌<◌, ◌^◌, ℕ, List, length, All, Contains, true, Option, Some, ⊤}
 use Rattle.qm_model.specs.Operations.{Operation}
 use Rattle.qm_model.specs.Live.{floor}
 use Rattle.qm_model.specs.Walk.{Rules}
 use Rattle.qm_model.specs.Forms.{IsOf}
 use Rattle.qm_model.specs.Ordered.{IsRing}
-use Rattle.qm_model.specs.Grafted.{boundary}
 use Rattle.qm_model.specs.Opening.{opens, opening, opened_list}
 use Rattle.qm_model.specs.Step.{Made, IsGood}
 use Rattle.qm_model.specs.Batches.{IsAmong, IsRising, Begins}
-use Rattle.qm_model.specs.Own.{ArePrompt, IsKept}
+use Rattle.qm_model.specs.Own.{IsKept}
 use Rattle.qm_machine.specs.Machine.{State, Slot, gone, writing, staged, merkleized, slot_at, found_in}
-use Rattle.qm_model.specs.Schemes.{Scheme, kind_of, chunks_of, engine_of, layout_of}
-
--- No list may be pruned past its floor, nor, in a current database, past the boundary of its chunks; and no node over a chunk waits
--- for longer than the threshold tells.
-pub record HasBounds (m : Scheme) : Type 0 where
-  pub low : (list : List Operation) → m.boundary list ≤ floor list
-  pub chunks : IfSome (chunks_of m) (λ c. (list : List Operation) → m.boundary list ≤ boundary m.shape c.height list)
-  pub prompt : ArePrompt (chunks_of m) m.shape
+use Rattle.qm_model.specs.Schemes.{Scheme, kind_of, engine_of, layout_of}
 
 -- a batch's lists are among those that the run has had; its base begins with those of its kept ancestors, and its tip with its base
 abbrev pub IsSoundSlot : List (List Operation) → Slot → Type 0

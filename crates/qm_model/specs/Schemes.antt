@@ -1,14 +1,16 @@
 -- What the lists of a kind of databases are hashed and kept by.
-use Rattle.std.specs.Prelude.{ℕ, ◌/◌, ◌^◌, max, ◌==◌, Bool, true, if◌then◌else◌, List, Option, Some, None, option_map}
+use Rattle.std.specs.Prelude.{◌≤◌, ℕ, ◌/◌, ◌^◌, max, ◌==◌, Bool, true, if◌then◌else◌, List, Option, Some, None, IfSome, option_map}
 use Rattle.qm_model.specs.Operations.{Bytes, Operation}
 use Rattle.qm_model.specs.Forms.{Form}
 use Rattle.qm_model.specs.Trees.{Shape}
+use Rattle.qm_model.specs.Live.{floor}
+use Rattle.qm_model.specs.Grafted.{boundary}
 use Rattle.qm_model.specs.Walk.{Rules}
 use Rattle.qm_model.specs.Step.{Kind, ordered, unordered}
 use Rattle.qm_model.specs.Proofs.{Proof}
 use Rattle.qm_model.specs.Checks.{Checks}
 use Rattle.qm_model.specs.Opening.{Chunks, Layout}
-use Rattle.qm_model.specs.Own.{Engine}
+use Rattle.qm_model.specs.Own.{Engine, ArePrompt}
 
 -- what a current database has over an any one: chunks of activity bits, grafted onto its trees, and the checks of its proofs
 pub record Grafts : Type 0 where
@@ -58,3 +60,10 @@ takes (Some g) own other = own == other
 abbrev pub chunks_after : Option Grafts → ℕ → ℕ → ℕ
 chunks_after None pruned to = pruned
 chunks_after (Some g) pruned to = max pruned (to / 2 ^ g.chunks.height)
+
+-- No list may be pruned past its floor, nor, in a current database, past the boundary of its chunks; and no node over a chunk waits
+-- for longer than the threshold tells.
+pub record HasBounds (m : Scheme) : Type 0 where
+  pub low : (list : List Operation) → m.boundary list ≤ floor list
+  pub chunks : IfSome (chunks_of m) (λ c. (list : List Operation) → m.boundary list ≤ boundary m.shape c.height list)
+  pub prompt : ArePrompt (chunks_of m) m.shape

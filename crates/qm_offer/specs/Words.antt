@@ -1,23 +1,27 @@
 -- What an engine's clauses share, over all of its words at once.
-use Rattle.std.specs.Prelude.{◌≡◌, ◌≢◌, ◌⊎◌, ◌≤◌, ◌<◌, ◌^◌, ℕ, max, List, length, true, Option, None, Result, IfOk, IfErr}
-use Rattle.qm_model.specs.Causes.{IsCause}
+use Rattle.std.specs.Prelude.{◌≡◌, ◌≢◌, ◌⊎◌, ◌≤◌, ◌<◌, ◌^◌, ℕ, max, List, [], length, map, drop, true, Option, None, Some, IfSome, IsSome, Result, IfOk, IfErr, OnOk, IsErrOf, if◌then◌else◌}
+use Rattle.qm_model.specs.Causes.{IsCause, Rose}
+use Rattle.qm_model.specs.Forms.{spelling}
+use Rattle.qm_model.specs.Live.{floor}
 use Rattle.qm_model.specs.Operations.{Bytes, Operation}
+use Rattle.qm_model.specs.Opening.{found, opening_refusal}
 use Rattle.qm_model.specs.Walk.{Rules}
-use Rattle.qm_model.specs.StoreModel.{Stored, settled, destroyed, IsImage, ReadsAs, DestroyLeaves, Becomes, Turns}
+use Rattle.qm_model.specs.StoreModel.{Stored, settled, destroyed, beside_items, IsImage, ReadsAs, DestroyLeaves, Becomes, Turns}
 use Rattle.qm_model.specs.Writes.{Write}
 use Rattle.qm_model.specs.Step.{step}
 use Rattle.qm_model.specs.Held.{proof_lacked}
-use Rattle.qm_model.specs.Schemes.{Scheme, kind_of}
-use Rattle.qm_model.specs.Batches.{Chain, IsKnown, commitment, fits, readable}
+use Rattle.qm_model.specs.Schemes.{Scheme, kind_of, layout_of, takes}
+use Rattle.qm_model.specs.Taken.{head_at, IsTaken, selected_size, taken, pruned_from, LeavesOpening, LeavesPruning}
+use Rattle.qm_model.specs.Batches.{Chain, IsKnown, IsOnChain, commitment, fits, readable}
+use Rattle.qm_model.specs.Refusals.{tip_refusal}
 use Rattle.qm_base.specs.declared.error.Error.{Error}
-use Rattle.qm_base.specs.declared.error.Error.TheVariants.{Memory, StaleRead, PruneBeyondMinRequired, Journal}
+use Rattle.qm_base.specs.declared.error.Error.TheVariants.{Memory, StaleBatch, StaleRead, PruneBeyondMinRequired, Journal}
 use Rattle.qm_base.specs.declared.error.JournalError.TheVariants as journal
 use Rattle.qm_store.specs.declared.Store as store
 use Rattle.qm_store.specs.declared.refusal.Given.TheVariants.{Database, Store}
 use Rattle.qm_store.specs.declared.refusal.Refusal.{Refusal}
-use Rattle.qm_store.specs.Given.{IsUnchanged}
+use Rattle.qm_store.specs.Given.{store_given, store_after, Appended, AppendedPart, IsUnchanged, TellsFrom}
 use Rattle.qm_store.specs.Refusals.{refusal_of, IsDue}
-use Rattle.qm_model.specs.Taken.{head_at, pruned_from, LeavesPruning}
 use Rattle.qm_offer.specs.declared.meaning.Meaning as meaning
 
 -- the list that writes make of a chain's base list, under a policy
@@ -60,10 +64,59 @@ module _ {X C B S M : Type 0} (means : meaning.Ghosts X C B S M) where
     pub order : error ≢ StaleRead → error ≢ Memory → CanRead list chain tip
 
   -- A call that read left what the database stands for, and what its store has; where it failed by that, its faults rose.
-  pub record ReadsOnly (members : store.Ghosts C) (old new : X) (failed : Type 0) : Type 0 where
+  pub record ReadsOnly (members : store.Ghosts C) (old new : X) {A : Type 0} (result : Result A Error) : Type 0 where
     pub same : (list : List Operation) → means.stands old list → means.stands new list
+    pub numbered : (n : ℕ) → means.numbered old n → means.numbered new n
     pub store : IsUnchanged members (means.inside old) (means.inside new)
-    pub faults : IsCause (members.faults (means.inside old)) (members.faults (means.inside new)) failed
+    pub faults : IsCause (members.faults (means.inside old)) (members.faults (means.inside new)) (IsErrOf result (Journal journal.Store))
+
+  -- the database makes lists of batches of this chain: whatever its instance number is, it takes the chain's
+  abbrev pub Takes : X → Chain → Type 0
+  Takes db chain = (n : ℕ) → means.numbered db n → takes means.scheme.grafts n chain.instance ≡ true
+
+  -- What comes of making this tip list of a batch of this chain, over this list. It is refused as stale where the batch's chain began
+  -- on another instance, then where the list is not on the chain; any other refusal is that of the tip list.
+  pub record Makes (members : store.Ghosts C) (old : X) (list : List Operation) (chain : Chain) (tip : List Operation) (result : Result M Error) : Type 0 where
+    pub takes : IfOk result (λ _. Takes old chain)
+    pub fits : IfOk result (λ _. Fits list chain)
+    pub made : IfOk result (λ b. IsOnChain list chain → (tip_refusal means.scheme.form chain tip ≡ None) × means.is_merkleized b chain tip)
+    pub stale : IfErr result (λ e. e ≡ StaleBatch → (n : ℕ) → means.numbered old n → takes means.scheme.grafts n chain.instance ≡ true → ¬ IsOnChain list chain)
+    pub refused : IfErr result (λ e. e ≢ StaleBatch → TellsFrom members (means.inside old) list → IfSome (refusal_of e) (λ r.
+        Takes old chain × Fits list chain × (IsOnChain list chain → floor list ≤ floor chain.base → tip_refusal means.scheme.form chain tip ≡ Some r)))
+
+  -- What comes of taking a merkleized batch's tip list: the store has got what it lacked of it, or the batch is stale and the database as
+  -- it was, or memory or the store failed, and a first part of that may be there.
+  pub record Applies (members : store.Ghosts C) (old : X) (batch : M) (result : Result X (Refusal X C)) : Type 0 where
+    pub fits : IfOk result (λ _. AtTip old batch (λ list chain tip. Fits list chain))
+    pub applied : IfOk result (λ next. AtTip old batch (λ list chain tip. IsOnChain list chain → means.stands next tip))
+    pub numbered : IfOk result (λ next. (n : ℕ) → means.numbered old n → means.numbered next n)
+    pub grown : IfOk result (λ next. AtTip old batch (λ list chain tip. IsOnChain list chain
+        → Appended members (means.inside old) (means.inside next) (map (spelling means.scheme.form) (drop (length list) tip))))
+    pub stale : IfErr result (λ r. r.error ≡ StaleBatch → (r.given ≡ Database old) × AtTip old batch (λ list chain tip. ¬ IsOnChain list chain))
+    pub refused : IfErr result (λ r. r.error ≢ StaleBatch → refusal_of r.error ≡ None)
+    pub kept : IfErr result (λ r. AtTip old batch (λ list chain tip. AppendedPart members (means.inside old) (store_given means.inside r.given)
+        (if fits means.scheme.root (commitment means.scheme.root list) chain then map (spelling means.scheme.form) (drop (length list) tip) else [])))
+    pub back : IfErr result (λ r. (x : X) → r.given ≡ Database x → x ≡ old)
+    pub start : members.start (store_after means.inside result) ≡ members.start (means.inside old)
+    pub beside : beside_items (members.told (store_after means.inside result)) ≡ beside_items (members.told (means.inside old))
+    pub cause : IfErr result (λ r. r.error ≡ Journal journal.Store → Rose (members.faults (means.inside old)) (members.faults (store_given means.inside r.given)))
+    pub later : members.faults (means.inside old) ≤ members.faults (store_after means.inside result)
+
+  -- What comes of opening a store up to a bound, as a database of this instance number: it stands for the list that is taken up, and
+  -- what the store has behind that is gone; or it is refused as the definition says, with the store as it was; or memory or the store
+  -- failed. Of a store that tells no items its start and its faults are told.
+  pub record Opens (members : store.Ghosts C) (old : C) (bound : Option ℕ) (number : ℕ) (result : Result X (Refusal X C)) : Type 0 where
+    pub opened : IfSome (members.told old) (λ s. (list : List Operation) → IsTaken means.scheme s (selected_size means.scheme bound s) list → IfOk result (λ x. means.stands x list))
+    pub numbered : IfOk result (λ x. means.numbered x number)
+    pub offered : IfSome (members.told old) (λ s. OnOk result (opening_refusal (layout_of means.scheme) (found (layout_of means.scheme) s) bound ≡ None))
+    pub became : IfOk result (λ x. Turns (members.told old) (members.told (means.inside x)) (λ s new. new ≡ taken means.scheme (selected_size means.scheme bound s) s))
+    pub refused : IfSome (members.told old) (λ s. IfErr result (λ r. IsDue r.error (opening_refusal (layout_of means.scheme) (found (layout_of means.scheme) s) bound)))
+    pub unopened : IfErr result (λ r. IfSome (members.told old) (λ s. IsSome (opening_refusal (layout_of means.scheme) (found (layout_of means.scheme) s) bound) → IsUnchanged members old (store_given means.inside r.given)))
+    pub left : IfErr result (λ r. Turns (members.told old) (members.told (store_given means.inside r.given)) (λ s new. LeavesOpening means.scheme (selected_size means.scheme bound s) s new))
+    pub start : members.start (store_after means.inside result) ≡ members.start old
+    pub cause : IfErr result (λ r. r.error ≡ Journal journal.Store → Rose (members.faults old) (members.faults (store_given means.inside r.given)))
+    pub later : members.faults old ≤ members.faults (store_after means.inside result)
+    pub back : IfErr result (λ r. (x : X) → r.given ≢ Database x)
 
   -- A call failed for want of memory or by the store, which is given back, with what may be left of such a call.
   pub record IsGivenUp (members : store.Ghosts C) (old : X) (Left : Stored → Stored → Type 0) (refusal : Refusal X C) : Type 0 where
@@ -77,6 +130,7 @@ module _ {X C B S M : Type 0} (means : meaning.Ghosts X C B S M) where
   -- the store is given back; it has no less than what was stable.
   pub record IsSettling (members : store.Ghosts C) (old : X) (result : Result X (Refusal X C)) : Type 0 where
     pub stands : (list : List Operation) → means.stands old list → IfOk result (λ new. means.stands new list)
+    pub numbered : (n : ℕ) → means.numbered old n → IfOk result (λ new. means.numbered new n)
     pub start : IfOk result (λ new. members.start (means.inside new) ≡ members.start (means.inside old))
     pub told : IfOk result (λ new. Becomes (members.told (means.inside old)) (members.told (means.inside new)) settled)
     pub later : IfOk result (λ new. members.faults (means.inside old) ≤ members.faults (means.inside new))
@@ -90,6 +144,7 @@ module _ {X C B S M : Type 0} (means : meaning.Ghosts X C B S M) where
   -- pruned so far, and its store has what it had from there on.
   pub record IsPruned (members : store.Ghosts C) (to : ℕ) (old new : X) : Type 0 where
     pub stands : (list : List Operation) → means.stands old list → (to ≤ means.scheme.boundary list) × means.stands new list
+    pub numbered : (n : ℕ) → means.numbered old n → means.numbered new n
     pub start : members.start (means.inside new) ≡ max (members.start (means.inside old)) to
     pub head : Bytes
     pub heads : members.start (means.inside old) < to → IsHeadOf old to head

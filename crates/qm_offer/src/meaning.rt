@@ -1,12 +1,11 @@
 //! What a database means to a run, with no call.
 
-ghost use Rattle.std.specs.Prelude.{◌≡◌, ◌≤◌, ℕ, List, length, All};
+ghost use Rattle.std.specs.Prelude.{◌≡◌, ℕ, List, length, All};
 ghost use Rattle.qm_model.specs.Forms.{IsOf};
-ghost use Rattle.qm_model.specs.Live.{floor};
 ghost use Rattle.qm_model.specs.Operations.{Bytes, Operation};
 ghost use Rattle.qm_model.specs.Writes.{Write};
 ghost use Rattle.qm_model.specs.Batches.{Chain};
-ghost use Rattle.qm_model.specs.Schemes.{Scheme};
+ghost use Rattle.qm_model.specs.Schemes.{Scheme, HasBounds};
 
 use qm_store::Store;
 
@@ -24,6 +23,10 @@ pub trait Meaning<C: Store> {
     /// It stands for this operation list.
     ghost stands: { Self → List Operation → Type 0 };
 
+    /// It is the instance of this number. What makes lists of batches of its own instance alone has one number; what makes lists
+    /// of any may be of each.
+    ghost numbered: { Self → ℕ → Type 0 };
+
     /// A batch of this chain, whose parent is of that one and made its base, with these writes. The parent of a batch that
     /// was begun on a database is that as a merkleized batch.
     ghost is_batch: { Self.Batch → Chain → Chain → List Write → Type 0 };
@@ -40,12 +43,12 @@ pub trait Meaning<C: Store> {
     /// A merkleized batch of this chain with this tip list.
     ghost is_merkleized: { Self.Merkleized → Chain → List Operation → Type 0 };
 
-    /// What its machine stands on: how operations are spelled and hashed, the root of a list, which tells a batch whether it
-    /// fits, up to where a list may be pruned, and its proofs and pins.
+    /// What its machine stands on: how operations are spelled and hashed, the operations root of a list, which tells a batch
+    /// whether it fits, and its root, up to where a list may be pruned, its proofs and pins, and what is grafted onto its trees.
     ghost scheme: { Scheme };
 
-    /// No list may be pruned past its floor.
-    ghost low: { (list : List Operation) → scheme.boundary list ≤ floor list };
+    /// No list may be pruned past its floor, nor past the boundary of its chunks, if it has any.
+    ghost bounds: { HasBounds scheme };
 
     /// Its list is of operations of that form.
     ghost formed: { (x : Self) (list : List Operation) → stands x list → All (IsOf scheme.form) list };

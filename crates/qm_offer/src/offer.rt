@@ -1,6 +1,6 @@
 //! What a database offers to a run, over any store: a trait for each group of its calls, and one of them all.
 
-ghost use Rattle.std.specs.Prelude.{◌≡◌, [], List, length, nat_lt};
+ghost use Rattle.std.specs.Prelude.{◌≡◌, [], List, length, nat_lt, is_some};
 ghost use Rattle.qm_model.specs.Batches.{Chain};
 ghost use Rattle.qm_model.specs.Live.{floor, live};
 ghost use Rattle.qm_model.specs.Operations.{Operation};
@@ -51,6 +51,16 @@ pub struct BatchSizes {
     pub boundary: u64,
 }
 
+/// The roots of a list: the one that speaks for a database, and the operations root, by which batches fit. They are one in a
+/// database that has no bits under its root.
+#[derive(Clone, Copy)]
+pub struct Roots<D> {
+    /// The root.
+    pub root: D,
+    /// The operations root.
+    pub operations: D,
+}
+
 /// What the groups of calls stand on: what keys, values and digests are, whether the database is an ordered one, and the
 /// numbers of it and of its merkleized batches.
 pub trait Common<C: Store>: Meaning<C> + Drop + Sized {
@@ -65,6 +75,10 @@ pub trait Common<C: Store>: Meaning<C> + Drop + Sized {
     /// Whether it is an ordered database, which alone offers the reads in key order.
     fn is_ordered() -> bool
         ensures { result ≡ Self.scheme.form.ordered };
+
+    /// Whether it is a current database: one with activity bits under its root.
+    fn is_current() -> bool
+        ensures { result ≡ is_some Self.scheme.grafts };
 
     /// The numbers of the database.
     fn info(&self) -> Numbers

@@ -1,44 +1,30 @@
 //! What makes a store last, and what opens and ends a database.
 
-ghost use Rattle.std.specs.Prelude.{◌≡◌, ◌≢◌, ◌≤◌, List, None, IfOk, IfErr, IfSome, OnOk, IsSome};
-ghost use Rattle.qm_model.specs.Causes.{Rose};
-ghost use Rattle.qm_model.specs.Opening.{found, opening_refusal};
-ghost use Rattle.qm_model.specs.StoreModel.{Turns};
-ghost use Rattle.qm_model.specs.Operations.{Operation};
-ghost use Rattle.qm_model.specs.Schemes.{layout_of};
-ghost use Rattle.qm_store.specs.Given.{store_given, store_after, IsUnchanged};
-ghost use Rattle.qm_store.specs.Refusals.{IsDue};
-ghost use Rattle.qm_model.specs.Taken.{IsTaken, selected_size, taken, LeavesOpening};
-ghost use Rattle.qm_offer.specs.Words.{IsSettling, IsPruned, IsUnpruned, IsDestroying};
+ghost use Rattle.std.specs.Prelude.{◌≡◌, None, IfOk, IfErr};
+ghost use Rattle.qm_offer.specs.Words.{IsSettling, IsPruned, IsUnpruned, IsDestroying, Opens};
 
 use crate::offer::Common;
-use qm_base::{Error, JournalError};
-use qm_store::{Given, Refusal, Store};
+use qm_store::{Refusal, Store};
 use std::alloc::Global;
 
 /// The calls that open, settle and end a database.
 pub trait Durable<C: Store>: Common<C> {
     type Config: Drop;
 
-    /// Opens what the store keeps: the longest list of at most so many operations, where a number is given, that ends with a
-    /// commit; over an empty store a fresh one. What the store has behind the list goes, and all of it is made stable. A
-    /// refusal leaves the store as it was. What a store holds that tells no items is not known.
+    /// Its stores' metadata says nothing: no chunks of bits stand under its root.
+    ghost plain: { Self.scheme.grafts ≡ None };
+
+    /// Opens the longest list of at most `max_size` operations that ends with a commit the store still has; an empty store
+    /// becomes a fresh database. It is the instance of this number. What the store has after that list is cut off, and what
+    /// remains is made stable. A refusal leaves the store as it was.
     fn open(
         alloc: Global,
         store: C,
         config: &Self::Config,
         max_size: Option<u64>,
+        number: u64,
     ) -> Result<Self, Refusal<Self, C>>
-        ensures opened { IfSome (C.told store) (λ s. (list : List Operation) → IsTaken Self.scheme s (selected_size Self.scheme max_size s) list → IfOk result (λ x. Self.stands x list)) }
-        ensures offered { IfSome (C.told store) (λ s. OnOk result (opening_refusal (layout_of Self.scheme) (found (layout_of Self.scheme) s) max_size ≡ None)) }
-        ensures became { IfOk result (λ x. Turns (C.told store) (C.told (Self.inside x)) (λ s new. new ≡ taken Self.scheme (selected_size Self.scheme max_size s) s)) }
-        ensures refused { IfSome (C.told store) (λ s. IfErr result (λ r. IsDue r.error (opening_refusal (layout_of Self.scheme) (found (layout_of Self.scheme) s) max_size))) }
-        ensures unopened { IfErr result (λ r. IfSome (C.told store) (λ s. IsSome (opening_refusal (layout_of Self.scheme) (found (layout_of Self.scheme) s) max_size) → IsUnchanged C.Store store (store_given Self.inside r.given))) }
-        ensures left { IfErr result (λ r. Turns (C.told store) (C.told (store_given Self.inside r.given)) (λ s new. LeavesOpening Self.scheme (selected_size Self.scheme max_size s) s new)) }
-        ensures start { C.start (store_after Self.inside result) ≡ C.start store }
-        ensures cause { IfErr result (λ r. r.error ≡ Error.Journal JournalError.Store → Rose (C.faults store) (C.faults (store_given Self.inside r.given))) }
-        ensures later { C.faults store ≤ C.faults (store_after Self.inside result) }
-        ensures back { IfErr result (λ r. (x : Self) → r.given ≢ Given.Database x) };
+        ensures { Opens Self.Meaning C.Store store max_size number result };
 
     /// Makes the operations stable: from then on a crash leaves them all. A refusal gives back the store.
     fn commit(self) -> Result<Self, Refusal<Self, C>>

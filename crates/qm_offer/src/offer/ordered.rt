@@ -1,6 +1,6 @@
 //! Reads in key order.
 
-ghost use Rattle.std.specs.Prelude.{true, ◌≡◌, ◌≢◌, List, None, map, option_map, IfOk, IfErr, IsErrOf};
+ghost use Rattle.std.specs.Prelude.{true, ◌≡◌, ◌≢◌, List, None, map, option_map, IfOk, IfErr};
 ghost use Rattle.qm_model.specs.Operations.{Operation};
 ghost use Rattle.qm_model.specs.Live.{live, live_keys, live_of};
 ghost use Rattle.qm_model.specs.Ranges.{key_above, key_below, span_of, keys_in, pairs_in};
@@ -12,7 +12,7 @@ ghost use Rattle.qm_store.specs.Refusals.{refusal_of};
 ghost use Rattle.qm_offer.specs.Words.{AtTip, CanRead, IsReadFailure, ReadsOnly};
 
 use crate::offer::Common;
-use qm_base::{Error, JournalError, Span};
+use qm_base::{Error, Span};
 use qm_store::Store;
 use std::alloc::Global;
 use std::ops::Bound;
@@ -23,7 +23,7 @@ pub trait Neighbours<C: Store>: Common<C> {
     fn next(&mut self, alloc: Global, key: &Self::Key) -> Result<Option<Self::Key>, Error>
         ensures above { IfOk result (λ k. Self.scheme.form.ordered ≡ true → (list : List Operation) → Self.stands self.old list
             → option_map Self.Key.bytes k ≡ key_above (live_keys list) (Self.Key.bytes key.now)) }
-        ensures reads { ReadsOnly Self.Meaning C.Store self.old self.new (IsErrOf result (Error.Journal JournalError.Store)) }
+        ensures reads { ReadsOnly Self.Meaning C.Store self.old self.new result }
         ensures never { IfErr result (λ e. e ≢ Error.StaleBatch) }
         ensures refused { IfErr result (λ e. (list : List Operation) → Self.stands self.old list → TellsFrom C.Store (Self.inside self.old) list → refusal_of e ≡ None) };
 
@@ -31,7 +31,7 @@ pub trait Neighbours<C: Store>: Common<C> {
     fn prev(&mut self, alloc: Global, key: &Self::Key) -> Result<Option<Self::Key>, Error>
         ensures below { IfOk result (λ k. Self.scheme.form.ordered ≡ true → (list : List Operation) → Self.stands self.old list
             → option_map Self.Key.bytes k ≡ key_below (live_keys list) (Self.Key.bytes key.now)) }
-        ensures reads { ReadsOnly Self.Meaning C.Store self.old self.new (IsErrOf result (Error.Journal JournalError.Store)) }
+        ensures reads { ReadsOnly Self.Meaning C.Store self.old self.new result }
         ensures never { IfErr result (λ e. e ≢ Error.StaleBatch) }
         ensures refused { IfErr result (λ e. (list : List Operation) → Self.stands self.old list → TellsFrom C.Store (Self.inside self.old) list → refusal_of e ≡ None) };
 
@@ -47,7 +47,7 @@ pub trait Neighbours<C: Store>: Common<C> {
         ensures above { IfOk result (λ k. Self.scheme.form.ordered ≡ true → AtTip Self.Meaning self.old batch.now (λ list chain tip. IsKnown list chain tip
             → option_map Self.Key.bytes k ≡ key_above (live_keys tip) (Self.Key.bytes key.now))) }
         ensures failure { IfErr result (λ e. AtTip Self.Meaning self.old batch.now (λ list chain tip. IsReadFailure Self.Meaning (TellsFrom C.Store (Self.inside self.old) list) list chain tip e)) }
-        ensures reads { ReadsOnly Self.Meaning C.Store self.old self.new (IsErrOf result (Error.Journal JournalError.Store)) }
+        ensures reads { ReadsOnly Self.Meaning C.Store self.old self.new result }
         ensures never { IfErr result (λ e. e ≢ Error.StaleBatch) };
 
     /// In an ordered database reads the nearest live key below this one through a merkleized batch, on the list that it makes.
@@ -62,7 +62,7 @@ pub trait Neighbours<C: Store>: Common<C> {
         ensures below { IfOk result (λ k. Self.scheme.form.ordered ≡ true → AtTip Self.Meaning self.old batch.now (λ list chain tip. IsKnown list chain tip
             → option_map Self.Key.bytes k ≡ key_below (live_keys tip) (Self.Key.bytes key.now))) }
         ensures failure { IfErr result (λ e. AtTip Self.Meaning self.old batch.now (λ list chain tip. IsReadFailure Self.Meaning (TellsFrom C.Store (Self.inside self.old) list) list chain tip e)) }
-        ensures reads { ReadsOnly Self.Meaning C.Store self.old self.new (IsErrOf result (Error.Journal JournalError.Store)) }
+        ensures reads { ReadsOnly Self.Meaning C.Store self.old self.new result }
         ensures never { IfErr result (λ e. e ≢ Error.StaleBatch) };
 
     /// In an ordered database reads the live update whose span holds the key.
@@ -73,7 +73,7 @@ pub trait Neighbours<C: Store>: Common<C> {
     ) -> Result<Option<Span<Self::Key, Self::Value>>, Error>
         ensures span { IfOk result (λ s. Self.scheme.form.ordered ≡ true → (list : List Operation) → Self.stands self.old list
             → option_map (span_view Self.Key.bytes Self.Value.bytes) s ≡ span_of list (Self.Key.bytes key.now)) }
-        ensures reads { ReadsOnly Self.Meaning C.Store self.old self.new (IsErrOf result (Error.Journal JournalError.Store)) }
+        ensures reads { ReadsOnly Self.Meaning C.Store self.old self.new result }
         ensures never { IfErr result (λ e. e ≢ Error.StaleBatch) }
         ensures refused { IfErr result (λ e. (list : List Operation) → Self.stands self.old list → TellsFrom C.Store (Self.inside self.old) list → refusal_of e ≡ None) };
 
@@ -85,7 +85,7 @@ pub trait Neighbours<C: Store>: Common<C> {
     ) -> Result<Option<(Self::Value, Self::Key)>, Error>
         ensures whole { IfOk result (λ p. Self.scheme.form.ordered ≡ true → (list : List Operation) → Self.stands self.old list
             → option_map (whole_view Self.Key.bytes Self.Value.bytes) p ≡ option_map (λ e. (e.value, e.next)) (live_of (live list) (Self.Key.bytes key.now))) }
-        ensures reads { ReadsOnly Self.Meaning C.Store self.old self.new (IsErrOf result (Error.Journal JournalError.Store)) }
+        ensures reads { ReadsOnly Self.Meaning C.Store self.old self.new result }
         ensures never { IfErr result (λ e. e ≢ Error.StaleBatch) }
         ensures refused { IfErr result (λ e. (list : List Operation) → Self.stands self.old list → TellsFrom C.Store (Self.inside self.old) list → refusal_of e ≡ None) };
 
@@ -98,7 +98,7 @@ pub trait Neighbours<C: Store>: Common<C> {
     ) -> Result<Vec<(Self::Key, Self::Value)>, Error>
         ensures pairs { IfOk result (λ pairs. Self.scheme.form.ordered ≡ true → (list : List Operation) → Self.stands self.old list
             → map (pair_view Self.Key.bytes Self.Value.bytes) pairs.items ≡ pairs_in (limit_of Self.Key.bytes low.now) (limit_of Self.Key.bytes high.now) list) }
-        ensures reads { ReadsOnly Self.Meaning C.Store self.old self.new (IsErrOf result (Error.Journal JournalError.Store)) }
+        ensures reads { ReadsOnly Self.Meaning C.Store self.old self.new result }
         ensures never { IfErr result (λ e. e ≢ Error.StaleBatch) }
         ensures refused { IfErr result (λ e. (list : List Operation) → Self.stands self.old list → TellsFrom C.Store (Self.inside self.old) list → refusal_of e ≡ None) };
 
@@ -111,7 +111,7 @@ pub trait Neighbours<C: Store>: Common<C> {
     ) -> Result<Vec<Self::Key>, Error>
         ensures keys { IfOk result (λ keys. Self.scheme.form.ordered ≡ true → (list : List Operation) → Self.stands self.old list
             → map Self.Key.bytes keys.items ≡ keys_in (limit_of Self.Key.bytes low.now) (limit_of Self.Key.bytes high.now) list) }
-        ensures reads { ReadsOnly Self.Meaning C.Store self.old self.new (IsErrOf result (Error.Journal JournalError.Store)) }
+        ensures reads { ReadsOnly Self.Meaning C.Store self.old self.new result }
         ensures never { IfErr result (λ e. e ≢ Error.StaleBatch) }
         ensures refused { IfErr result (λ e. (list : List Operation) → Self.stands self.old list → TellsFrom C.Store (Self.inside self.old) list → refusal_of e ≡ None) };
 }

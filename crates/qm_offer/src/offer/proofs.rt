@@ -1,6 +1,6 @@
 //! Proofs and pins.
 
-ghost use Rattle.std.specs.Prelude.{◌≡◌, ◌≢◌, ◌+◌, List, None, map, take, drop, length, IfOk, IfErr, IsErrOf};
+ghost use Rattle.std.specs.Prelude.{◌≡◌, ◌≢◌, ◌+◌, List, None, map, take, drop, length, IfOk, IfErr};
 ghost use Rattle.std.specs.Int.NonZero.{non_zero_u64_get};
 ghost use Rattle.qm_model.specs.Operations.{Operation};
 ghost use Rattle.qm_model.specs.Batches.{IsKnown};
@@ -51,7 +51,7 @@ pub trait Proving<C: Store>: Common<C> {
         ensures ops { IfOk result (λ r. (list : List Operation) → Self.stands self.old list
             → map (listed_view Self.Key.bytes Self.Value.bytes) r.1.items ≡ take (proof_count size start (non_zero_u64_get max)) (drop start list)) }
         ensures refused { IfErr result (λ e. (list : List Operation) → Self.stands self.old list → IsDue e (proof_refusal (C.start (Self.inside self.old)) list size start)) }
-        ensures reads { ReadsOnly Self.Meaning C.Store self.old self.new (IsErrOf result (Error.Journal JournalError.Store)) }
+        ensures reads { ReadsOnly Self.Meaning C.Store self.old self.new result }
         ensures never { IfErr result (λ e. e ≢ Error.StaleBatch) };
 
     /// The digests of the peaks over the first `at` operations, which a node that starts there has to keep. It is

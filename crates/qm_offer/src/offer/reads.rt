@@ -1,6 +1,6 @@
 //! Reads of a database, and of its batches.
 
-ghost use Rattle.std.specs.Prelude.{◌≡◌, ◌≢◌, List, None, map, length, option_map, IfOk, IfErr, IsErrOf};
+ghost use Rattle.std.specs.Prelude.{◌≡◌, ◌≢◌, List, None, map, length, option_map, IfOk, IfErr};
 ghost use Rattle.qm_model.specs.Operations.{Operation};
 ghost use Rattle.qm_model.specs.Live.{value_of, last_metadata};
 ghost use Rattle.qm_model.specs.Writes.{read_through};
@@ -8,18 +8,19 @@ ghost use Rattle.qm_model.specs.Batches.{Chain, IsKnown, own_operations};
 ghost use Rattle.qm_base.specs.Listed.{listed_view};
 ghost use Rattle.qm_store.specs.Given.{TellsFrom};
 ghost use Rattle.qm_store.specs.Refusals.{refusal_of};
+ghost use Rattle.qm_offer.specs.Roots.{AreRoots};
 ghost use Rattle.qm_offer.specs.Words.{AtBatch, AtTip, CanRead, IsReadFailure, ReadsOnly};
 
-use crate::offer::Common;
-use qm_base::{Error, JournalError, Listed};
+use crate::offer::{Common, Roots};
+use qm_base::{Error, Listed};
 use qm_store::Store;
 use std::alloc::{AllocError, Global};
 
 /// The calls that read a database or its batches.
 pub trait Reading<C: Store>: Common<C> {
-    /// The root of the list that a merkleized batch makes.
-    fn batch_root(batch: &Self::Merkleized) -> Self::Digest
-        ensures { (chain : Chain) (tip : List Operation) → Self.is_merkleized batch.now chain tip → Self.Digest.bytes result ≡ Self.scheme.root tip };
+    /// The roots of the list that a merkleized batch makes.
+    fn batch_root(batch: &Self::Merkleized) -> Roots<Self::Digest>
+        ensures { (chain : Chain) (tip : List Operation) → Self.is_merkleized batch.now chain tip → AreRoots Self.scheme Self.Digest.bytes tip result };
 
     /// The size of a merkleized batch's base, and its own operations.
     fn ops(
@@ -33,7 +34,7 @@ pub trait Reading<C: Store>: Common<C> {
     fn get(&mut self, alloc: Global, keys: &[Self::Key]) -> Result<Vec<Option<Self::Value>>, Error>
         ensures values { IfOk result (λ v. (list : List Operation) → Self.stands self.old list
             → map (option_map Self.Value.bytes) v.items ≡ map (λ k. value_of list (Self.Key.bytes k)) keys.now) }
-        ensures reads { ReadsOnly Self.Meaning C.Store self.old self.new (IsErrOf result (Error.Journal JournalError.Store)) }
+        ensures reads { ReadsOnly Self.Meaning C.Store self.old self.new result }
         ensures never { IfErr result (λ e. e ≢ Error.StaleBatch) }
         ensures refused { IfErr result (λ e. (list : List Operation) → Self.stands self.old list → TellsFrom C.Store (Self.inside self.old) list → refusal_of e ≡ None) };
 
@@ -50,7 +51,7 @@ pub trait Reading<C: Store>: Common<C> {
             → map (option_map Self.Value.bytes) v.items ≡ map (λ k. read_through chain.base ws (Self.Key.bytes k)) keys.now)) }
         ensures failure { IfErr result (λ e. AtBatch Self.Meaning self.old batch.now (λ list chain above ws.
             IsReadFailure Self.Meaning (TellsFrom C.Store (Self.inside self.old) list) list above chain.base e)) }
-        ensures reads { ReadsOnly Self.Meaning C.Store self.old self.new (IsErrOf result (Error.Journal JournalError.Store)) }
+        ensures reads { ReadsOnly Self.Meaning C.Store self.old self.new result }
         ensures never { IfErr result (λ e. e ≢ Error.StaleBatch) };
 
     /// Reads the values of keys through a merkleized batch, on the list that it makes. It is refused where the database is at
@@ -65,12 +66,12 @@ pub trait Reading<C: Store>: Common<C> {
         ensures values { IfOk result (λ v. AtTip Self.Meaning self.old batch.now (λ list chain tip. IsKnown list chain tip
             → map (option_map Self.Value.bytes) v.items ≡ map (λ k. value_of tip (Self.Key.bytes k)) keys.now)) }
         ensures failure { IfErr result (λ e. AtTip Self.Meaning self.old batch.now (λ list chain tip. IsReadFailure Self.Meaning (TellsFrom C.Store (Self.inside self.old) list) list chain tip e)) }
-        ensures reads { ReadsOnly Self.Meaning C.Store self.old self.new (IsErrOf result (Error.Journal JournalError.Store)) }
+        ensures reads { ReadsOnly Self.Meaning C.Store self.old self.new result }
         ensures never { IfErr result (λ e. e ≢ Error.StaleBatch) };
 
-    /// The operations root of the database's list.
-    fn root(&self, alloc: Global) -> Result<Self::Digest, AllocError>
-        ensures { IfOk result (λ d. (list : List Operation) → Self.stands self.now list → Self.Digest.bytes d ≡ Self.scheme.root list) };
+    /// The roots of the database's list.
+    fn root(&self) -> Roots<Self::Digest>
+        ensures { (list : List Operation) → Self.stands self.now list → AreRoots Self.scheme Self.Digest.bytes list result };
 
     /// The metadata of the list's last commit.
     fn metadata(&self, alloc: Global) -> Result<Option<Self::Value>, AllocError>

@@ -1,18 +1,15 @@
 //! Staged batches.
 
-ghost use Rattle.std.specs.Prelude.{◌≡◌, ◌≢◌, ◌≤◌, ◌+◌, ◌++◌, Some, None, map, length, option_map, IfOk, IfErr, IfSome, IsErrOf};
-ghost use Rattle.qm_model.specs.Live.{floor};
+ghost use Rattle.std.specs.Prelude.{◌≡◌, ◌≢◌, ◌+◌, ◌++◌, map, length, option_map, IfOk, IfErr};
 ghost use Rattle.qm_model.specs.Writes.{read_through};
-ghost use Rattle.qm_model.specs.Batches.{IsOnChain, IsKnown, fits};
-ghost use Rattle.qm_model.specs.Refusals.{tip_refusal};
-ghost use Rattle.qm_store.specs.Given.{TellsFrom};
-ghost use Rattle.qm_store.specs.Refusals.{refusal_of};
-ghost use Rattle.qm_base.specs.Slots.{slot_views, write_views};
+ghost use Rattle.qm_model.specs.Batches.{IsKnown};
 ghost use Rattle.qm_model.specs.Slots.{slotted};
-ghost use Rattle.qm_offer.specs.Words.{AtBatch, AtStaged, Fits, CanRead, IsReadFailure, ReadsOnly, tip_of};
+ghost use Rattle.qm_base.specs.Slots.{slot_views, write_views};
+ghost use Rattle.qm_store.specs.Given.{TellsFrom};
+ghost use Rattle.qm_offer.specs.Words.{AtBatch, AtStaged, CanRead, IsReadFailure, Makes, ReadsOnly, tip_of};
 
 use crate::offer::batches::Batching;
-use qm_base::{Error, JournalError, Resolution};
+use qm_base::{Error, Resolution};
 use qm_chain::Policy;
 use qm_store::Store;
 use std::alloc::Global;
@@ -34,7 +31,7 @@ pub trait Staging<C: Store>: Batching<C> {
             × Self.is_staged r.1 chain above ws (map Self.Key.bytes keys.now))) }
         ensures failure { IfErr result (λ e. AtBatch Self.Meaning self.old batch (λ list chain above ws.
             IsReadFailure Self.Meaning (TellsFrom C.Store (Self.inside self.old) list) list above chain.base e)) }
-        ensures reads { ReadsOnly Self.Meaning C.Store self.old self.new (IsErrOf result (Error.Journal JournalError.Store)) }
+        ensures reads { ReadsOnly Self.Meaning C.Store self.old self.new result }
         ensures never { IfErr result (λ e. e ≢ Error.StaleBatch) };
 
     /// Reads the values of more keys, as `stage` does, and puts them behind the staged ones; their places are told.
@@ -51,7 +48,7 @@ pub trait Staging<C: Store>: Batching<C> {
             × Self.is_staged r.2 chain above ws (staged ++ map Self.Key.bytes keys.now))) }
         ensures failure { IfErr result (λ e. AtStaged Self.Meaning self.old batch (λ list chain above ws staged.
             IsReadFailure Self.Meaning (TellsFrom C.Store (Self.inside self.old) list) list above chain.base e)) }
-        ensures reads { ReadsOnly Self.Meaning C.Store self.old self.new (IsErrOf result (Error.Journal JournalError.Store)) }
+        ensures reads { ReadsOnly Self.Meaning C.Store self.old self.new result }
         ensures never { IfErr result (λ e. e ≢ Error.StaleBatch) };
 
     /// How many keys a staged batch has.
@@ -69,13 +66,8 @@ pub trait Staging<C: Store>: Batching<C> {
         metadata: &Option<Self::Value>,
     ) -> Result<Self::Merkleized, Error>
         requires { length resolution.now.slots.items ≡ Self.count batch }
-        ensures fits { IfOk result (λ _. AtStaged Self.Meaning self.old batch (λ list chain above ws keys. Fits Self.Meaning list chain)) }
-        ensures made { IfOk result (λ b. AtStaged Self.Meaning self.old batch (λ list chain above ws keys. IsOnChain list chain
-            → let tip = tip_of Self.scheme P.rules chain (slotted ws keys (slot_views Self.Value.bytes resolution.now.slots.items) (write_views Self.Key.bytes Self.Value.bytes resolution.now.others.items)) policy.old (option_map Self.Value.bytes metadata.now) in
-            (tip_refusal Self.scheme.form chain tip ≡ None) × Self.is_merkleized b chain tip)) }
-        ensures stale { IfErr result (λ e. e ≡ Error.StaleBatch → AtStaged Self.Meaning self.old batch (λ list chain above ws keys. ¬ IsOnChain list chain)) }
-        ensures refused { IfErr result (λ e. e ≢ Error.StaleBatch → AtStaged Self.Meaning self.old batch (λ list chain above ws keys.
-            TellsFrom C.Store (Self.inside self.old) list → IfSome (refusal_of e) (λ r. Fits Self.Meaning list chain
-            × (IsOnChain list chain → floor list ≤ floor chain.base → tip_refusal Self.scheme.form chain (tip_of Self.scheme P.rules chain (slotted ws keys (slot_views Self.Value.bytes resolution.now.slots.items) (write_views Self.Key.bytes Self.Value.bytes resolution.now.others.items)) policy.old (option_map Self.Value.bytes metadata.now)) ≡ Some r)))) }
-        ensures reads { ReadsOnly Self.Meaning C.Store self.old self.new (IsErrOf result (Error.Journal JournalError.Store)) };
+        ensures makes { AtStaged Self.Meaning self.old batch (λ list chain above ws keys.
+            let writes = slotted ws keys (slot_views Self.Value.bytes resolution.now.slots.items) (write_views Self.Key.bytes Self.Value.bytes resolution.now.others.items) in
+            Makes Self.Meaning C.Store self.old list chain (tip_of Self.scheme P.rules chain writes policy.old (option_map Self.Value.bytes metadata.now)) result) }
+        ensures reads { ReadsOnly Self.Meaning C.Store self.old self.new result };
 }
