@@ -77,8 +77,8 @@ module _ {X C B S M : Type 0} (means : meaning.Ghosts X C B S M) where
   -- What comes of making this tip list of a batch of this chain, over this list. It is refused as stale where the batch's chain began
   -- on another instance, then where the list is not on the chain; any other refusal is that of the tip list.
   pub record Makes (members : store.Ghosts C) (old : X) (list : List Operation) (chain : Chain) (tip : List Operation) (result : Result M Error) : Type 0 where
-    pub takes : IfOk result (λ _. Takes old chain)
-    pub fits : IfOk result (λ _. Fits list chain)
+    pub instance : IfOk result (λ _. Takes old chain)
+    pub fit : IfOk result (λ _. Fits list chain)
     pub made : IfOk result (λ b. IsOnChain list chain → (tip_refusal means.scheme.form chain tip ≡ None) × means.is_merkleized b chain tip)
     pub stale : IfErr result (λ e. e ≡ StaleBatch → (n : ℕ) → means.numbered old n → takes means.scheme.grafts n chain.instance ≡ true → ¬ IsOnChain list chain)
     pub refused : IfErr result (λ e. e ≢ StaleBatch → TellsFrom members (means.inside old) list → IfSome (refusal_of e) (λ r.
@@ -87,7 +87,7 @@ module _ {X C B S M : Type 0} (means : meaning.Ghosts X C B S M) where
   -- What comes of taking a merkleized batch's tip list: the store has got what it lacked of it, or the batch is stale and the database as
   -- it was, or memory or the store failed, and a first part of that may be there.
   pub record Applies (members : store.Ghosts C) (old : X) (batch : M) (result : Result X (Refusal X C)) : Type 0 where
-    pub fits : IfOk result (λ _. AtTip old batch (λ list chain tip. Fits list chain))
+    pub fit : IfOk result (λ _. AtTip old batch (λ list chain tip. Fits list chain))
     pub applied : IfOk result (λ next. AtTip old batch (λ list chain tip. IsOnChain list chain → means.stands next tip))
     pub numbered : IfOk result (λ next. (n : ℕ) → means.numbered old n → means.numbered next n)
     pub grown : IfOk result (λ next. AtTip old batch (λ list chain tip. IsOnChain list chain

@@ -1,6 +1,6 @@
 //! What a database offers to a run, over any store: a trait for each group of its calls, and one of them all.
 
-ghost use Rattle.std.specs.Prelude.{◌≡◌, [], List, length, nat_lt, is_some};
+ghost use Rattle.std.specs.Prelude.{◌≡◌, [], List, length, nat_lt, None};
 ghost use Rattle.qm_model.specs.Batches.{Chain};
 ghost use Rattle.qm_model.specs.Live.{floor, live};
 ghost use Rattle.qm_model.specs.Operations.{Operation};
@@ -76,10 +76,6 @@ pub trait Common<C: Store>: Meaning<C> + Drop + Sized {
     fn is_ordered() -> bool
         ensures { result ≡ Self.scheme.form.ordered };
 
-    /// Whether it is a current database: one with activity bits under its root.
-    fn is_current() -> bool
-        ensures { result ≡ is_some Self.scheme.grafts };
-
     /// The numbers of the database.
     fn info(&self) -> Numbers
         ensures start { result.start ≡ C.start (Self.inside self.now) }
@@ -90,6 +86,9 @@ pub trait Common<C: Store>: Meaning<C> + Drop + Sized {
     fn sizes(batch: &Self::Merkleized) -> BatchSizes
         ensures { (chain : Chain) (tip : List Operation) → Self.is_merkleized batch.now chain tip
             → (result.base ≡ length chain.base) × (result.tip ≡ length tip) × (result.floor ≡ floor tip) × (result.boundary ≡ Self.scheme.boundary tip) };
+
+    /// No chunks of bits stand under its root, so that its stores' metadata says nothing.
+    ghost plain: { Self.scheme.grafts ≡ None };
 
     /// Nothing has no peaks.
     ghost bare: { peaks Self.scheme.shape 0 ≡ [] };

@@ -1,6 +1,6 @@
 //! What makes a store last, and what opens and ends a database.
 
-ghost use Rattle.std.specs.Prelude.{◌≡◌, None, IfOk, IfErr};
+ghost use Rattle.std.specs.Prelude.{◌≡◌, IfOk, IfErr};
 ghost use Rattle.qm_offer.specs.Words.{IsSettling, IsPruned, IsUnpruned, IsDestroying, Opens};
 
 use crate::offer::Common;
@@ -10,9 +10,6 @@ use std::alloc::Global;
 /// The calls that open, settle and end a database.
 pub trait Durable<C: Store>: Common<C> {
     type Config: Drop;
-
-    /// Its stores' metadata says nothing: no chunks of bits stand under its root.
-    ghost plain: { Self.scheme.grafts ≡ None };
 
     /// Opens the longest list of at most `max_size` operations that ends with a commit the store still has; an empty store
     /// becomes a fresh database. It is the instance of this number. What the store has after that list is cut off, and what
