@@ -17,3 +17,4 @@ pub mod Trees
 pub mod Unmade
 pub mod Unapplied
 pub mod ScannedKeys
+pub mod Offered

@@ -7,3 +7,4 @@ pub mod Scanned
 pub mod Restoring
 pub mod Lent
 pub mod Reading
+pub mod Offered

@@ -5,6 +5,7 @@ pub mod batch;
 pub mod db;
 mod durable;
 pub mod laws;
+mod offer;
 mod open;
 mod operations;
 mod ordered;

@@ -1,7 +1,7 @@
 use Rattle.std.proofs.Common.{◌≡◌, take, map}
 use Rattle.qm_base.specs.Listed.{listed_view}
 use Rattle.qm_operations.specs.Views.{operation_views}
-use Rattle.qm_run.proofs.listed.listed.Given as goal
+use Rattle.qm_any.proofs.offer.listed.listed.Given as goal
 
 abbrev pub invariant-loop-operation : goal.invariant-loop-operation
 invariant-loop-operation g l =

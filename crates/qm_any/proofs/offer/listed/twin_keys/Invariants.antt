@@ -1,5 +1,5 @@
 use Rattle.std.proofs.Common.{◌≡◌, take}
-use Rattle.qm_run.proofs.listed.twin_keys.Given as goal
+use Rattle.qm_any.proofs.offer.listed.twin_keys.Given as goal
 
 abbrev pub invariant-loop-key : goal.invariant-loop-key
 invariant-loop-key g l = l.copies.items ≡ take l.key-index l.keys

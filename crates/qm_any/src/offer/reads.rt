@@ -1,0 +1,69 @@
+//! Reads of a database, and of its batches.
+
+use crate::db::Db;
+use crate::offer::listed::listed;
+use qm_base::{Error, Hasher, Listed, Location};
+use qm_merkle::Family;
+use qm_offer::{Reading, Roots};
+use qm_operations::Update;
+use qm_store::Store;
+use std::alloc::{AllocError, Global};
+
+impl<
+    F: Family,
+    C: Store + Drop,
+    I: qm_index::Unordered<Value = Location<F>> + Drop,
+    H: Hasher + Drop,
+    U: Update,
+> Reading<C> for Db<F, C, I, H, U> {
+    fn batch_root(batch: &Self::Merkleized) -> Roots<H::Digest> {
+        let root = batch.root();
+        Roots {
+            root,
+            operations: root,
+        }
+    }
+
+    fn ops(
+        alloc: Global,
+        batch: &Self::Merkleized,
+    ) -> Result<(u64, Vec<Listed<U::Key, U::Value>>), AllocError> {
+        let (base, own) = batch.operations();
+        let own = listed(alloc, own)?;
+        Ok((base.get(), own))
+    }
+
+    fn get(&mut self, alloc: Global, keys: &[U::Key]) -> Result<Vec<Option<U::Value>>, Error> {
+        self.get_many(alloc, keys)
+    }
+
+    fn get_through(
+        &mut self,
+        alloc: Global,
+        batch: &Self::Batch,
+        keys: &[U::Key],
+    ) -> Result<Vec<Option<U::Value>>, Error> {
+        batch.get_many(alloc, keys, self)
+    }
+
+    fn get_from(
+        &mut self,
+        alloc: Global,
+        batch: &Self::Merkleized,
+        keys: &[U::Key],
+    ) -> Result<Vec<Option<U::Value>>, Error> {
+        batch.get_many(alloc, keys, self)
+    }
+
+    fn root(&self) -> Roots<H::Digest> {
+        let root = self.root();
+        Roots {
+            root,
+            operations: root,
+        }
+    }
+
+    fn metadata(&self, alloc: Global) -> Result<Option<U::Value>, AllocError> {
+        self.get_metadata(alloc)
+    }
+}
