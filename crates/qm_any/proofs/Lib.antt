@@ -18,3 +18,8 @@ pub mod Unmade
 pub mod Unapplied
 pub mod ScannedKeys
 pub mod Offered
+pub mod OfferedHeads
+pub mod OfferedStores
+pub mod OfferedSpans
+pub mod OfferedRanges
+pub mod OfferedProofs

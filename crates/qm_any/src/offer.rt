@@ -9,7 +9,11 @@ ghost use Rattle.qm_any.specs.Layouts.{hashing_of, layout_of};
 ghost use Rattle.qm_any.specs.Offered.{scheme_of};
 
 mod batches;
+mod durable;
 mod listed;
+mod ordered;
+mod proofs;
+mod ranges;
 mod reads;
 mod staged;
 

@@ -8,7 +8,7 @@ ghost use Rattle.qm_step.specs.Lent.{NoneBelow};
 ghost use Rattle.qm_base.specs.Views.{limit_of, pair_view};
 ghost use Rattle.qm_batch.specs.Scans.{left_of};
 
-use qm_any::db::{Db, LaidOut};
+use crate::db::{Db, LaidOut};
 use qm_base::{ByteString, Error, Hasher, JournalError, Location};
 use qm_batch::Scan;
 use qm_merkle::Family;
@@ -66,7 +66,7 @@ fn collected<
 }
 
 /// The live keys of a range of the database with their values, by key.
-pub fn pairs_of<
+pub(crate) fn pairs_of<
     F: Family,
     C: Store,
     I: qm_index::Unordered<Value = Location<F>>,
@@ -107,7 +107,7 @@ fn firsts<K: ByteString, V: ByteString>(
 }
 
 /// The live keys of a range of the database, by key.
-pub fn keys_of<
+pub(crate) fn keys_of<
     F: Family,
     C: Store,
     I: qm_index::Unordered<Value = Location<F>>,

@@ -1,0 +1,125 @@
+-- What opens a database over sha256, and what makes one last or ends it, as an offer says it.
+use Rattle.std.proofs.Common.{arith, ◌≡◌, ◌⊎◌, inl, inr, ◌≤◌, ◌<◌, ℕ, zero, suc, List, [], ◌∷◌, length, map, Option, Some, None, IfSome, refl, sym, ap, ◌∙◌, subst}
+use Rattle.std.specs.Prelude.{◌^◌, option_map, option_and_then}
+use Rattle.std.specs.Option.{option_or}
+use Rattle.qm_model.specs.Families.{Births, IsFamily, HasPeaks}
+use Rattle.qm_model.specs.Trees.{Shape}
+use Rattle.std.specs.Prelude.{Result, Ok, Err, IfOk, IfErr}
+use Rattle.qm_model.specs.Forms.{Form, spelling}
+use Rattle.qm_model.specs.Live.{floor}
+use Rattle.qm_model.specs.Operations.{Bytes, Operation, fresh}
+use Rattle.qm_model.specs.StoreModel.{Stored, settled, pruned, IsImage, IsOldOrNew, ReadsAs, Turns, Becomes}
+use Rattle.qm_model.specs.Opening.{Selected, commit_at, last_commit, below_bound, found, selected, size_of}
+use Rattle.qm_model.specs.Refusals.{commit_floor}
+use Rattle.qm_base.specs.declared.error.Error.{Error}
+use Rattle.qm_base.specs.declared.error.Error.TheVariants as errors
+use Rattle.qm_base.specs.declared.error.JournalError.TheVariants as journal
+use Rattle.qm_base.specs.declared.sha256.Sha256Digest.{Sha256Digest}
+use Rattle.qm_store.specs.declared.refusal.Given.{Given}
+use Rattle.qm_store.specs.declared.Store as store
+use Rattle.qm_store.specs.declared.refusal.Given.TheVariants as variants
+use Rattle.qm_store.specs.declared.refusal.Refusal.{Refusal}
+use Rattle.qm_store.specs.Given.{store_after, store_given}
+use Rattle.qm_store.specs.Refusals.{refusal_of}
+use Rattle.qm_any.specs.Restoring as any
+use Rattle.qm_any.specs.Lasting.{cut_to, IsHeadAt}
+use Rattle.qm_any.specs.Databases.{Database, IsDatabase}
+use Rattle.qm_model.specs.Schemes.{layout_of}
+use Rattle.qm_model.specs.Taken.{IsTaken, selected_size, head_at, taken, pruned_from, LeavesOpening, LeavesPruning}
+use Rattle.qm_any.proofs.OfferedHeads.{head-is, is-head, hashing, scheme}
+
+turned-each : (o new : Option Stored) (R Q : Stored → Stored → Type 0) → ((s t : Stored) → R s t → Q s t) → Turns o new R → Turns o new Q
+turned-each None new R Q each is = is
+turned-each (Some s) None R Q each is = absurd is
+turned-each (Some s) (Some t) R Q each is = each s t is
+
+-- a commit that is selected stands at the start or behind it
+abbrev IsPast : ℕ → Option Selected → Type 0
+IsPast start at = (size_of at ≡ 0) ⊎ (start < size_of at)
+
+commit-past : (start i : ℕ) (item : Option Operation) (before : Option Selected) → start ≤ i → IsPast start before → IsPast start (option_or (commit_at i item) before)
+commit-past start i item before low past = by (option_and_then commit_floor item)
+  where
+    by : (floor : Option ℕ) → IsPast start (option_or (option_map (λ f. record { size = suc i; floor = f }) floor) before)
+    by None = past
+    by (Some f) = inr (omega (arith, low))
+
+last-past : (start i : ℕ) (before : Option Selected) (items : List (Option Operation)) → start ≤ i → IsPast start before → IsPast start (last_commit i before items)
+last-past start i before [] low past = past
+last-past start i before (item ∷ items) low past = last-past start (suc i) (option_or (commit_at i item) before) items (omega (arith, low)) (commit-past start i item before low past)
+
+module _ (shape : Shape) (births : Births) (family : IsFamily shape births) (peaked : HasPeaks shape) (form : Form) where
+  past_start : (s : Stored) (bound : Option ℕ) (j : ℕ) → selected_size (scheme shape form) bound s ≡ suc j → s.start < suc j
+  past_start s bound j is = by (last-past s.start s.start None (below_bound bound (found (layout_of (scheme shape form)) s)) (omega arith) (inl refl))
+    where
+      by : IsPast s.start (selected (found (layout_of (scheme shape form)) s) bound) → s.start < suc j
+      by (inl none) = absurd (omega (arith, none, is))
+      by (inr past) = omega (arith, past, is)
+
+  -- the list that is taken up, as the database has it
+  pub opened-list : (told : Option Stored) (bound : Option ℕ) (S : List Operation → Type 0)
+      → IfSome told (λ s. (list : List Operation) → any.HasList (hashing shape form) s (any.selected_size (hashing shape form) bound s) list → S list)
+      → IfSome told (λ s. any.selected_size (hashing shape form) bound s ≡ 0 → S fresh)
+      → IfSome told (λ s. (list : List Operation) → IsTaken (scheme shape form) s (selected_size (scheme shape form) bound s) list → S list)
+  opened-list None bound S stands begun = tt
+  opened-list (Some s) bound S stands begun = λ list is. by (selected_size (scheme shape form) bound s) refl list is
+    where
+      by : (n : ℕ) → selected_size (scheme shape form) bound s ≡ n → (list : List Operation) → IsTaken (scheme shape form) s n list → S list
+      by zero e list is = subst S (sym is) (begun e)
+      by (suc j) e list is =
+          let within : s.start ≤ length list = omega (arith, is.size_is, past_start s bound j e) in
+          stands list (subst (λ n. any.HasList (hashing shape form) s n list) (sym e) record {
+            size_is = is.size_is;
+            of = is.of;
+            good = is.good;
+            ring = is.ring;
+            items = is.items;
+            head = is-head shape births family peaked form list s.start (omega (arith, is.size_is, is.few, within)) within s.head is.head;
+          })
+
+  taken-same : (n : ℕ) (s : Stored) → any.taken (hashing shape form) n s ≡ taken (scheme shape form) n s
+  taken-same zero s = refl
+  taken-same (suc n) s = refl
+
+  leaves-same : (n : ℕ) (s t : Stored) → any.LeavesOpening (hashing shape form) n s t → LeavesOpening (scheme shape form) n s t
+  leaves-same zero s t is = is
+  leaves-same (suc n) s t is = is
+
+  pub became-taken : (o new : Option Stored) (bound : Option ℕ) → Turns o new (λ s t. t ≡ any.taken (hashing shape form) (any.selected_size (hashing shape form) bound s) s) → Turns o new (λ s t. t ≡ taken (scheme shape form) (selected_size (scheme shape form) bound s) s)
+  became-taken o new bound is = turned-each o new _ _ (λ s t e. e ∙ taken-same (selected_size (scheme shape form) bound s) s) is
+
+  pub left-opening : (o new : Option Stored) (bound : Option ℕ) → Turns o new (λ s t. any.LeavesOpening (hashing shape form) (any.selected_size (hashing shape form) bound s) s t) → Turns o new (λ s t. LeavesOpening (scheme shape form) (selected_size (scheme shape form) bound s) s t)
+  left-opening o new bound is = turned-each o new _ _ (λ s t. leaves-same (selected_size (scheme shape form) bound s) s t) is
+
+-- want of memory and a fault of the store refuse nothing
+pub untold : (e : Error) → (e ≡ errors.Memory) ⊎ (e ≡ errors.Journal journal.Store) → refusal_of e ≡ None
+untold e (inl memory) = ap refusal_of memory
+untold e (inr fault) = ap refusal_of fault
+
+-- what a prune makes of a store, its start being the tree's
+pub pruned-same : (o new : Option Stored) (first start to : ℕ) (head : Bytes) → first ≡ start → Becomes o new (λ s. cut_to first to head (settled s)) → Becomes o new (pruned_from start to head)
+pruned-same o new first start to head is became = subst (λ n. Becomes o new (λ s. cut_to n to head (settled s))) is became
+
+-- what a failed one leaves
+pub left-stable : (o new : Option Stored) (start : ℕ) (IsHead : Bytes → Type 0) (to : ℕ) → Turns o new (λ s. ReadsAs s.stable (IsImage s)) → Turns o new (LeavesPruning start IsHead to)
+left-stable o new start IsHead to is = turned-each o new _ _ (λ s t left. inl left) is
+
+pub left-pruned : (o new : Option Stored) (start : ℕ) (IsHead : Bytes → Type 0) (to : ℕ) (head : Bytes) → start < to → IsHead head → Turns o new (λ s. ReadsAs (settled s).stable (IsOldOrNew (pruned to head) (settled s)))
+    → Turns o new (LeavesPruning start IsHead to)
+left-pruned o new start IsHead to head past heads is = turned-each o new _ _ (λ s t left. inr (past, head, heads, left)) is
+
+module _ (shape : Shape) (births : Births) (family : IsFamily shape births) (peaked : HasPeaks shape) {C : Type 0} (members : store.Ghosts C) (form : Form) (index_key : Bytes → ℕ) (db : Database C Sha256Digest) (to : ℕ) where
+  -- a head over the log's items is that of its list
+  pub heads-of : (head : Bytes) → IsHeadAt members (hashing shape form) to db.log head → (list : List Operation) → IsDatabase members (record { hashing = hashing shape form; index_key = index_key }) db list → to ≤ floor list → length list ≤ 2 ^ 62 → head ≡ head_at (scheme shape form) list to
+  heads-of head heads list is low few =
+      let within : to ≤ length list = omega (arith, low, is.good.floor_within) in
+      head-is shape births family peaked form list to (omega (arith, within, few)) within head (heads (map (spelling form) list) is.lent.logged)
+
+-- no refusal gives back a database and a store
+pub not-both : {X C : Type 0} (given : Given X C) (x : X) (c : C) → given ≡ variants.Database x → given ≡ variants.Store c → ⊥
+not-both given x c one other = cc
+
+-- a store's start stays, whether a call answers or is refused
+pub start-after : {X C : Type 0} (members : store.Ghosts C) (inside : X → C) (start : ℕ) (r : Result X (Refusal X C)) → IfOk r (λ x. members.start (inside x) ≡ start) → IfErr r (λ e. members.start (store_given inside e.given) ≡ start) → members.start (store_after inside r) ≡ start
+start-after members inside start (Ok x) ok err = ok
+start-after members inside start (Err e) ok err = err

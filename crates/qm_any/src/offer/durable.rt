@@ -1,0 +1,66 @@
+//! What opens, settles and ends a database.
+
+use crate::db::Db;
+use crate::restore::{Config, init};
+use qm_base::{Location, Sha256};
+use qm_index::Factory;
+use qm_merkle::Family;
+use qm_offer::Durable;
+use qm_operations::Update;
+use qm_store::{Refusal, Store};
+use std::alloc::Global;
+
+impl<F: Family, C: Store + Drop, I: Factory<Value = Location<F>> + Drop, U: Update> Durable<C>
+    for Db<F, C, I, Sha256, U>
+where
+    I::Translator: Copy,
+{
+    type Config = Config<I::Translator, ()>;
+
+    fn open(
+        alloc: Global,
+        store: C,
+        config: &Self::Config,
+        max_size: Option<u64>,
+        _number: u64,
+    ) -> Result<Self, Refusal<Self, C>> {
+        let config = Config {
+            translator: config.translator,
+            init_cache: config.init_cache,
+            init_concurrency: (),
+        };
+        init(alloc, store, Sha256::new(), config, max_size)
+    }
+
+    fn commit(self) -> Result<Self, Refusal<Self, C>> {
+        self.commit()
+    }
+
+    fn sync(self) -> Result<Self, Refusal<Self, C>> {
+        self.sync()
+    }
+
+    fn prune(self, alloc: Global, to: u64) -> Result<Self, Refusal<Self, C>> {
+        // The log is kept from where its store is.
+        self.bounds();
+        match self.prune(alloc, Location::new(to)) {
+            Ok(db) => {
+                db.bounds();
+                Ok(db)
+            }
+            Err(refused) => Err(refused),
+        }
+    }
+
+    fn destroy(self) -> Result<C, Refusal<Self, C>> {
+        self.destroy()
+    }
+
+    fn store(&self) -> &C {
+        self.store()
+    }
+
+    fn close(self) -> C {
+        self.close()
+    }
+}

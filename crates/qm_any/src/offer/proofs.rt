@@ -1,0 +1,55 @@
+//! Proofs and pins.
+
+use crate::db::Db;
+use crate::offer::listed::listed;
+use qm_base::{Error, Hasher, Listed, Location};
+use qm_merkle::Family;
+use qm_offer::Proving;
+use qm_operations::Update;
+use qm_proofs::Proof;
+use qm_store::Store;
+use std::alloc::Global;
+use std::num::NonZeroU64;
+
+impl<
+    F: Family,
+    C: Store + Drop,
+    I: qm_index::Unordered<Value = Location<F>> + Drop,
+    H: Hasher + Drop,
+    U: Update,
+> Proving<C> for Db<F, C, I, H, U> {
+    fn proof(
+        &self,
+        alloc: Global,
+        batch: &Self::Merkleized,
+    ) -> Result<(Proof<H::Digest>, Vec<H::Digest>), Error> {
+        // Its numbers agree.
+        batch.bounds();
+        match batch.proof(alloc, self) {
+            Ok(proof) => match batch.pinned_nodes(alloc, self) {
+                Ok(pins) => Ok((proof, pins)),
+                Err(error) => Err(error),
+            },
+            Err(error) => Err(error),
+        }
+    }
+
+    fn prove(
+        &mut self,
+        alloc: Global,
+        size: u64,
+        start: u64,
+        max: NonZeroU64,
+    ) -> Result<(Proof<H::Digest>, Vec<Listed<U::Key, U::Value>>), Error> {
+        let (size, start) = (Location::new(size), Location::new(start));
+        let (proof, operations) = self.historical_proof(alloc, size, start, max)?;
+        let operations = listed(alloc, &operations)?;
+        Ok((proof, operations))
+    }
+
+    fn pins(&self, alloc: Global, at: u64) -> Result<Vec<H::Digest>, Error> {
+        // No list is too long.
+        self.bounds();
+        self.pinned_nodes_at(alloc, Location::new(at))
+    }
+}
