@@ -27,8 +27,8 @@ All-one P x p = All-cons P x [] p (λ k d l. absurd (omega (arith, l)))
 
 module _ {C D : Type 0} {members : store.Ghosts C} {layout : Layout D} where
   -- the database is a batch that does nothing
-  pub rest-made : (db : Database C D) (list : List Operation) → IsDatabase members layout db list → IsMade layout.hashing (at_rest db) (begun_on list) list
-  rest-made db list is =
+  pub rest-made : (n : ℕ) (db : Database C D) (list : List Operation) → IsDatabase members layout db list → IsMade layout.hashing (at_rest db) (begun_on n list) list
+  rest-made n db list is =
       let by = layout.hashing in
       let own = spellings by list in
       let size : db.commitment.size ≡ length list = ap (λ c. c.size) is.commitment in

@@ -10,5 +10,5 @@ pub returns-clause-value : goal.returns-clause-value
 returns-clause-value g c = grind (arith, common_steps)
 
 pub returns-clause-begun : goal.returns-clause-begun
-returns-clause-begun g c = λ list stands.
-    subst (λ b. IsBegun (hashing_of g.H.Digest.Digest.bytes g.H.Hasher g.F.Family g.U.Update) b (begun_on list) (begun_on list)) (sym (returns-clause-value g c)) (record { parent = rest-made c.args.self.now list stands; kept = refl })
+returns-clause-begun g c = λ n list stands.
+    subst (λ b. IsBegun (hashing_of g.H.Digest.Digest.bytes g.H.Hasher g.F.Family g.U.Update) b (begun_on n list) (begun_on n list)) (sym (returns-clause-value g c)) (record { parent = rest-made n c.args.self.now list stands; kept = refl })

@@ -11,6 +11,6 @@ pub returns-clause-value : goal.returns-clause-value
 returns-clause-value g c = grind (arith, common_steps)
 
 pub returns-clause-made : goal.returns-clause-made
-returns-clause-made g c = λ list stands.
+returns-clause-made g c = λ n list stands.
     ok-then c.at_rest.result (returns-clause-value g c) (λ b is.
-    subst (λ x. IsMade (hashing_of g.H.Digest.Digest.bytes g.H.Hasher g.F.Family g.U.Update) x (begun_on list) list) (sym is) (rest-made c.args.self.now list stands))
+    subst (λ x. IsMade (hashing_of g.H.Digest.Digest.bytes g.H.Hasher g.F.Family g.U.Update) x (begun_on n list) list) (sym is) (rest-made n c.args.self.now list stands))
