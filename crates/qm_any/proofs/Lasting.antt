@@ -26,6 +26,7 @@ use Rattle.qm_store.specs.Log.{Log, IsLog, IsRefused}
 use Rattle.qm_step.specs.Lent.{NoneBelow}
 use Rattle.qm_any.specs.Layouts.{Hashing, Layout}
 use Rattle.qm_any.specs.Databases.{Database, Beside, IsDatabase, over}
+use Rattle.qm_model.proofs.Stores.{leaves-now}
 use Rattle.qm_any.specs.Lasting.{bits_from, cut_to, given_up, over_log, HasLasted, HasLeftPruned, HasPruned, IsGivenUp, IsHeadAt}
 
 -- what holds where both do
@@ -180,7 +181,7 @@ module _ {C D : Type 0} (members : store.Ghosts C) where
           }
       by (variants.Store s) error refused =
           let left = refused.left s refl in
-          record { store = s; given = refl; left = record { past = past; within = left.within; head = head; heads = heads; told = left.told }; never = refused.never; cause = refused.cause }
+          record { store = s; given = refl; left = record { past = past; within = left.within; head = head; heads = heads; told = leaves-now (members.told old.store) (members.told s) (λ s. ReadsAs s.stable (IsOldOrNew (pruned to head) s)) (λ s. ReadsAs s.stable (IsOldOrNew (pruned to head) s)) left.told }; never = refused.never; cause = refused.cause }
 
   pub cut-is : (v b : Beside) (a : Bitmap) (to : ℕ) (log : Log C D) (db : Database C D) → db ≡ over (record v { activity = a }) log → a ≡ bits_from to v.activity → v ≡ b → db ≡ over (cut to b) log
   cut-is v b a to log db is same view = is ∙ ap (λ a. over (record v { activity = a }) log) same ∙ ap (λ v. over (cut to v) log) view

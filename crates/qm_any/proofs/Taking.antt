@@ -3,7 +3,7 @@ use Rattle.std.proofs.Common.{◌≡◌, ◌∙◌, ◌-◌, ◌≤◌, ◌<◌,
 use Rattle.std.proofs.lemmas.List.{take-take, length-take}
 use Rattle.qm_model.specs.Operations.{Bytes, fresh}
 use Rattle.qm_model.specs.StoreModel.{Stored, end_of, left_at, appended, settled, rewound, IsImage, RewindLeaves, ReadsAs, HasAppended, Turns, Becomes}
-use Rattle.qm_model.proofs.Stores.{cut-whole}
+use Rattle.qm_model.proofs.Stores.{cut-whole, leaves-now}
 use Rattle.qm_store.specs.declared.Store as store
 use Rattle.qm_store.specs.declared.refusal.Given.{Given}
 use Rattle.qm_store.specs.declared.refusal.Given.TheVariants as variants
@@ -24,7 +24,7 @@ image-rewound to s image is =
     record {
       to = is.to;
       may = record { stable = is.may.stable; within = omega (arith, within, long) };
-      same = is.same ∙ ap {B = Stored} (λ items. record s { items = items; stable = is.to }) (take-take (is.to - s.start) (to - s.start) s.items low);
+      same = is.same ∙ ap {B = Stored} (λ items. record s { items = items; stable = is.to; past = image.past }) (take-take (is.to - s.start) (to - s.start) s.items low);
     }
 
 -- so a call that fails behind a rewind leaves what the rewind may
@@ -52,11 +52,11 @@ behind-none n items more is = rw is refl
 pub reads-grown : (more : List Bytes) (s new : Stored) → end_of s ≡ 0 → ReadsAs (appended more s).stable (IsImage (appended more s)) new → HasAppended more s new
 reads-grown more s new empty is =
     let at = is.left.to - s.start in
-    let same : is.image ≡ record (appended (take at more) s) { stable = is.left.to } =
-    is.left.same ∙ ap {B = Stored} (λ items. record s { items = items; stable = is.left.to }) (behind-none at s.items more (none s.items (omega (arith, empty)))) in
+    let same : is.image ≡ record (appended (take at more) s) { stable = is.left.to; past = is.image.past } =
+    is.left.same ∙ ap {B = Stored} (λ items. record s { items = items; stable = is.left.to; past = is.image.past }) (behind-none at s.items more (none s.items (omega (arith, empty)))) in
     record {
       count = at;
-      reads = is.reads ∙ ap {B = Stored} (λ (i : Stored). record i { stable = new.stable }) same;
+      reads = is.reads ∙ ap {B = Stored} (λ (i : Stored). record i { stable = new.stable; past = new.past }) same;
       least_stable = is.least_stable;
       within = λ _. is.within;
     }
@@ -118,4 +118,4 @@ pub given-stable : {C X : Type 0} (members : store.Ghosts C) (inside : X → C) 
 given-stable members inside o old r f R becomes weaker up =
     turns-weaker o (members.told (store_given inside r.given)) (λ s. ReadsAs (f s).stable (IsImage (f s))) R weaker
     (subst (λ g. Turns o (members.told (store_given inside g)) (λ s. ReadsAs (f s).stable (IsImage (f s)))) (sym up.given)
-    (turns-behind o (members.told old) (members.told up.store) f (λ s. ReadsAs s.stable (IsImage s)) becomes up.left.told))
+    (turns-behind o (members.told old) (members.told up.store) f (λ s. ReadsAs s.stable (IsImage s)) becomes (leaves-now (members.told old) (members.told up.store) (λ s. ReadsAs s.stable (IsImage s)) (λ s. ReadsAs s.stable (IsImage s)) up.left.told)))

@@ -2,7 +2,7 @@
 use Rattle.std.specs.Prelude.{◌≡◌, ◌⊎◌, ◌≤◌, ◌<◌, ℕ, ◌-◌, ◌*◌, ◌/◌, max, min, nat_lt, if◌then◌else◌, List, drop, Result, Ok, Err}
 use Rattle.qm_model.specs.Causes.{IsCause}
 use Rattle.qm_model.specs.Operations.{Bytes}
-use Rattle.qm_model.specs.StoreModel.{Stored, pruned, destroyed, IsImage, IsOldOrNew, DestroyLeaves, ReadsAs, Turns, Becomes}
+use Rattle.qm_model.specs.StoreModel.{Stored, pruned, destroyed, IsImage, IsOldOrNew, DestroyLeaves, ReadsAs, Turns, Becomes, Leaves}
 use Rattle.qm_base.specs.declared.error.Error.TheVariants.{Memory, Journal}
 use Rattle.qm_base.specs.declared.error.JournalError.TheVariants as journal
 use Rattle.qm_bits.specs.Bitmaps.{Bitmap}
@@ -52,7 +52,7 @@ module _ {C : Type 0} (members : store.Ghosts C) where
   -- a destroy failed
   pub record HasLeftDestroyed (old new : C) : Type 0 where
     pub within : members.«end» new ≤ members.«end» old
-    pub told : Turns (members.told old) (members.told new) DestroyLeaves
+    pub told : Leaves (members.told old) (members.told new) DestroyLeaves
 
   -- a store was emptied
   pub record IsDestroyed (old new : C) : Type 0 where

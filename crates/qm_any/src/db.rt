@@ -230,7 +230,8 @@ impl<F: Family, C: Store, I: qm_index::Unordered<Value = Location<F>>, H: Hasher
     /// Begins a batch on the database as it is.
     pub fn new_batch(&self, alloc: Global) -> Result<UnmerkleizedBatch<F, H::Digest, U>, AllocError>
         ensures value { IfOk result (λ b. b ≡ record { parent = at_rest self.now; keep = 0; writes = [] }) }
-        ensures begun { (n : ℕ) (list : List Operation) → ⟦<Self as LaidOut>⟧.stands self.now list → IfOk result (λ b. IsBegun ⟦<Self as LaidOut>⟧.layout.hashing b (begun_on n list) (begun_on n list)) }
+        ensures begun { (n : ℕ) (list : List Operation) → ⟦<Self as LaidOut>⟧.stands self.now list
+            → IfOk result (λ b. IsBegun ⟦<Self as LaidOut>⟧.layout.hashing b (begun_on n list) (begun_on n list)) }
     {
         let parent = self.to_batch(alloc)?;
         Ok(UnmerkleizedBatch::begun(alloc, parent, 0))
@@ -243,7 +244,8 @@ impl<F: Family, C: Store, I: qm_index::Unordered<Value = Location<F>>, H: Hasher
         alloc: Global,
     ) -> Result<Rc<MerkleizedBatch<F, H::Digest, U>>, AllocError>
         ensures value { IfOk result (λ b. b.value ≡ at_rest self.now) }
-        ensures made { (n : ℕ) (list : List Operation) → ⟦<Self as LaidOut>⟧.stands self.now list → IfOk result (λ b. IsMade ⟦<Self as LaidOut>⟧.layout.hashing b.value (begun_on n list) list) }
+        ensures made { (n : ℕ) (list : List Operation) → ⟦<Self as LaidOut>⟧.stands self.now list
+            → IfOk result (λ b. IsMade ⟦<Self as LaidOut>⟧.layout.hashing b.value (begun_on n list) list) }
     {
         // The log has at most 2^62 items.
         self.log.bounds();

@@ -3,7 +3,8 @@ use Rattle.std.proofs.lemmas.Result.{IfOk-from_err, err_from_is_err_and}
 use Rattle.qm_base.specs.declared.error.Error.TheVariants as errors
 use Rattle.qm_model.specs.Operations.{fresh}
 use Rattle.qm_model.specs.Forms.{spelling}
-use Rattle.qm_model.specs.StoreModel.{settled, appended, Becomes, HasAppended, Turns}
+use Rattle.qm_model.specs.StoreModel.{settled, appended, Becomes, HasAppended, IsImage, Turns}
+use Rattle.qm_model.proofs.Stores.{leaves-now}
 use Rattle.qm_model.proofs.Results.{told-one, ok-then, err-then}
 use Rattle.qm_merkle.proofs.Standing.{peaks-none}
 use Rattle.qm_store.specs.Given.{store_given}
@@ -24,7 +25,7 @@ returns-in-Err g c =
     record {
       stands = each-known told (λ s is. tt);
       became = tt;
-      left = (unchanged-appended-part g.C.Store store store (map (spelling g.U.Update.form) fresh) (record { start = refl; told = refl })).told;
+      left = leaves-now told told (HasAppended (map (spelling g.U.Update.form) fresh)) (λ s. IsImage (appended (map (spelling g.U.Update.form) fresh) s)) (unchanged-appended-part g.C.Store store store (map (spelling g.U.Update.form) fresh) (record { start = refl; told = refl })).told;
       unopened = each-known told (λ s is some. record { start = refl; told = refl });
       pruned = tt;
       start = tt;
@@ -53,7 +54,7 @@ returns-in-Err-empty_log g c =
     record {
       stands = each-known told (λ s is. tt);
       became = tt;
-      left = subst (λ given. Turns told (g.C.Store.told (store_given (λ db. db.log.store) given)) (HasAppended own)) (sym back.1) (unchanged-appended-part g.C.Store store back.0 own (record { start = back.2.start; told = back.2.told })).told;
+      left = subst (λ given. Turns told (g.C.Store.told (store_given (λ db. db.log.store) given)) (HasAppended own)) (sym back.1) (leaves-now told (g.C.Store.told back.0) (HasAppended own) (λ s. IsImage (appended own s)) (unchanged-appended-part g.C.Store store back.0 own (record { start = back.2.start; told = back.2.told })).told);
       unopened = each-known told (λ s is some. given-unchanged g.C.Store (λ db. db.log.store) refusal.given store back.0 back.1 back.2);
       pruned = tt;
       start = tt;
@@ -80,7 +81,7 @@ returns-in_err-begun-in-Ok-empty_log g c =
     record {
       stands = each-known (told store) (λ s is. IfOk-from_err c.from_residual.result _ c.from_residual.ensures.0);
       became = IfOk-from_err c.from_residual.result _ c.from_residual.ensures.0;
-      left = rw (exit.1, exit.2) (subst (λ o. Turns o (told given) (HasAppended own)) kept.told refused.part.told);
+      left = rw (exit.1, exit.2) (subst (λ o. Turns o (told given) (HasAppended own)) kept.told (leaves-now (told log.store) (told given) (HasAppended own) (λ s. IsImage (appended own s)) refused.part.told));
       unopened =
           let peaks = peaks-none g.F.Family.shape g.F.Family.births g.met.F.Family.numbered g.met.F.Family.peaked in
           rw (exit.1, exit.2) (each-known (told store) (λ s is some.

@@ -3,7 +3,8 @@ use Rattle.qm_model.specs.Causes.{IsCause}
 use Rattle.qm_base.specs.declared.error.Error.TheVariants as errors
 use Rattle.qm_base.specs.declared.error.JournalError.TheVariants as journal
 use Rattle.qm_model.specs.Forms.{spelling}
-use Rattle.qm_model.specs.StoreModel.{end_of, rewound, Becomes, RewindLeaves, ReadsAs, Turns}
+use Rattle.qm_model.specs.StoreModel.{end_of, rewound, Becomes, RewindLeaves, ReadsAs, Turns, Leaves}
+use Rattle.qm_model.proofs.Stores.{leaves-now}
 use Rattle.qm_store.specs.Log.{store_given}
 use Rattle.qm_any.specs.Layouts.{layout_of}
 use Rattle.qm_any.proofs.Lasting.{still-told}
@@ -46,7 +47,8 @@ returns-in-Err g c =
           let old = c.args.opened.log in
           let size = c.args.selected.size in
           let left = given-store members _ old c.in-Err.refusal.given c.in-Err.refusal.error c.in-Err.ensures.refused c.in-Err.ensures.given in
-          let there = subst (λ n. Turns (members.told old.store) (members.told (store_given c.in-Err.refusal.given)) (λ s. ReadsAs (min s.stable n) (RewindLeaves n s))) c.requires.size left.told in
+          let there = leaves-now (members.told old.store) (members.told (store_given c.in-Err.refusal.given)) (λ s. ReadsAs (min s.stable size) (RewindLeaves size s)) (λ s. ReadsAs (min s.stable size) (RewindLeaves size s))
+          (subst (λ n. Leaves (members.told old.store) (members.told (store_given c.in-Err.refusal.given)) (λ s. ReadsAs (min s.stable n) (RewindLeaves n s))) c.requires.size left.told) in
           subst (λ s. Turns (members.told old.store) (members.told s) (λ s. ReadsAs (min s.stable size) (RewindLeaves size s))) (sym c.store_of.ensures) there;
       activity = tt;
       start = tt;
