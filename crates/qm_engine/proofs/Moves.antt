@@ -173,7 +173,7 @@ module _ {X C B S M K V D : Type 0} (members : stores.Ghosts C) (means : meaning
     never = refusal-never members means key value digest old e;
   }
 
-  module _ {x after : X} {T : Type 0} {read : Result T Error} (is : old.held ≡ Database x) (reads : ReadsOnly means members x after (IsErrOf read (errors.Journal journal.Store))) where
+  module _ {x after : X} {T : Type 0} {read : Result T Error} (is : old.held ≡ Database x) (reads : ReadsOnly means members x after read) where
     -- a command that read, with this table behind it
     moved : (next : State → Answer × State) {table known : List (Slot B S M)} → table ≡ known → (turn : Turn K V D) → (turn ≡ StoreFault → IsErrOf read (errors.Journal journal.Store))
         → ((s : State) → Holds members means (Database x) old.table.items old.opened s → Goes known (Database after) turn (next s)) → Moves next table (Database after) turn
@@ -225,8 +225,8 @@ module _ {X C B S M K V D : Type 0} (members : stores.Ghosts C) (means : meaning
       pub found_ok : (k : Option K) → AtTip means x batch (λ list chain tip. CanRead means list chain tip) → AtTip means x batch (λ list chain tip. IsKnown list chain tip → option_map key k ≡ beside (live_keys tip))
           → Finds (Reply (replies.Beside k))
       found_ok k can are = finds (Reply (replies.Beside k)) (λ e. absurd (cc e))
-          (λ s held. beside_ok members means key value digest x after old.table.items old.opened h s beside batch k held (reads.same, reads.store) ordered named can are)
+          (λ s held. beside_ok members means key value digest x after old.table.items old.opened h s beside batch k held (reads.same, reads.store, reads.numbered) ordered named can are)
 
       pub found_err : {turn : Turn K V D} (error : Error) → read ≡ Err error → turn ≡ turn_of_error error → AtTip means x batch (λ list chain tip. IsReadFailure means (TellsFrom members (means.inside x) list) list chain tip error) → Finds turn
       found_err {turn} error was e why = subst Finds (sym e) (finds (turn_of_error error) (λ fault. was ∙ ap Err (fault-told error fault))
-          (λ s held. beside_err members means key value digest x after old.table.items old.opened h s beside batch error held (reads.same, reads.store) ordered named why))
+          (λ s held. beside_err members means key value digest x after old.table.items old.opened h s beside batch error held (reads.same, reads.store, reads.numbered) ordered named why))

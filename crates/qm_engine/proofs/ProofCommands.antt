@@ -27,10 +27,9 @@ use Rattle.qm_engine.specs.declared.session.Turn.TheVariants.{Reply}
 use Rattle.qm_engine.specs.Table.{merkleized_of}
 use Rattle.qm_engine.specs.Turn.{turn_of_error}
 use Rattle.qm_store.specs.Refusals.{refusal_of, IsDue}
-use Rattle.qm_store.specs.Given.{IsUnchanged}
 use Rattle.qm_offer.specs.Words.{AtTip, CanRead, IsProofFailure}
 use Rattle.qm_engine.specs.Session.{SlotIs, Holds, Answers}
-use Rattle.qm_engine.proofs.Commands.{choice, none_some, due_told, refuses, by_refusal, with_list, Holds-kept, Turns, unless_err, answered, merkleized_slot}
+use Rattle.qm_engine.proofs.Commands.{choice, none_some, due_told, refuses, by_refusal, with_list, Keeps, Holds-kept, Turns, unless_err, answered, merkleized_slot}
 use Rattle.qm_engine.proofs.ReadCommands.{is_stale_read}
 use Rattle.qm_model.proofs.Chains.{known-readable}
 
@@ -43,26 +42,26 @@ module _ {X C B S M K V D : Type 0} (members : stores.Ghosts C) (means : meaning
 
   -- proofs and pins
   pub prove_ok : (x after : X) (table : List (Slot B S M)) (opened size start max : ℕ) (proof : Proof) (ops : List Operation) (s : State) → Holds members means (Database x) table opened s
-      → ((l : List Operation) → means.stands x l → means.stands after l) → IsUnchanged members (means.inside x) (means.inside after)
+      → Keeps members means x after
       → ((list : List Operation) → means.stands x list → proof_refusal (members.start (means.inside x)) list size start ≡ None)
       → ((list : List Operation) → means.stands x list → proof ≡ means.scheme.proof (take size list) start (start + proof_count size start max))
       → ((list : List Operation) → means.stands x list → ops ≡ take (proof_count size start max) (drop start list))
       → (lines.Proved proof ops ≡ (machine.prove means.scheme s size start max).0) × Holds members means (Database after) table opened (machine.prove means.scheme s size start max).1
-  prove_ok x after table opened size start max proof ops s k keeps same_store offered is_proof are_ops =
+  prove_ok x after table opened size start max proof ops s k keeps offered is_proof are_ops =
       let count : ℕ = proof_count size start max in
       let Goal : Answer × State → Type 0 = λ next. (lines.Proved proof ops ≡ next.0) × Holds members means (Database after) table opened next.1 in
       let given : List Operation → Answer = λ list. lines.Proved (means.scheme.proof (take size list) start (start + count)) (take count (drop start list)) in
       with_list members means x s.had s.database s (λ list. unless s (proof_refusal s.log.start list size start) (given list)) Goal k.database
       (λ list stands in_had. subst (λ due. Goal (unless s due (given list))) (sym (subst (λ kept. proof_refusal kept list size start ≡ None) k.store.start (offered list stands)))
-      (ap₂ lines.Proved (is_proof list stands) (are_ops list stands), Holds-kept members means x after table opened s (keeps, same_store) k))
+      (ap₂ lines.Proved (is_proof list stands) (are_ops list stands), Holds-kept members means x after table opened s keeps k))
 
   pub prove_err : (x after : X) (table : List (Slot B S M)) (opened size start max : ℕ) (error : Error) (s : State) → Holds members means (Database x) table opened s
-      → ((l : List Operation) → means.stands x l → means.stands after l) → IsUnchanged members (means.inside x) (means.inside after)
+      → Keeps members means x after
       → ((list : List Operation) → means.stands x list → IsDue error (proof_refusal (members.start (means.inside x)) list size start))
       → Goes (turn_of_error error) (Database after) table opened (machine.prove means.scheme s size start max)
-  prove_err x after table opened size start max error s k keeps same_store is =
+  prove_err x after table opened size start max error s k keeps is =
       unless_err members means key value digest x after table opened error s (λ list. proof_refusal s.log.start list size start)
-      (λ list. lines.Proved (means.scheme.proof (take size list) start (start + proof_count size start max)) (take (proof_count size start max) (drop start list))) k (keeps, same_store)
+      (λ list. lines.Proved (means.scheme.proof (take size list) start (start + proof_count size start max)) (take (proof_count size start max) (drop start list))) k keeps
       (λ list stands. subst (λ kept. IsDue error (proof_refusal kept list size start)) k.store.start (is list stands))
 
   pub pins_ok : (x : X) (table : List (Slot B S M)) (opened n : ℕ) (digests : List Bytes) (s : State) → Holds members means (Database x) table opened s
@@ -79,7 +78,7 @@ module _ {X C B S M K V D : Type 0} (members : stores.Ghosts C) (means : meaning
       → ((list : List Operation) → means.stands x list → IsDue error (pins_lacked means.scheme.shape (members.start (means.inside x)) list n))
       → Goes (turn_of_error error) (Database x) table opened (machine.pins means.scheme s n)
   pins_err x table opened n error s k is =
-      unless_err members means key value digest x x table opened error s (λ list. pins_lacked means.scheme.shape s.log.start list n) (λ list. lines.Pinned (means.scheme.pins list n)) k (λ l h. h, record { start = refl; told = refl })
+      unless_err members means key value digest x x table opened error s (λ list. pins_lacked means.scheme.shape s.log.start list n) (λ list. lines.Pinned (means.scheme.pins list n)) k (λ l h. h, record { start = refl; told = refl }, λ n h. h)
       (λ list stands. subst (λ kept. IsDue error (pins_lacked means.scheme.shape kept list n)) k.store.start (is list stands))
 
   -- the proof of a batch

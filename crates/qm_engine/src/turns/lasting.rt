@@ -29,7 +29,7 @@ pub fn open<X: Durable<C>, C: Store>(
     ensures opened { opened.new ≤ opened.old + 1 }
 {
     let store = into_store::<X, C>(held);
-    match X::open(alloc, store, config, max_size) {
+    match X::open(alloc, store, config, max_size, *opened + 1) {
         Ok(x) => {
             let numbers = x.info();
             *opened += 1;

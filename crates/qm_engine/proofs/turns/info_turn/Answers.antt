@@ -30,4 +30,4 @@ pub returns-in-Pins : goal.returns-in-Pins
 returns-in-Pins g c = rw c.in-Pins.is (performs-telling (λ rest. refl) c.pins.ensures.machine c.pins.ensures.never)
 
 pub returns-in-Current : goal.returns-in-Current
-returns-in-Current g c = rw c.in-Current.is (performs-telling (λ rest. refl) c.current.ensures.machine c.current.ensures.never)
+returns-in-Current g c = rw c.in-Current.is (performs-telling (λ rest. refl) (c.current.ensures.machine (question_view g.X.Key.ByteString.bytes _)) c.current.ensures.never)
