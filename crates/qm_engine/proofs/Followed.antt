@@ -366,8 +366,7 @@ module _ (m : Scheme) {P : Type 0} (rules : Rules P) (plain : m.grafts ≡ None)
     where
       done : nat_lt (m.boundary list) to ≡ false → Follows s (lines.Done, record s { log = pruned m.grafts to s.log })
       done within =
-          let held = is.held list e in
-          (
+          let held = is.held list e in (
             pruned-kept m rules bounds s.log to is.kept (subst (Made (kind_of m) rules) (sym held.0) (is.made list held.1)) (subst (λ ops. to ≤ m.boundary ops) (sym held.0) (ltb-false (m.boundary list) to within)),
             inl (Begins-self s.log.list),
           )

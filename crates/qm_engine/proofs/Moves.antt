@@ -7,8 +7,8 @@ use Rattle.qm_model.specs.Writes.{Write}
 use Rattle.qm_model.specs.Batches.{Chain, IsKnown}
 use Rattle.qm_model.specs.StoreModel.{Turns}
 use Rattle.qm_model.specs.Refused as refusals
-use Rattle.qm_machine.specs.Lines.{Answer}
-use Rattle.qm_machine.specs.Machine.{State, with_database, refuse, if_ordered, beside_of, slot_at}
+use Rattle.qm_machine.specs.Lines.{Answer, Question}
+use Rattle.qm_machine.specs.Machine.{State, with_database, refuse, if_any, if_current, answered, if_ordered, beside_of, slot_at}
 use Rattle.qm_machine.specs.Machine as machine
 use Rattle.qm_machine.specs.Sound.{IsSteady}
 use Rattle.qm_base.specs.declared.error.JournalError.TheVariants as journal
@@ -156,6 +156,17 @@ module _ {X C B S M K V D : Type 0} (members : stores.Ghosts C) (means : meaning
   -- the clauses of a command that tells and leaves all as it is
   abbrev pub Says : (State → Answer × State) → Turn K V D → Type 0
   Says next turn = record { machine : (s : State) → Stands members means old s → Goes old.table.items old.held turn (next s); never : turn ≢ StoreFault }
+
+  -- the same of one that only an any database offers
+  pub offered_told : means.scheme.grafts ≡ None → (f : State → Answer × State) → {turn : Turn K V D} → Says f turn → Says (λ s. if_any s means.scheme.grafts (f s)) turn
+  offered_told plain f {turn} says = record { machine = λ s k. subst (Goes old.table.items old.held turn) (sym (ap (λ grafts. if_any s grafts (f s)) plain)) (says.machine s k); never = says.never }
+
+  -- and of one that only a current database offers
+  pub not_current : means.scheme.grafts ≡ None → (question : Question) → Says (λ s. machine.current means.scheme s question) (Reply (replies.Refused refused.NotOffered))
+  not_current plain question = record {
+    machine = λ s k. subst (Goes old.table.items old.held (Reply (replies.Refused refused.NotOffered))) (sym (ap (λ grafts. if_current s grafts (λ g. answered s g question)) plain)) (λ apart. (refl, k));
+    never = λ e. absurd (cc e);
+  }
 
   pub none_told : (f : State → List Operation → Answer × State) → {c : C} → old.held ≡ Store c → {turn : Turn K V D} → turn ≡ Reply (replies.Refused refused.NoDatabase) → Says (λ s. with_database s s.database (f s)) turn
   none_told f is e = let stays = none_begun f is e in record { machine = stays.machine; never = stays.never }

@@ -9,7 +9,7 @@ use Rattle.qm_model.specs.Refused as refusals
 use Rattle.qm_model.specs.Held.{pins_lacked, proof_lacked}
 use Rattle.qm_machine.specs.Lines.{Answer}
 use Rattle.qm_machine.specs.Lines as lines
-use Rattle.qm_machine.specs.Machine.{State, slot_at, refuse, unless, proof_in}
+use Rattle.qm_machine.specs.Machine.{State, slot_at, refuse, with_database, unless, if_any, proof_in}
 use Rattle.qm_machine.specs.Machine as machine
 use Rattle.qm_base.specs.declared.error.Error.{Error}
 use Rattle.qm_base.specs.declared.error.Error.TheVariants as errors
@@ -102,39 +102,40 @@ module _ {X C B S M K V D : Type 0} (members : stores.Ghosts C) (means : meaning
   proof_state-in s h list (machine.merkleized chain tip) =
       choice (can_read list chain tip) (unless s (lacked s list chain tip) (proved_by chain tip)) (refuse s refusals.StaleRead) (λ next. next.1 ≡ s) (λ can. unless_state s (lacked s list chain tip) (proved_by chain tip)) (λ not. refl)
 
-  named_proof : (turn : Turn K V D) (x : X) (table : List (Slot B S M)) (opened h : ℕ) (batch : M) (s : State) → Holds members means (Database x) table opened s → merkleized_of (get_or table h Gone) ≡ Some batch
+  named_proof : means.scheme.grafts ≡ None → (turn : Turn K V D) (x : X) (table : List (Slot B S M)) (opened h : ℕ) (batch : M) (s : State) → Holds members means (Database x) table opened s → merkleized_of (get_or table h Gone) ≡ Some batch
       → ((list : List Operation) (chain : Chain) (tip : List Operation) → means.stands x list → means.is_merkleized batch chain tip → Contains s.had list → IsAmong s.had chain → Contains s.had tip
       → Answers members means key value digest turn s (proof_in means.scheme s h list (machine.merkleized chain tip)))
       → Goes turn (Database x) table opened (machine.batch_proof means.scheme s h)
-  named_proof turn x table opened h batch s k e told =
-      with_list members means x s.had s.database s (λ list. proof_in means.scheme s h list (slot_at s.table h)) (Goes turn (Database x) table opened) k.database
+  named_proof plain turn x table opened h batch s k e told =
+      subst (Goes turn (Database x) table opened) (sym (ap (λ grafts. if_any s grafts (with_database s s.database (λ list. proof_in means.scheme s h list (slot_at s.table h)))) plain))
+      (with_list members means x s.had s.database s (λ list. proof_in means.scheme s h list (slot_at s.table h)) (Goes turn (Database x) table opened) k.database
       (λ list stands in_had. answered members means key value digest turn (Database x) table opened s (proof_in means.scheme s h list (slot_at s.table h)) (proof_state-in s h list (slot_at s.table h))
-      k (by list stands in_had (slot_at s.table h) (subst (λ a. SlotIs members means s.had a (slot_at s.table h)) (merkleized_slot members means (get_or table h Gone) batch e) (k.slots h))))
+      k (by list stands in_had (slot_at s.table h) (subst (λ a. SlotIs members means s.had a (slot_at s.table h)) (merkleized_slot members means (get_or table h Gone) batch e) (k.slots h)))))
     where
       by : (list : List Operation) → means.stands x list → Contains s.had list → (named : machine.Slot) → SlotIs members means s.had (Merkleized batch) named → Answers members means key value digest turn s (proof_in means.scheme s h list named)
       by list stands in_had (machine.merkleized chain tip) is = told list chain tip stands is.0 in_had is.1 is.2
       by list stands in_had named is = absurd is
 
-  pub batch_proof_ok : (r : reply.Reply K V D) (proof : Proof) (pins : List Bytes) (x : X) (table : List (Slot B S M)) (opened h : ℕ) (batch : M) (s : State) → Holds members means (Database x) table opened s
+  pub batch_proof_ok : means.scheme.grafts ≡ None → (r : reply.Reply K V D) (proof : Proof) (pins : List Bytes) (x : X) (table : List (Slot B S M)) (opened h : ℕ) (batch : M) (s : State) → Holds members means (Database x) table opened s
       → answer_view key value digest r ≡ lines.BatchProved proof pins
       → AtTip means x batch (λ list chain tip. CanRead means list chain tip)
       → AtTip means x batch (λ list chain tip. IsKnown list chain tip → (proof_lacked means.scheme.shape (members.start (means.inside x)) list chain tip ≡ None)
       × (proof ≡ means.scheme.proof tip (length chain.base) (length tip)) × (pins ≡ means.scheme.pins tip (length chain.base)))
       → merkleized_of (get_or table h Gone) ≡ Some batch
       → Goes (Reply r) (Database x) table opened (machine.batch_proof means.scheme s h)
-  batch_proof_ok r proof pins x table opened h batch s k is_view can are e =
-      named_proof (Reply r) x table opened h batch s k e (λ list chain tip stands is in_had among tip_in apart.
+  batch_proof_ok plain r proof pins x table opened h batch s k is_view can are e =
+      named_proof plain (Reply r) x table opened h batch s k e (λ list chain tip stands is in_had among tip_in apart.
       let allowed = can list chain tip stands is in
       let facts = are list chain tip stands is (known-readable root s.had list chain tip apart in_had among tip_in allowed) in
       is_view ∙ subst (λ t. lines.BatchProved proof pins ≡ (cond t (unless s (lacked s list chain tip) (proved_by chain tip)) (refuse s refusals.StaleRead)).0) (sym allowed)
       (subst (λ due. lines.BatchProved proof pins ≡ (unless s due (proved_by chain tip)).0) (sym (subst (λ kept. proof_lacked means.scheme.shape kept list chain tip ≡ None) k.store.start facts.0)) (ap₂ lines.BatchProved facts.1 facts.2)))
 
-  pub batch_proof_err : (error : Error) (x : X) (table : List (Slot B S M)) (opened h : ℕ) (batch : M) (s : State) → Holds members means (Database x) table opened s
+  pub batch_proof_err : means.scheme.grafts ≡ None → (error : Error) (x : X) (table : List (Slot B S M)) (opened h : ℕ) (batch : M) (s : State) → Holds members means (Database x) table opened s
       → AtTip means x batch (λ list chain tip. IsProofFailure means (members.start (means.inside x)) list chain tip error)
       → merkleized_of (get_or table h Gone) ≡ Some batch
       → Goes (turn_of_error error) (Database x) table opened (machine.batch_proof means.scheme s h)
-  batch_proof_err error x table opened h batch s k fails e =
-      named_proof (turn_of_error error) x table opened h batch s k e (λ list chain tip stands is in_had among tip_in.
+  batch_proof_err plain error x table opened h batch s k fails e =
+      named_proof plain (turn_of_error error) x table opened h batch s k e (λ list chain tip stands is in_had among tip_in.
       by_refusal error _ (λ r told apart. by list chain tip in_had among tip_in (fails list chain tip stands is) apart r told (is_stale_read error)))
     where
       Goal : List Operation → Chain → List Operation → Refused → Bool → Type 0

@@ -10,13 +10,13 @@ ghost use Rattle.qm_offer.specs.Words.{AtBatch, Makes, ReadsOnly, tip_of};
 ghost use Rattle.qm_engine.specs.Making.{IsMaking, made_into};
 ghost use Rattle.qm_engine.specs.Session.{SlotIs, Stands, Follows, Obeys, ObeysSteady, ObeysHeldSteady, LeavesHeldSteady, Uses};
 
-use qm_offer::{Common, Batching};
 use crate::session::{SessionOf, Turn, no_database, no_such_handle, turn_of};
 use crate::table::{Slot, merkleized_at, push_slot, put_slot, take_writing};
 use crate::turns::lasting::without_database;
 use qm_base::{ByteString, Error, JournalError, Twin};
 use qm_chain::Policy;
 use qm_lines::Reply;
+use qm_offer::{Batching, Common};
 use qm_store::{Given, Store};
 use std::alloc::{AllocError, Global};
 

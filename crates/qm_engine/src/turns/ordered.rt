@@ -10,11 +10,11 @@ ghost use Rattle.qm_engine.specs.Ordered.{key_beside, answer_to};
 ghost use Rattle.qm_engine.specs.Session.{Obeys, IfReply, TurnReads, Uses};
 ghost use Rattle.qm_offer.specs.Words.{AtTip, CanRead, IsReadFailure, ReadsOnly};
 
-use qm_offer::Neighbours;
 use crate::session::{SessionOf, Turn, no_database, no_such_handle, turn_of};
 use crate::table::merkleized_at;
 use qm_base::Error;
 use qm_lines::{Refused, Reply};
+use qm_offer::Neighbours;
 use qm_store::{Given, Store};
 use std::alloc::Global;
 use std::ops::Bound;

@@ -7,11 +7,11 @@ ghost use Rattle.qm_machine.specs.Machine as machine;
 ghost use Rattle.qm_store.specs.Given.{store_given, IsUnchanged, TellsFrom};
 ghost use Rattle.qm_engine.specs.Session.{SlotIs, Answers, Obeys, Tells, Uses};
 
-use qm_offer::{BatchSizes, Common, Numbers, Reading, Roots};
 use crate::session::{SessionOf, Turn, no_database, no_such_handle, turn_of};
 use crate::table::{Slot, merkleized_at, slot_at};
 use qm_base::ByteString;
 use qm_lines::{Refused, Reply};
+use qm_offer::{BatchSizes, Common, Numbers, Reading, Roots};
 use qm_store::{Given, Store};
 use std::alloc::{AllocError, Global};
 
@@ -121,7 +121,9 @@ pub fn ops<X: Reading<C>, C: Store>(
 }
 
 /// What only a current database offers: this one has no chunks of bits.
-pub fn current<X: Common<C>, C: Store>(session: &SessionOf<X, C>) -> Turn<X::Key, X::Value, X::Digest>
+pub fn current<X: Common<C>, C: Store>(
+    session: &SessionOf<X, C>,
+) -> Turn<X::Key, X::Value, X::Digest>
     ensures machine { (question : Question) → Tells C.Store X.Meaning X.Key.bytes X.Value.bytes X.Digest.bytes session.now result
         (λ s. machine.current X.scheme s question) }
     ensures never { result ≢ Turn.StoreFault }
@@ -170,9 +172,7 @@ pub fn batch_info<X: Common<C>, C: Store>(
 }
 
 /// The roots of the database.
-pub fn root<X: Reading<C>, C: Store>(
-    session: &SessionOf<X, C>,
-) -> Turn<X::Key, X::Value, X::Digest>
+pub fn root<X: Reading<C>, C: Store>(session: &SessionOf<X, C>) -> Turn<X::Key, X::Value, X::Digest>
     ensures machine { Tells C.Store X.Meaning X.Key.bytes X.Value.bytes X.Digest.bytes session.now result
         (machine.root X.scheme) }
     ensures never { result ≢ Turn.StoreFault }

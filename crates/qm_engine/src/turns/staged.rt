@@ -9,12 +9,12 @@ ghost use Rattle.qm_offer.specs.Words.{AtStaged, Makes, ReadsOnly, tip_of};
 ghost use Rattle.qm_engine.specs.Session.{Obeys, ObeysSteady, Uses};
 
 use super::batches::put_made;
-use qm_offer::Staging;
 use crate::session::{SessionOf, Turn, no_database, no_such_handle, turn_of};
 use crate::table::{Slot, put_slot, take_staged, take_writing};
 use qm_base::{Error, Resolution, Twin};
 use qm_chain::Policy;
 use qm_lines::{Refused, Reply};
+use qm_offer::Staging;
 use qm_store::{Given, Store};
 use std::alloc::Global;
 

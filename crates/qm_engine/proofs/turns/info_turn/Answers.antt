@@ -1,4 +1,5 @@
 use Rattle.std.proofs.Common.{refl}
+use Rattle.qm_lines.specs.Views.{question_view}
 use Rattle.qm_engine.proofs.Handling.{performs-reading, performs-telling}
 use Rattle.qm_engine.proofs.turns.info_turn.Goals as goal
 
