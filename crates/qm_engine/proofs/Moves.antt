@@ -27,7 +27,7 @@ use Rattle.qm_engine.specs.declared.table.Slot.TheVariants.{Gone, Writing, Stage
 use Rattle.qm_engine.specs.declared.session.Session.{Session}
 use Rattle.qm_engine.specs.declared.session.Turn.{Turn}
 use Rattle.qm_engine.specs.declared.session.Turn.TheVariants.{Reply, Memory, StoreFault}
-use Rattle.qm_engine.specs.Session.{HeldIs, SlotIs, Holds, Stands, FollowsHeld, Uses}
+use Rattle.qm_engine.specs.Session.{SlotIs, Holds, Stands, FollowsHeld, Uses}
 use Rattle.qm_engine.specs.Stores.{IsBeside}
 use Rattle.qm_engine.specs.Table.{writing_of, staged_of, merkleized_of}
 use Rattle.qm_engine.specs.Turn.{turn_of_error}

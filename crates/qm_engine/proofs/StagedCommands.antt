@@ -1,15 +1,13 @@
 -- The commands of staged reads.
-use Rattle.std.proofs.Common.{◌≡◌, ◌≢◌, ◌≤◌, ℕ, Bool, true, cond, List, ◌++◌, length, get_or, set, map, Option, Some, None, Result, Ok, Err, IfOk, IfErr, IfSome, sym, ◌∙◌, ap, ap₂, subst, ◌⊎◌, inl, inr, ◌==◌, ◌+◌}
+use Rattle.std.proofs.Common.{◌≡◌, ◌≢◌, ℕ, Bool, true, cond, List, ◌++◌, length, get_or, set, map, Option, Some, Result, sym, ◌∙◌, ap, ap₂, subst, ◌⊎◌, inl, inr, ◌==◌, ◌+◌}
 use Rattle.std.specs.Prelude.{Contains, MatchOption}
 use Rattle.std.proofs.lemmas.Bool.{eq-eqb, eqb-true}
-use Rattle.qm_model.specs.Live.{floor}
 use Rattle.qm_model.specs.Operations.{Bytes, Operation}
 use Rattle.qm_model.specs.Writes.{Write, read_through}
 use Rattle.qm_model.specs.Walk.{Rules}
 use Rattle.qm_model.specs.Slots.{slotted}
 use Rattle.qm_model.specs.Slots as slots
-use Rattle.qm_model.specs.Refusals.{tip_refusal}
-use Rattle.qm_model.specs.Batches.{Chain, IsAmong, IsKnown, IsOnChain, Apart, commitment, readable}
+use Rattle.qm_model.specs.Batches.{Chain, IsAmong, IsKnown, Apart, commitment, readable}
 use Rattle.qm_machine.specs.Lines.{Answer}
 use Rattle.qm_machine.specs.Lines as lines
 use Rattle.qm_model.specs.Refused as refusals
