@@ -1,10 +1,10 @@
 -- The commands that make, fill and apply batches.
-use Rattle.std.proofs.Common.{◌≡◌, ◌≢◌, ◌≤◌, ℕ, Bool, true, false, cond, List, [], ◌∷◌, ◌++◌, length, get_or, set, map, drop, Option, Some, None, Result, Ok, Err, arith, refl, sym, ◌∙◌, ap, subst, IfSome, IfOk, IfErr, inr, le_refl, length-append}
+use Rattle.std.proofs.Common.{◌≡◌, ◌≢◌, ◌≤◌, ℕ, Bool, true, false, cond, List, [], ◌∷◌, ◌++◌, length, get_or, set, map, drop, Option, Some, None, Result, Ok, Err, arith, refl, sym, ◌∙◌, ap, subst, IfSome, inr, le_refl, length-append}
 use Rattle.std.proofs.lemmas.List.{take-append-drop, drop_all}
-use Rattle.std.specs.Prelude.{Contains}
+use Rattle.std.specs.Prelude.{Contains, ◌&&◌}
+use Rattle.std.proofs.lemmas.Bool.{and_from}
 use Rattle.std.proofs.Math.Nat.{le_trans}
-use Rattle.qm_model.specs.Trees.{peaks}
-use Rattle.qm_model.specs.StoreModel.{Stored, HasAppended}
+use Rattle.qm_model.specs.StoreModel.{Stored}
 use Rattle.qm_model.specs.StoreModel as model
 use Rattle.qm_model.specs.Operations.{Bytes, Operation}
 use Rattle.qm_model.specs.Forms.{spelling}
@@ -18,6 +18,9 @@ use Rattle.qm_machine.specs.Lines as lines
 use Rattle.qm_model.specs.Refused as refusals
 use Rattle.qm_machine.specs.Machine.{State, slot_at, with_slot, refuse, started, start_child, put_in, merkleize_tip, merkleize_in, apply_in}
 use Rattle.qm_machine.specs.Machine as machine
+use Rattle.qm_model.specs.Schemes.{takes}
+use Rattle.qm_model.proofs.KeyOrder.{and-true}
+use Rattle.qm_model.proofs.Stores.{leaves-now}
 use Rattle.qm_model.proofs.Chains.{Contains-more, Contains-first, IsAmong-more, child-among, on_chain-fits, known-begins, Begins-self, Begins-length}
 use Rattle.qm_base.specs.declared.error.Error.{Error}
 use Rattle.qm_base.specs.declared.error.Error.TheVariants as errors
@@ -36,15 +39,15 @@ use Rattle.qm_engine.specs.declared.session.Turn.TheVariants.{Reply}
 use Rattle.qm_engine.specs.Table.{writing_of, merkleized_of}
 use Rattle.qm_engine.specs.Turn.{turn_of_error}
 use Rattle.qm_store.specs.Refusals.{refusal_of}
-use Rattle.qm_offer.specs.Words.{AtBatch, AtTip, Fits, tip_of}
-use Rattle.qm_engine.specs.Making.{made_into, IsMaking}
+use Rattle.qm_offer.specs.Words.{AtBatch, AtTip, Fits, Makes, tip_of}
+use Rattle.qm_engine.specs.Making.{made_into, TakesOf, IsMaking}
 use Rattle.qm_machine.specs.Sound.{IsSoundSlot, IsSteady}
 use Rattle.qm_engine.specs.Stores.{HasLog, IsLeft}
 use Rattle.qm_engine.specs.Session.{SlotIs, Holds}
 use Rattle.qm_engine.proofs.Tables.{push_at, set_at, set_set}
 use Rattle.qm_store.specs.Given.{Appended, TellsFrom}
-use Rattle.qm_engine.proofs.LastingStores.{has-appended, left_appended}
-use Rattle.qm_engine.proofs.Commands.{some_is, some-map, choice, none_some, refuses, by_error, HeldIs-more, SlotIs-more, with_held, with_list, with_told_writing, slots_set, lengths_set, Keeps, Holds-used, Turns}
+use Rattle.qm_engine.proofs.LastingStores.{IsBare, has-appended, left_appended}
+use Rattle.qm_engine.proofs.Commands.{some_is, some-map, choice, none_some, refuses, by_error, HeldIs-more, SlotIs-more, numbered-held, with_held, with_list, with_told_writing, slots_set, lengths_set, Keeps, Holds-used, Turns}
 
 -- a list on a batch's chain begins its base
 pub base-begins : (list : List Operation) (chain : Chain) → IsOnChain list chain → IsRising chain → Begins list chain.base
@@ -135,11 +138,11 @@ module _ {X C B S M K V D : Type 0} (members : stores.Ghosts C) (means : meaning
     Chosen Goal fit due = Goal (cond fit (merkleize_tip s h chain tip due) (refuse (with_slot s h machine.gone) refusals.StaleBatch))
 
     -- it was made
-    pub making_ok : (made : M) (low high bottom : ℕ) → IsMaking means list chain tip (Ok made)
+    pub making_ok : (made : M) (low high bottom : ℕ) → IsMaking means s.opened list chain tip (Ok made)
         → ((chain : Chain) (tip : List Operation) → means.is_merkleized made chain tip → (low ≡ length chain.base) × (high ≡ length tip) × (bottom ≡ floor tip))
         → Goes (Reply (replies.Merkleized h low high bottom)) held (set table h (Merkleized made)) opened (made_into means.scheme s h list chain tip)
     making_ok made low high bottom making sized =
-        subst (λ t. Chosen Goal t (tip_refusal means.scheme.form chain tip)) (sym making.fits) (by_due (tip_refusal means.scheme.form chain tip) refl)
+        subst (λ t. Chosen Goal t (tip_refusal means.scheme.form chain tip)) (sym (and_from _ _ making.instance making.fit)) (by_due (tip_refusal means.scheme.form chain tip) refl)
       where
         Goal : Answer × State → Type 0
         Goal = Goes (Reply (replies.Merkleized h low high bottom)) held (set table h (Merkleized made)) opened
@@ -148,13 +151,13 @@ module _ {X C B S M K V D : Type 0} (members : stores.Ghosts C) (means : meaning
         new = machine.merkleized chain tip
 
         by_due : (due : Option refusals.Refused) → tip_refusal means.scheme.form chain tip ≡ due → Goal (merkleize_tip s h chain tip due)
-        by_due (Some r) is_due = λ apart. absurd (none_some (making.made (on_chain apart making.fits)).0 is_due)
+        by_due (Some r) is_due = λ apart. absurd (none_some (making.made (on_chain apart making.fit)).0 is_due)
         by_due None is_due = λ apart.
-            let now = (making.made (on_chain-made apart making.fits)).1 in
+            let now = (making.made (on_chain-made apart making.fit)).1 in
             let sizes = sized chain tip now in (
               rw (sizes.0, sizes.1, sizes.2) refl,
               record {
-                database = HeldIs-more members means s.had tip held s.database k.database;
+                database = HeldIs-more members means s.opened s.had tip held s.database k.database;
                 store = k.store;
                 start = k.start;
                 low = k.low;
@@ -168,73 +171,67 @@ module _ {X C B S M K V D : Type 0} (members : stores.Ghosts C) (means : meaning
             )
 
     -- it was not
-    pub making_err : (error : Error) → IsMaking means list chain tip (Err error) → Goes (turn_of_error error) held table opened (made_into means.scheme s h list chain tip)
+    pub making_err : (error : Error) → IsMaking means s.opened list chain tip (Err error) → Goes (turn_of_error error) held table opened (made_into means.scheme s h list chain tip)
     making_err error making =
         by_error error _
-        (λ is_stale. choice (fits root (commitment root list) chain) (merkleize_tip s h chain tip (tip_refusal means.scheme.form chain tip)) (refuse (with_slot s h machine.gone) refusals.StaleBatch) (Goal refused.StaleBatch)
-        (λ fit. behind is_stale fit (tip_refusal means.scheme.form chain tip)) (λ unfit apart. (refl, k)))
+        (λ is_stale. choice (takes means.scheme.grafts s.opened chain.instance && fits root (commitment root list) chain) (merkleize_tip s h chain tip (tip_refusal means.scheme.form chain tip)) (refuse (with_slot s h machine.gone) refusals.StaleBatch) (Goal refused.StaleBatch)
+        (λ both. let taken = and-true (takes means.scheme.grafts s.opened chain.instance) (fits root (commitment root list) chain) both in
+        behind is_stale taken.0 taken.1 (tip_refusal means.scheme.form chain tip)) (λ unfit apart. (refl, k)))
         (λ r other told. let due = subst Due told (making.refused other) in
-        subst (λ t. Chosen (Goal r) t (tip_refusal means.scheme.form chain tip)) (sym due.0) (refusing r due (tip_refusal means.scheme.form chain tip) refl))
+        subst (λ t. Chosen (Goal r) t (tip_refusal means.scheme.form chain tip)) (sym (and_from _ _ due.0 due.1)) (refusing r due (tip_refusal means.scheme.form chain tip) refl))
       where
         Goal : Refused → Answer × State → Type 0
         Goal r = Goes (Reply (replies.Refused r)) held table opened
 
         Due : Option refusals.Refused → Type 0
-        Due o = IfSome o (λ r. Fits means list chain × (IsOnChain list chain → tip_refusal means.scheme.form chain tip ≡ Some r))
+        Due o = IfSome o (λ r. TakesOf means s.opened chain × Fits means list chain × (IsOnChain list chain → tip_refusal means.scheme.form chain tip ≡ Some r))
 
-        behind : error ≡ errors.StaleBatch → fits root (commitment root list) chain ≡ true → (due : Option refusals.Refused) → Goal refused.StaleBatch (merkleize_tip s h chain tip due)
-        behind is_stale fit None = λ apart. absurd (making.stale is_stale (on_chain-made apart fit))
-        behind is_stale fit (Some r) = λ apart. absurd (making.stale is_stale (on_chain apart fit))
+        behind : error ≡ errors.StaleBatch → TakesOf means s.opened chain → fits root (commitment root list) chain ≡ true → (due : Option refusals.Refused) → Goal refused.StaleBatch (merkleize_tip s h chain tip due)
+        behind is_stale same fit None = λ apart. absurd (making.stale is_stale same (on_chain-made apart fit))
+        behind is_stale same fit (Some r) = λ apart. absurd (making.stale is_stale same (on_chain apart fit))
 
         refusing : (r : Refused) → Due (Some (refused_view r)) → (due : Option refusals.Refused) → tip_refusal means.scheme.form chain tip ≡ due → Goal r (merkleize_tip s h chain tip due)
-        refusing r due None is_due = λ apart. absurd (none_some is_due (due.1 (on_chain-made apart due.0)))
-        refusing r due (Some q) is_due = λ apart. (ap refuses (sym (due.1 (on_chain apart due.0)) ∙ is_due), k)
+        refusing r due None is_due = λ apart. absurd (none_some is_due (due.2 (on_chain-made apart due.1)))
+        refusing r due (Some q) is_due = λ apart. (ap refuses (sym (due.2 (on_chain apart due.1)) ∙ is_due), k)
 
-  -- what a call says that makes a batch's tip list
-  pub batch_making : (x : X) (batch : B) (tip : Chain → List Write → List Operation) (made : Result M Error)
-      → IfOk made (λ _. AtBatch means x batch (λ list chain above ws. Fits means list chain))
-      → IfOk made (λ b. AtBatch means x batch (λ list chain above ws. IsOnChain list chain → (tip_refusal means.scheme.form chain (tip chain ws) ≡ None) × means.is_merkleized b chain (tip chain ws)))
-      → IfErr made (λ e. e ≡ errors.StaleBatch → AtBatch means x batch (λ list chain above ws. ¬ IsOnChain list chain))
-      → IfErr made (λ e. e ≢ errors.StaleBatch → AtBatch means x batch (λ list chain above ws. TellsFrom members (means.inside x) list
-      → IfSome (refusal_of e) (λ r. Fits means list chain × (IsOnChain list chain → floor list ≤ floor chain.base → tip_refusal means.scheme.form chain (tip chain ws) ≡ Some r))))
-      → AtBatch means x batch (λ list chain above ws. TellsFrom members (means.inside x) list → (IsOnChain list chain → floor list ≤ floor chain.base) → IsMaking means list chain (tip chain ws) made)
-  batch_making x batch tip (Ok b) fits did stale refused list chain above ws stands is tells low = record {
-    fits = fits list chain above ws stands is;
-    made = did list chain above ws stands is;
-    stale = tt;
-    refused = tt;
-  }
-  batch_making x batch tip (Err e) fits did stale refused list chain above ws stands is tells low = record {
-    fits = tt;
+  -- what a call says that makes a batch's tip list, where the store tells all of the database's
+  pub making_of : (x : X) (n : ℕ) (list : List Operation) (chain : Chain) (tip : List Operation) (made : Result M Error) → means.numbered x n → TellsFrom members (means.inside x) list → (IsOnChain list chain → floor list ≤ floor chain.base)
+      → Makes means members x list chain tip made → IsMaking means n list chain tip made
+  making_of x n list chain tip (Ok b) is tells low makes = record { instance = makes.instance n is; fit = makes.fit; made = makes.made; stale = tt; refused = tt }
+  making_of x n list chain tip (Err e) is tells low makes = record {
+    instance = tt;
+    fit = tt;
     made = tt;
-    stale = λ same. stale same list chain above ws stands is;
-    refused = λ other. some-map (refusal_of e) (λ r both. (both.0, λ on. both.1 on (low on))) (refused other list chain above ws stands is tells);
+    stale = λ same. makes.stale same n is;
+    refused = λ other. some-map (refusal_of e) (λ r all. (all.0 n is, all.1, λ on. all.2 on (low on))) (makes.refused other tells);
   }
 
   -- a merkleize of a batch whose number is used up, under policies with these rules
   pub merkleize_made : {P : Type 0} (rules : Rules P) (Q : Answer × State → Type 0) (x after : X) (table : List (Slot B S M)) (opened h : ℕ) (policy : P) (meta : Option Bytes) (batch : B) (made : Result M Error) (s : State)
       → Holds members means (Database x) table opened s → IsSteady means.scheme s → Keeps members means x after
-      → AtBatch means x batch (λ list chain above ws. TellsFrom members (means.inside x) list → (IsOnChain list chain → floor list ≤ floor chain.base) → IsMaking means list chain (tip_of means.scheme rules chain ws policy meta) made)
+      → AtBatch means x batch (λ list chain above ws. Makes means members x list chain (tip_of means.scheme rules chain ws policy meta) made)
       → writing_of (get_or table h Gone) ≡ Some batch
       → ((list : List Operation) (chain : Chain) (tip : List Operation) → Holds members means (Database after) (set table h Gone) opened (with_slot s h machine.gone) → Contains s.had list → IsAmong s.had chain
-      → IsMaking means list chain tip made → Q (made_into means.scheme s h list chain tip))
+      → IsMaking means s.opened list chain tip made → Q (made_into means.scheme s h list chain tip))
       → Q (machine.merkleize means.scheme rules s h policy meta)
   merkleize_made rules Q x after table opened h policy meta batch made s k sound keeps making e each =
       with_told_writing members means x table opened h s (λ list. merkleize_in means.scheme rules s h policy meta list) Q k batch e (λ list chain above ws tells named stands in_had among above_among is.
       each list chain (tip_of means.scheme rules chain ws policy meta) (Holds-used members means x after table opened h s keeps k) in_had among
-      (making list chain above ws stands is tells (λ on. sound.floors list chain.base in_had among.base (base-begins list chain on (subst (IsSoundSlot s.had) named (sound.slots h)).1))))
+      (making_of x s.opened list chain (tip_of means.scheme rules chain ws policy meta) made (numbered-held members means s.opened x s.had s.database k.database) tells
+      (λ on. sound.floors list chain.base in_had among.base (base-begins list chain on (subst (IsSoundSlot s.had) named (sound.slots h)).1)) (making list chain above ws stands is)))
 
   -- an apply that was accepted
-  applied_in : (peakless : peaks means.scheme.shape 0 ≡ []) (x after : X) (table : List (Slot B S M)) (opened : ℕ) (h : ℕ) (batch : M) (size : ℕ) (s : State) (list : List Operation)
+  applied_in : (peakless : IsBare means.scheme) (x after : X) (table : List (Slot B S M)) (opened : ℕ) (h : ℕ) (batch : M) (size : ℕ) (s : State) (list : List Operation)
       → Holds members means (Database x) table opened s → Contains s.had list → s.log.list ≡ list
       → s.log.start ≤ floor list → ((newer : List Operation) → Contains s.had newer → Begins list newer → floor list ≤ floor newer)
+      → ((n : ℕ) → means.numbered x n → means.numbered after n)
       → ((chain : Chain) (tip : List Operation) → means.is_merkleized batch chain tip → fits root (commitment root list) chain ≡ true)
       → ((chain : Chain) (tip : List Operation) → means.is_merkleized batch chain tip → IsOnChain list chain → means.stands after tip)
       → ((chain : Chain) (tip : List Operation) → means.is_merkleized batch chain tip → IsOnChain list chain → Appended members (means.inside x) (means.inside after) (map (spelling means.scheme.form) (drop (length list) tip)))
       → ((l : List Operation) → means.stands after l → size ≡ length l)
       → (a : Slot B S M) (b : machine.Slot) → SlotIs members means s.had a b → IsSoundSlot s.had b → merkleized_of a ≡ Some batch
       → Goes (Reply (replies.Applied size)) (Database after) table opened (apply_in means.scheme s h list b)
-  applied_in peakless x after table opened h batch size s list k in_had log_is low floors fit_of did grown sized (Merkleized w) (machine.merkleized chain tip) is sound e =
+  applied_in peakless x after table opened h batch size s list k in_had log_is low floors same_number fit_of did grown sized (Merkleized w) (machine.merkleized chain tip) is sound e =
       let same : w ≡ batch = cc in
       let batch_is : means.is_merkleized batch chain tip = subst (λ v. means.is_merkleized v chain tip) same is.0 in
       choice (fits root (commitment root list) chain) (lines.Applied (length tip), record s { database = Some tip; log = record s.log { list = tip } }) (refuse s refusals.StaleBatch) (Goes (Reply (replies.Applied size)) (Database after) table opened)
@@ -246,7 +243,7 @@ module _ {X C B S M K V D : Type 0} (members : stores.Ghosts C) (means : meaning
       let whole : s.log.list ++ drop (length list) tip ≡ tip = ap (λ xs. xs ++ drop (length list) tip) (log_is ∙ sym begins) ∙ take-append-drop (length list) tip in (
         ap lines.Applied (sized tip stood),
         record {
-          database = (stood, is.2);
+          database = (stood, is.2, same_number s.opened (numbered-held members means s.opened x s.had s.database k.database));
           store = record {
             start = more.start ∙ k.store.start;
             told = subst (λ xs. HasLog means.scheme (members.told (means.inside after)) (record s.log { list = xs })) whole
@@ -261,8 +258,8 @@ module _ {X C B S M K V D : Type 0} (members : stores.Ghosts C) (means : meaning
         },
       ))
       (λ unfit. absurd (let fit = fit_of chain tip batch_is in cc))
-  applied_in peakless x after table opened h batch size s list k in_had log_is low floors fit_of did grown sized (Merkleized w) b is sound e = absurd is
-  applied_in peakless x after table opened h batch size s list k in_had log_is low floors fit_of did grown sized a b is sound e = absurd (cc)
+  applied_in peakless x after table opened h batch size s list k in_had log_is low floors same_number fit_of did grown sized (Merkleized w) b is sound e = absurd is
+  applied_in peakless x after table opened h batch size s list k in_had log_is low floors same_number fit_of did grown sized a b is sound e = absurd (cc)
 
   -- one that found the batch left behind
   unapplied_in : (x : X) (table : List (Slot B S M)) (opened : ℕ) (h : ℕ) (batch : M) (s : State) (list : List Operation)
@@ -279,18 +276,18 @@ module _ {X C B S M K V D : Type 0} (members : stores.Ghosts C) (means : meaning
   unapplied_in x table opened h batch s list k in_had off (Merkleized w) b is e = absurd is
   unapplied_in x table opened h batch s list k in_had off a b is e = absurd (cc)
 
-  pub apply_ok : (peakless : peaks means.scheme.shape 0 ≡ []) (x after : X) (table : List (Slot B S M)) (opened : ℕ) (h : ℕ) (batch : M) (size : ℕ) (s : State)
-      → Holds members means (Database x) table opened s → IsSteady means.scheme s
+  pub apply_ok : (peakless : IsBare means.scheme) (x after : X) (table : List (Slot B S M)) (opened : ℕ) (h : ℕ) (batch : M) (size : ℕ) (s : State)
+      → Holds members means (Database x) table opened s → IsSteady means.scheme s → ((n : ℕ) → means.numbered x n → means.numbered after n)
       → AtTip means x batch (λ list chain tip. Fits means list chain)
       → AtTip means x batch (λ list chain tip. IsOnChain list chain → means.stands after tip)
       → AtTip means x batch (λ list chain tip. IsOnChain list chain → Appended members (means.inside x) (means.inside after) (map (spelling means.scheme.form) (drop (length list) tip)))
       → ((l : List Operation) → means.stands after l → size ≡ length l)
       → merkleized_of (get_or table h Gone) ≡ Some batch
       → Goes (Reply (replies.Applied size)) (Database after) table opened (machine.apply means.scheme s h)
-  apply_ok peakless x after table opened h batch size s k sound fit did grown sized e =
+  apply_ok peakless x after table opened h batch size s k sound same_number fit did grown sized e =
       with_held members means x s.had s.database s (λ list. apply_in means.scheme s h list (slot_at s.table h)) (Goes (Reply (replies.Applied size)) (Database after) table opened) k.database
       (λ list is stands in_had. applied_in peakless x after table opened h batch size s list k in_had (sound.held list is).0
-      (some_is s.database list (λ l. s.log.start ≤ floor l) is k.low) (λ newer in_newer begins. sound.floors list newer in_had in_newer begins) (λ chain tip. fit list chain tip stands) (λ chain tip. did list chain tip stands) (λ chain tip. grown list chain tip stands) sized
+      (some_is s.database list (λ l. s.log.start ≤ floor l) is k.low) (λ newer in_newer begins. sound.floors list newer in_had in_newer begins) same_number (λ chain tip. fit list chain tip stands) (λ chain tip. did list chain tip stands) (λ chain tip. grown list chain tip stands) sized
       (get_or table h Gone) (slot_at s.table h) (k.slots h) (sound.slots h) e)
 
   pub apply_err : (x : X) (given : Given X C) (table : List (Slot B S M)) (opened : ℕ) (h : ℕ) (batch : M) (error : Error) (s : State)
@@ -309,10 +306,10 @@ module _ {X C B S M K V D : Type 0} (members : stores.Ghosts C) (means : meaning
       (λ r other told. absurd (none_some (none other) told))
 
   -- what an apply leaves in the store
-  left_in : (peakless : peaks means.scheme.shape 0 ≡ []) (x : X) (left : Option Stored) (table : List (Slot B S M)) (opened : ℕ) (h : ℕ) (batch : M) (s : State) (list : List Operation)
+  left_in : (peakless : IsBare means.scheme) (x : X) (left : Option Stored) (table : List (Slot B S M)) (opened : ℕ) (h : ℕ) (batch : M) (s : State) (list : List Operation)
       → Holds members means (Database x) table opened s → Contains s.had list → s.log.list ≡ list → Apart root s.had
       → ((chain : Chain) (tip : List Operation) → means.is_merkleized batch chain tip → (fits root (commitment root list) chain ≡ true → IsOnChain list chain)
-      → model.Turns (members.told (means.inside x)) left (HasAppended (cond (fits root (commitment root list) chain) (map (spelling means.scheme.form) (drop (length list) tip)) [])))
+      → model.Grows (members.told (means.inside x)) left (cond (fits root (commitment root list) chain) (map (spelling means.scheme.form) (drop (length list) tip)) []))
       → (a : Slot B S M) (b : machine.Slot) → SlotIs members means s.had a b → merkleized_of a ≡ Some batch
       → IsLeft means.scheme left s.log ((apply_in means.scheme s h list b).1).log
   left_in peakless x left table opened h batch s list k in_had log_is apart grown (Merkleized w) (machine.merkleized chain tip) is e =
@@ -320,17 +317,17 @@ module _ {X C B S M K V D : Type 0} (members : stores.Ghosts C) (means : meaning
       let batch_is : means.is_merkleized batch chain tip = subst (λ v. means.is_merkleized v chain tip) same is.0 in
       by_fit (fits root (commitment root list) chain) (grown chain tip batch_is (λ fit. on_chain-fits root s.had list chain apart in_had is.1 fit))
     where
-      by_fit : (t : Bool) → model.Turns (members.told (means.inside x)) left (HasAppended (cond t (map (spelling means.scheme.form) (drop (length list) tip)) []))
+      by_fit : (t : Bool) → model.Grows (members.told (means.inside x)) left (cond t (map (spelling means.scheme.form) (drop (length list) tip)) [])
           → IsLeft means.scheme left s.log ((cond t (lines.Applied (length tip), record s { database = Some tip; log = record s.log { list = tip } }) (refuse s refusals.StaleBatch)).1).log
-      by_fit true part = left_appended means.scheme peakless (members.told (means.inside x)) left s.log (record s.log { list = tip }) (drop (length list) tip) k.store.told k.start k.within (ap (λ xs. drop (length xs) tip) log_is) part
-      by_fit false part = left_appended means.scheme peakless (members.told (means.inside x)) left s.log s.log [] k.store.told k.start k.within (drop_all (length s.log.list) s.log.list (le_refl (length s.log.list))) part
+      by_fit true part = left_appended means.scheme peakless (members.told (means.inside x)) left s.log (record s.log { list = tip }) (drop (length list) tip) k.store.told k.start k.within (ap (λ xs. drop (length xs) tip) log_is) (leaves-now _ _ _ _ part)
+      by_fit false part = left_appended means.scheme peakless (members.told (means.inside x)) left s.log s.log [] k.store.told k.start k.within (drop_all (length s.log.list) s.log.list (le_refl (length s.log.list))) (leaves-now _ _ _ _ part)
   left_in peakless x left table opened h batch s list k in_had log_is apart grown (Merkleized w) b is e = absurd is
   left_in peakless x left table opened h batch s list k in_had log_is apart grown a b is e = absurd (cc)
 
-  pub apply_left : (peakless : peaks means.scheme.shape 0 ≡ []) (x : X) (left : Option Stored) (table : List (Slot B S M)) (opened : ℕ) (h : ℕ) (batch : M) (s : State)
+  pub apply_left : (peakless : IsBare means.scheme) (x : X) (left : Option Stored) (table : List (Slot B S M)) (opened : ℕ) (h : ℕ) (batch : M) (s : State)
       → Holds members means (Database x) table opened s → IsSteady means.scheme s → Apart root s.had
       → ((list : List Operation) (chain : Chain) (tip : List Operation) → means.stands x list → means.is_merkleized batch chain tip → (fits root (commitment root list) chain ≡ true → IsOnChain list chain)
-      → model.Turns (members.told (means.inside x)) left (HasAppended (cond (fits root (commitment root list) chain) (map (spelling means.scheme.form) (drop (length list) tip)) [])))
+      → model.Grows (members.told (means.inside x)) left (cond (fits root (commitment root list) chain) (map (spelling means.scheme.form) (drop (length list) tip)) []))
       → merkleized_of (get_or table h Gone) ≡ Some batch
       → IsLeft means.scheme left s.log ((machine.apply means.scheme s h).1).log
   apply_left peakless x left table opened h batch s k sound apart grown e =

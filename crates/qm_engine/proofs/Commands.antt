@@ -123,11 +123,11 @@ pub no_refusal : {K V D : Type 0} (error : Error) (Q : reply.Reply K V D → Typ
 no_refusal error Q none = by_refusal error Q (λ r told. absurd (none_some none told))
 
 module _ {X C B S M : Type 0} (members : stores.Ghosts C) (means : meaning.Ghosts X C B S M) where
-  pub HeldIs-more : (had : List (List Operation)) (new : List Operation) (held : Given X C) (d : Option (List Operation)) → HeldIs members means had held d → HeldIs members means (new ∷ had) held d
-  HeldIs-more had new (Database x) (Some list) h = (h.0, Contains-more had new list h.1)
-  HeldIs-more had new (Database x) None h = absurd h
-  HeldIs-more had new (Store c) (Some list) h = absurd h
-  HeldIs-more had new (Store c) None h = tt
+  pub HeldIs-more : (n : ℕ) (had : List (List Operation)) (new : List Operation) (held : Given X C) (d : Option (List Operation)) → HeldIs members means n had held d → HeldIs members means n (new ∷ had) held d
+  HeldIs-more n had new (Database x) (Some list) h = (h.0, Contains-more had new list h.1, h.2)
+  HeldIs-more n had new (Database x) None h = absurd h
+  HeldIs-more n had new (Store c) (Some list) h = absurd h
+  HeldIs-more n had new (Store c) None h = tt
 
   pub SlotIs-more : (had : List (List Operation)) (new : List Operation) (a : Slot B S M) (b : machine.Slot) → SlotIs members means had a b → SlotIs members means (new ∷ had) a b
   SlotIs-more had new Gone machine.gone h = tt
@@ -158,12 +158,12 @@ module _ {X C B S M : Type 0} (members : stores.Ghosts C) (means : meaning.Ghost
 
   -- a database is open where one is held
   pub with_held : (x : X) (had : List (List Operation)) (d : Option (List Operation)) (s : State) (f : List Operation → Answer × State) (Q : Answer × State → Type 0)
-      → HeldIs members means had (Database x) d → ((list : List Operation) → d ≡ Some list → means.stands x list → Contains had list → Q (f list)) → Q (with_database s d f)
+      → HeldIs members means s.opened had (Database x) d → ((list : List Operation) → d ≡ Some list → means.stands x list → Contains had list → Q (f list)) → Q (with_database s d f)
   with_held x had None s f Q h each = absurd h
   with_held x had (Some list) s f Q h each = each list refl h.0 h.1
 
   pub with_list : (x : X) (had : List (List Operation)) (d : Option (List Operation)) (s : State) (f : List Operation → Answer × State) (Q : Answer × State → Type 0)
-      → HeldIs members means had (Database x) d → ((list : List Operation) → means.stands x list → Contains had list → Q (f list)) → Q (with_database s d f)
+      → HeldIs members means s.opened had (Database x) d → ((list : List Operation) → means.stands x list → Contains had list → Q (f list)) → Q (with_database s d f)
   with_list x had d s f Q h each = with_held x had d s f Q h (λ list is. each list)
 
   -- one answer of the list
@@ -173,10 +173,16 @@ module _ {X C B S M : Type 0} (members : stores.Ghosts C) (means : meaning.Ghost
   of_list x table opened s got answer k is =
       with_list x s.had s.database s (λ list. (answer list, s)) (λ next. (got ≡ next.0) × Holds members means (Database x) table opened next.1) k.database (λ list stands in_had. (is list stands, k))
 
-  -- another database that stands for the same lists
-  pub HeldIs-kept : (x after : X) (had : List (List Operation)) (d : Option (List Operation)) → ((list : List Operation) → means.stands x list → means.stands after list) → HeldIs members means had (Database x) d → HeldIs members means had (Database after) d
-  HeldIs-kept x after had None keeps h = absurd h
-  HeldIs-kept x after had (Some list) keeps h = (keeps list h.0, h.1)
+  -- it is the instance of the machine's number
+  pub numbered-held : (n : ℕ) (x : X) (had : List (List Operation)) (d : Option (List Operation)) → HeldIs members means n had (Database x) d → means.numbered x n
+  numbered-held n x had None h = absurd h
+  numbered-held n x had (Some list) h = h.2
+
+  -- another database that stands for the same lists, and is the same instance
+  pub HeldIs-kept : (n : ℕ) (x after : X) (had : List (List Operation)) (d : Option (List Operation)) → ((list : List Operation) → means.stands x list → means.stands after list) → ((n : ℕ) → means.numbered x n → means.numbered after n)
+      → HeldIs members means n had (Database x) d → HeldIs members means n had (Database after) d
+  HeldIs-kept n x after had None keeps same h = absurd h
+  HeldIs-kept n x after had (Some list) keeps same h = (keeps list h.0, h.1, same n h.2)
 
   -- the same places, with one set
   pub slots_set : (table : List (Slot B S M)) (s : State) (h : ℕ) (new : Slot B S M) (slot : machine.Slot) → length table ≡ length s.table → ((i : ℕ) → SlotIs members means s.had (get_or table i Gone) (slot_at s.table i))
@@ -195,13 +201,13 @@ module _ {X C B S M : Type 0} (members : stores.Ghosts C) (means : meaning.Ghost
       → ((list : List Operation) → TellsFrom members (means.inside x) list → means.stands x list → Contains s.had list → Q (f list)) → Q (with_database s s.database f)
   with_told x table opened s f Q k each = with_held x s.had s.database s f Q k.database (λ list is. each list (Holds-told x table opened s k list is))
 
-  -- a database that stands for the same lists, over what the store had
+  -- a database that stands for the same lists, over what the store had, and is the same instance
   abbrev pub Keeps : X → X → Type 0
-  Keeps x after = ((l : List Operation) → means.stands x l → means.stands after l) × IsUnchanged members (means.inside x) (means.inside after)
+  Keeps x after = ((l : List Operation) → means.stands x l → means.stands after l) × IsUnchanged members (means.inside x) (means.inside after) × ((n : ℕ) → means.numbered x n → means.numbered after n)
 
   pub Holds-kept : (x after : X) (table : List (Slot B S M)) (opened : ℕ) (s : State) → Keeps x after → Holds members means (Database x) table opened s → Holds members means (Database after) table opened s
   Holds-kept x after table opened s keeps k = record {
-    database = HeldIs-kept x after s.had s.database keeps.0 k.database;
+    database = HeldIs-kept s.opened x after s.had s.database keeps.0 keeps.2 k.database;
     store = stored-same members means.scheme (means.inside x) (means.inside after) s.log keeps.1 k.store;
     start = k.start;
     low = k.low;
@@ -214,7 +220,7 @@ module _ {X C B S M : Type 0} (members : stores.Ghosts C) (means : meaning.Ghost
   -- and whose batch number h is used up
   pub Holds-used : (x after : X) (table : List (Slot B S M)) (opened : ℕ) (h : ℕ) (s : State) → Keeps x after → Holds members means (Database x) table opened s → Holds members means (Database after) (set table h Gone) opened (with_slot s h machine.gone)
   Holds-used x after table opened h s keeps k = record {
-    database = HeldIs-kept x after s.had s.database keeps.0 k.database;
+    database = HeldIs-kept s.opened x after s.had s.database keeps.0 keeps.2 k.database;
     store = stored-same members means.scheme (means.inside x) (means.inside after) s.log keeps.1 k.store;
     start = k.start;
     low = k.low;

@@ -1,6 +1,6 @@
 -- What may be left of a log by a command that fails is a log that databases leave.
 use Rattle.std.proofs.Common.{◌≡◌, ◌⊎◌, inl, inr, ℕ, suc, zero, ◌+◌, ◌≤◌, Bool, true, false, cond, List, [], ◌∷◌, ◌++◌, length, take, drop, Option, Some, None, refl, sym, ap, ◌∙◌, subst, arith, le_refl, append-nil}
-use Rattle.std.specs.Prelude.{All, ◌==◌, min, max, nat_lt, ◌<◌, slice_index_or}
+use Rattle.std.specs.Prelude.{All, ◌&&◌, option_map, ◌==◌, min, max, nat_lt, ◌<◌, slice_index_or}
 use Rattle.std.proofs.Math.Seq.{take-add}
 use Rattle.std.proofs.Math.Nat.{le_trans}
 use Rattle.std.proofs.lemmas.Bool.{ltb-false, ltb-true}
@@ -14,17 +14,17 @@ use Rattle.qm_model.specs.Slots.{slotted}
 use Rattle.qm_model.specs.Slots as slots
 use Rattle.qm_model.specs.Step.{Made, step, ordered, unordered}
 use Rattle.qm_model.specs.Batches.{Chain, Apart, Begins, commitment, fits, readable}
-use Rattle.qm_model.specs.Own.{Log, taken_up, IsPartMade, IsKept, Takes, OpensParts, any_engine, ended_part}
+use Rattle.qm_model.specs.Own.{Log, taken_up, ArePrompt, ArePruned, IsPartMade, IsKept, Takes, OpensParts, ended_part}
 use Rattle.qm_model.specs.Opening.{Opening, refuses, opens, opening, opened_list}
 use Rattle.qm_model.specs.Ranges.{key_above, key_below}
 use Rattle.qm_model.specs.Refused.{Refused}
 use Rattle.qm_model.specs.Refusals.{tip_refusal, proof_refusal}
 use Rattle.qm_model.proofs.Chains.{take-least, Begins-self, Begins-length, Begins-through, known-begins, on_chain-fits}
-use Rattle.qm_model.proofs.Openings.{unordered-takes, ordered-takes}
+use Rattle.qm_model.proofs.Openings.{unordered-parts, ordered-parts}
 use Rattle.qm_machine.specs.Lines.{Line, Open, Batch, Child, Tip, Put, Del, Merkleize, Stage, Expand, Resolve, Apply, Ops, Get, Many, Next, Prev, Span, Range, Keys, Info, BatchInfo, Root, BatchRoot, BatchProof, Meta, Prove, Pins, Current, Prune, Commit, Sync, Close, Destroy, Crash, Answer}
 use Rattle.qm_machine.specs.Lines as lines
-use Rattle.qm_machine.specs.Machine.{State, Slot, gone, writing, staged, merkleized, turn, slot_at, start_child, put_in, list_operations, with_database, closed, commit, opened_as, found_in, unless, merkleize_tip, merkleize_writes, merkleize_in, resolve_in, apply_in, if_readable, if_staged, stage_in, expand_in, read_in, read, if_ordered, beside_in, beside_of, info_in, root_in, proof_in, pruned, prune_in}
-use Rattle.qm_model.specs.Schemes.{Scheme, kind_of, engine_of, layout_of}
+use Rattle.qm_machine.specs.Machine.{State, Slot, gone, writing, staged, merkleized, turn, slot_at, start_child, put_in, list_operations, with_database, closed, commit, opened_as, found_in, unless, merkleize_tip, merkleize_writes, merkleize_in, resolve_in, apply_in, if_readable, if_staged, stage_in, expand_in, read_in, read, if_ordered, if_any, if_current, answered, beside_in, beside_of, info_in, root_in, proof_in, pruned, prune_in}
+use Rattle.qm_model.specs.Schemes.{Grafts, Scheme, HasBounds, takes, chunks_of, kind_of, engine_of, layout_of}
 use Rattle.qm_model.specs.Held.{pins_lacked, proof_lacked}
 use Rattle.qm_machine.specs.Sound.{IsSoundSlot, IsSound}
 use Rattle.qm_engine.specs.Stores.{MayBe, grown, cut, moved, emptied, least}
@@ -69,7 +69,11 @@ no_part : (list shorter : List Operation) (count : ℕ) → Begins shorter list 
 no_part list shorter count begins =
     ap (λ ops. list ++ take count ops) (drop_all (length list) shorter (Begins-length shorter list begins)) ∙ (ap (λ ops. list ++ ops) (take_nothing count) ∙ append-nil list)
 
-module _ (m : Scheme) {P : Type 0} (rules : Rules P) where
+module _ (m : Scheme) {P : Type 0} (rules : Rules P) (plain : m.grafts ≡ None) where
+  -- no chunks are pruned, since there are none
+  no-chunks : (log : Log) → ArePruned (engine_of m rules) (chunks_of m) log
+  no-chunks log = subst (λ c. ArePruned (engine_of m rules) c log) (sym (ap (option_map (λ (g : Grafts). g.chunks)) plain)) tt
+
   -- databases leave this log
   abbrev Kept : Log → Type 0
   Kept log = IsKept (engine_of m rules) log
@@ -90,7 +94,7 @@ module _ (m : Scheme) {P : Type 0} (rules : Rules P) where
   floor-rises : (list : List Operation) (a b : ℕ) → PartMade list → a ≤ b → b ≤ length list → floor (ended_part (take a list)) ≤ floor (ended_part (take b list))
   floor-rises list a b made low within =
       let log : Log = record { list = list; start = floor (ended_part (take a list)); chunks = 0; stable = a } in
-      let kept : Kept log = record { made = made; start = le_refl log.start; stable = le_trans low within; chunks = tt } in
+      let kept : Kept log = record { made = made; start = le_refl log.start; stable = le_trans low within; chunks = no-chunks log } in
       subst (λ ops. log.start ≤ floor (ended_part ops)) (take-least b b list (le_refl b)) (left-kept m rules log b kept low within).start
 
   -- so a start stays low enough
@@ -100,7 +104,7 @@ module _ (m : Scheme) {P : Type 0} (rules : Rules P) where
     made = made;
     start = le_trans low (floor-rises list known stable made more within);
     stable = within;
-    chunks = tt;
+    chunks = no-chunks _;
   }
 
   -- a log with a longer list, of which no less is stable
@@ -209,6 +213,10 @@ module _ (m : Scheme) {P : Type 0} (rules : Rules P) where
   ordered_only : (s : State) (offered : Answer × State) → Stays s offered → Stays s (if_ordered m s offered)
   ordered_only s offered stays = either_stays s m.form.ordered offered _ stays refl
 
+  any_only : (s : State) (grafts : Option Grafts) (offered : Answer × State) → Stays s offered → Stays s (if_any s grafts offered)
+  any_only s None offered stays = stays
+  any_only s (Some g) offered stays = refl
+
   unless_due : (s : State) (due : Option Refused) (answer : Answer) → Stays s (unless s due answer)
   unless_due s None answer = refl
   unless_due s (Some r) answer = refl
@@ -295,7 +303,7 @@ module _ (m : Scheme) {P : Type 0} (rules : Rules P) where
   writes_stay : (s : State) (h : ℕ) (policy : P) (meta : Option Bytes) (list : List Operation) (chain : Chain) (ws : List Write) → Stays s (merkleize_writes m rules s h policy meta list chain ws)
   writes_stay s h policy meta list chain ws =
       let tip = step (kind_of m) rules chain.base ws policy meta in
-      either_stays s (fits m.root (commitment m.root list) chain) _ _ (tip_stays s h chain tip (tip_refusal m.form chain tip)) refl
+      either_stays s (takes m.grafts s.opened chain.instance && fits m.root (commitment m.root list) chain) _ _ (tip_stays s h chain tip (tip_refusal m.form chain tip)) refl
 
   merkleize_stays : (s : State) (h : ℕ) (policy : P) (meta : Option Bytes) (list : List Operation) (slot : Slot) → Stays s (merkleize_in m rules s h policy meta list slot)
   merkleize_stays s h policy meta list (writing chain parent ws) = writes_stay s h policy meta list chain ws
@@ -313,22 +321,22 @@ module _ (m : Scheme) {P : Type 0} (rules : Rules P) where
   -- Those that change it.
 
   -- an opening takes up a beginning, whichever kind of database it is
-  opens-parts : OpensParts (engine_of m rules)
-  opens-parts = by m.form.ordered
+  opens-parts : ArePrompt (chunks_of m) m.shape → OpensParts (engine_of m rules)
+  opens-parts prompt = by m.form.ordered
     where
-      by : (b : Bool) → OpensParts (any_engine (cond b ordered unordered) rules m.hash m.form m.shape m.digest_size)
-      by true = ordered-takes rules m.hash m.form m.shape m.digest_size
-      by false = unordered-takes rules m.hash m.form m.shape m.digest_size
+      by : (b : Bool) → OpensParts (record { kind = cond b ordered unordered; rules = rules; hash = m.hash; layout = layout_of m })
+      by true = ordered-parts rules m.hash (layout_of m) prompt
+      by false = unordered-parts rules m.hash (layout_of m) prompt
 
   -- a beginning of the list, or of an empty store the fresh list
   opened-part : (log : Log) (list : List Operation) → Begins list log.list ⊎ ((log.list ≡ []) × (list ≡ fresh)) → Followed log (taken_up list log)
   opened-part log list (inl begins) = inr (begins, inr (le_refl log.start))
   opened-part log list (inr (none, new)) = inl (subst (λ ops. Begins ops list) (sym none) refl)
 
-  opened_follows : (s : State) (bound : Option ℕ) (o : Opening) → opening (layout_of m) (found_in m s.log) bound ≡ o → IsSound m rules s → Follows s (opened_as (closed s) o)
-  opened_follows s bound (refuses r) e is = unmoved s is
-  opened_follows s bound (opens size) e is =
-      let takes : Takes (engine_of m rules) s.log bound size = opens-parts s.log bound size is.kept e in
+  opened_follows : ArePrompt (chunks_of m) m.shape → (s : State) (bound : Option ℕ) (o : Opening) → opening (layout_of m) (found_in m s.log) bound ≡ o → IsSound m rules s → Follows s (opened_as (closed s) o)
+  opened_follows prompt s bound (refuses r) e is = unmoved s is
+  opened_follows prompt s bound (opens size) e is =
+      let takes : Takes (engine_of m rules) s.log bound size = opens-parts prompt s.log bound size is.kept e in
       (takes.kept, opened-part s.log (opened_list size s.log.list) takes.part)
 
   -- the tips of the table's batches are of the machine's form
@@ -353,14 +361,15 @@ module _ (m : Scheme) {P : Type 0} (rules : Rules P) where
   commit_follows : (s : State) → IsSound m rules s → Follows s (commit s)
   commit_follows s is = with_list s s.database _ is (λ list e. (settled-kept m rules s.log is.kept, inl (Begins-self s.log.list)))
 
-  prune_follows : ((list : List Operation) → m.boundary list ≤ floor list) → (s : State) (to : ℕ) (list : List Operation) → s.database ≡ Some list → IsSound m rules s → Follows s (prune_in m s to list)
-  prune_follows low s to list e is = either s (nat_lt (m.boundary list) to) _ _ (λ past. unmoved s is) done
+  prune_follows : HasBounds m → (s : State) (to : ℕ) (list : List Operation) → s.database ≡ Some list → IsSound m rules s → Follows s (prune_in m s to list)
+  prune_follows bounds s to list e is = either s (nat_lt (m.boundary list) to) _ _ (λ past. unmoved s is) done
     where
-      done : nat_lt (m.boundary list) to ≡ false → Follows s (lines.Done, record s { log = pruned to s.log })
+      done : nat_lt (m.boundary list) to ≡ false → Follows s (lines.Done, record s { log = pruned m.grafts to s.log })
       done within =
-          let held = is.held list e in
-          let below = le_trans (ltb-false (m.boundary list) to within) (low list) in
-          (pruned-kept m rules s.log to is.kept (subst (Made (kind_of m) rules) (sym held.0) (is.made list held.1)) (subst (λ ops. to ≤ floor ops) (sym held.0) below), inl (Begins-self s.log.list))
+          let held = is.held list e in (
+            pruned-kept m rules bounds s.log to is.kept (subst (Made (kind_of m) rules) (sym held.0) (is.made list held.1)) (subst (λ ops. to ≤ m.boundary ops) (sym held.0) (ltb-false (m.boundary list) to within)),
+            inl (Begins-self s.log.list),
+          )
 
   destroy_follows : (s : State) → IsSound m rules s → Follows s (turn m rules s Destroy)
   destroy_follows s is = with_list s s.database _ is (λ list e. (empty-kept m rules, inr (refl, inl refl)))
@@ -370,42 +379,42 @@ module _ (m : Scheme) {P : Type 0} (rules : Rules P) where
       let chosen = slice_index_or s.choices 0 0 in
       (restarted-kept m rules chosen s.log is.kept, inr (begins_take (max s.log.stable (min (length s.log.list) chosen)) s.log.list, inr (le_refl s.log.start)))
 
-  -- whichever command it is, where no list's boundary is above its floor
-  pub turn-followed : ((list : List Operation) → m.boundary list ≤ floor list) → (s : State) (line : Line P) → IsSound m rules s → Apart m.root s.had
+  -- whichever command it is
+  pub turn-followed : HasBounds m → (s : State) (line : Line P) → IsSound m rules s → Apart m.root s.had
       → ((h : ℕ) (chain : Chain) (tip : List Operation) → slot_at s.table h ≡ merkleized chain tip → All (IsOf m.form) tip)
       → IsKept (engine_of m rules) ((turn m rules s line).1).log × Followed s.log ((turn m rules s line).1).log
-  turn-followed below s (Open bound) is apart formed = opened_follows s bound (opening (layout_of m) (found_in m s.log) bound) refl is
-  turn-followed below s Batch is apart formed = stays s _ is (listed s s.database _ (λ list. refl))
-  turn-followed below s (Child h keep) is apart formed = stays s _ is (child_stays s h keep (slot_at s.table h))
-  turn-followed below s Tip is apart formed = stays s _ is (listed s s.database _ (λ list. refl))
-  turn-followed below s (Put h key value) is apart formed = stays s _ is (put_stays s h _ (slot_at s.table h))
-  turn-followed below s (Del h key) is apart formed = stays s _ is (put_stays s h _ (slot_at s.table h))
-  turn-followed below s (Merkleize h policy meta) is apart formed = stays s _ is (listed s s.database _ (λ list. merkleize_stays s h policy meta list (slot_at s.table h)))
-  turn-followed below s (Stage h keys) is apart formed = stays s _ is (listed s s.database _ (λ list. stage_stays s h keys list (slot_at s.table h)))
-  turn-followed below s (Expand h keys) is apart formed = stays s _ is (listed s s.database _ (λ list. expand_stays s h keys list (slot_at s.table h)))
-  turn-followed below s (Resolve h policy meta given others) is apart formed = stays s _ is (listed s s.database _ (λ list. resolve_stays s h policy meta given others list (slot_at s.table h)))
-  turn-followed below s (Apply h) is apart formed = with_list s s.database _ is (λ list e. apply_follows s h list (slot_at s.table h) e (is.slots h) is apart (formed h))
-  turn-followed below s (Ops h) is apart formed = stays s _ is (operations_stay s h (slot_at s.table h))
-  turn-followed below s (Get key from) is apart formed = stays s _ is (read_stays s (key ∷ []) from)
-  turn-followed below s (Many keys from) is apart formed = stays s _ is (read_stays s keys from)
-  turn-followed below s (Next key from) is apart formed = stays s _ is (ordered_only s _ (beside_stays s (λ keys. key_above keys key) from))
-  turn-followed below s (Prev key from) is apart formed = stays s _ is (ordered_only s _ (beside_stays s (λ keys. key_below keys key) from))
-  turn-followed below s (Span key) is apart formed = stays s _ is (ordered_only s _ (listed s s.database _ (λ list. refl)))
-  turn-followed below s (lines.All key) is apart formed = stays s _ is (ordered_only s _ (listed s s.database _ (λ list. refl)))
-  turn-followed below s (Range low high) is apart formed = stays s _ is (ordered_only s _ (listed s s.database _ (λ list. refl)))
-  turn-followed below s (Keys low high) is apart formed = stays s _ is (ordered_only s _ (listed s s.database _ (λ list. refl)))
-  turn-followed below s Info is apart formed = stays s _ is (listed s s.database _ (λ list. refl))
-  turn-followed below s (BatchInfo h) is apart formed = stays s _ is (info_stays s h (slot_at s.table h))
-  turn-followed below s Root is apart formed = stays s _ is (listed s s.database _ (λ list. refl))
-  turn-followed below s (BatchRoot h) is apart formed = stays s _ is (root_stays s h (slot_at s.table h))
-  turn-followed below s (BatchProof h) is apart formed = stays s _ is (listed s s.database _ (λ list. proof_stays s h list (slot_at s.table h)))
-  turn-followed below s Meta is apart formed = stays s _ is (listed s s.database _ (λ list. refl))
-  turn-followed below s (Prove size start count) is apart formed = stays s _ is (listed s s.database _ (λ list. unless_due s (proof_refusal s.log.start list size start) _))
-  turn-followed below s (Pins n) is apart formed = stays s _ is (listed s s.database _ (λ list. unless_due s (pins_lacked m.shape s.log.start list n) _))
-  turn-followed below s (Current question) is apart formed = unmoved s is
-  turn-followed below s (Prune to) is apart formed = with_list s s.database _ is (λ list e. prune_follows below s to list e is)
-  turn-followed below s Commit is apart formed = commit_follows s is
-  turn-followed below s Sync is apart formed = commit_follows s is
-  turn-followed below s Close is apart formed = stays s _ is (listed s s.database _ (λ list. refl))
-  turn-followed below s Destroy is apart formed = destroy_follows s is
-  turn-followed below s (Crash keep) is apart formed = crash_follows s keep is
+  turn-followed bounds s (Open bound) is apart formed = opened_follows bounds.prompt s bound (opening (layout_of m) (found_in m s.log) bound) refl is
+  turn-followed bounds s Batch is apart formed = stays s _ is (listed s s.database _ (λ list. refl))
+  turn-followed bounds s (Child h keep) is apart formed = stays s _ is (child_stays s h keep (slot_at s.table h))
+  turn-followed bounds s Tip is apart formed = stays s _ is (listed s s.database _ (λ list. refl))
+  turn-followed bounds s (Put h key value) is apart formed = stays s _ is (put_stays s h _ (slot_at s.table h))
+  turn-followed bounds s (Del h key) is apart formed = stays s _ is (put_stays s h _ (slot_at s.table h))
+  turn-followed bounds s (Merkleize h policy meta) is apart formed = stays s _ is (listed s s.database _ (λ list. merkleize_stays s h policy meta list (slot_at s.table h)))
+  turn-followed bounds s (Stage h keys) is apart formed = stays s _ is (listed s s.database _ (λ list. stage_stays s h keys list (slot_at s.table h)))
+  turn-followed bounds s (Expand h keys) is apart formed = stays s _ is (listed s s.database _ (λ list. expand_stays s h keys list (slot_at s.table h)))
+  turn-followed bounds s (Resolve h policy meta given others) is apart formed = stays s _ is (listed s s.database _ (λ list. resolve_stays s h policy meta given others list (slot_at s.table h)))
+  turn-followed bounds s (Apply h) is apart formed = with_list s s.database _ is (λ list e. apply_follows s h list (slot_at s.table h) e (is.slots h) is apart (formed h))
+  turn-followed bounds s (Ops h) is apart formed = stays s _ is (operations_stay s h (slot_at s.table h))
+  turn-followed bounds s (Get key from) is apart formed = stays s _ is (read_stays s (key ∷ []) from)
+  turn-followed bounds s (Many keys from) is apart formed = stays s _ is (read_stays s keys from)
+  turn-followed bounds s (Next key from) is apart formed = stays s _ is (ordered_only s _ (beside_stays s (λ keys. key_above keys key) from))
+  turn-followed bounds s (Prev key from) is apart formed = stays s _ is (ordered_only s _ (beside_stays s (λ keys. key_below keys key) from))
+  turn-followed bounds s (Span key) is apart formed = stays s _ is (ordered_only s _ (listed s s.database _ (λ list. refl)))
+  turn-followed bounds s (lines.All key) is apart formed = stays s _ is (ordered_only s _ (listed s s.database _ (λ list. refl)))
+  turn-followed bounds s (Range low high) is apart formed = stays s _ is (ordered_only s _ (listed s s.database _ (λ list. refl)))
+  turn-followed bounds s (Keys low high) is apart formed = stays s _ is (ordered_only s _ (listed s s.database _ (λ list. refl)))
+  turn-followed bounds s Info is apart formed = stays s _ is (listed s s.database _ (λ list. refl))
+  turn-followed bounds s (BatchInfo h) is apart formed = stays s _ is (info_stays s h (slot_at s.table h))
+  turn-followed bounds s Root is apart formed = stays s _ is (listed s s.database _ (λ list. refl))
+  turn-followed bounds s (BatchRoot h) is apart formed = stays s _ is (root_stays s h (slot_at s.table h))
+  turn-followed bounds s (BatchProof h) is apart formed = stays s _ is (any_only s m.grafts _ (listed s s.database _ (λ list. proof_stays s h list (slot_at s.table h))))
+  turn-followed bounds s Meta is apart formed = stays s _ is (listed s s.database _ (λ list. refl))
+  turn-followed bounds s (Prove size start count) is apart formed = stays s _ is (listed s s.database _ (λ list. unless_due s (proof_refusal s.log.start list size start) _))
+  turn-followed bounds s (Pins n) is apart formed = stays s _ is (listed s s.database _ (λ list. unless_due s (pins_lacked m.shape s.log.start list n) _))
+  turn-followed bounds s (Current question) is apart formed = stays s _ is (subst (λ grafts. Stays s (if_current s grafts (λ g. answered s g question))) (sym plain) refl)
+  turn-followed bounds s (Prune to) is apart formed = with_list s s.database _ is (λ list e. prune_follows bounds s to list e is)
+  turn-followed bounds s Commit is apart formed = commit_follows s is
+  turn-followed bounds s Sync is apart formed = commit_follows s is
+  turn-followed bounds s Close is apart formed = stays s _ is (listed s s.database _ (λ list. refl))
+  turn-followed bounds s Destroy is apart formed = destroy_follows s is
+  turn-followed bounds s (Crash keep) is apart formed = crash_follows s keep is

@@ -2,7 +2,6 @@
 use Rattle.std.proofs.Common.{◌≡◌, ◌⊎◌, inl, inr, ℕ, ◌≤◌, ◌<◌, Bool, true, false, cond, List, [], ◌∷◌, ◌++◌, length, take, Option, Some, None, Result, Ok, Err, IfSome, IfOk, IfErr, arith, refl, sym, ◌∙◌, ap, subst, le_refl, append-nil, length-take-le}
 use Rattle.std.specs.Prelude.{slice_index_or, min, max, nat_lt, ◌^◌}
 use Rattle.std.proofs.lemmas.Bool.{cases_lt, lt-ltb, le-ltb}
-use Rattle.qm_model.specs.Trees.{peaks}
 use Rattle.qm_model.specs.Causes.{Rose}
 use Rattle.qm_model.specs.Live.{floor}
 use Rattle.qm_model.specs.Operations.{Bytes, Operation}
@@ -42,13 +41,8 @@ use Rattle.qm_offer.specs.Words.{IsSettling, IsHeadOf, IsPruned, IsUnpruned, IsG
 use Rattle.qm_engine.specs.Stores.{HasLog, IsBeside, IsLeft, moved, emptied}
 use Rattle.qm_model.specs.Taken.{head_at, pruned_from, LeavesPruning}
 use Rattle.qm_engine.specs.Session.{HeldIs, Holds, Handles, HandlesLine}
-use Rattle.qm_engine.proofs.LastingStores.{became, turned-each, turns-same, turns-beside, has-settled, has-emptied, has-pruned, has-restarted, left_imaged, left_restarted, left_destroyed, left_pruned}
-use Rattle.qm_engine.proofs.Commands.{left_none, left_stable, no_refusal, with_held, with_list, Turns}
-
--- a store alone, without a database
-alone : {X C B S M : Type 0} (members : stores.Ghosts C) (means : meaning.Ghosts X C B S M) (had : List (List Operation)) (c after : C) (d : Option (List Operation)) → HeldIs members means had (Store c) d → HeldIs members means had (Store after) d
-alone members means had c after None is = tt
-alone members means had c after (Some list) is = absurd is
+use Rattle.qm_engine.proofs.LastingStores.{IsBare, became, turned-each, turns-same, turns-beside, has-settled, has-emptied, has-pruned, has-restarted, left_imaged, left_restarted, left_destroyed, left_pruned}
+use Rattle.qm_engine.proofs.Commands.{left_none, left_stable, no_refusal, numbered-held, with_held, with_list, Turns}
 
 -- an error that is a fault of the store tells so
 pub fault-told : {K V D : Type 0} (error : Error) → turn_of_error {K = K} {V = V} {D = D} error ≡ StoreFault → error ≡ errors.Journal journal.Store
@@ -76,12 +70,14 @@ none_refused store.Memory = refl
 none_refused store.Failed = refl
 
 -- a store that was pruned
-left_moved : (m : Scheme) (left : Option Stored) (before : Log) (to : ℕ) → before.stable ≤ length before.list → HasLog m left (machine.pruned to before) → IsLeft m left before (machine.pruned to before)
-left_moved m left before to within has = by (cases_lt before.start to)
+left_moved : (m : Scheme) → IsBare m → (left : Option Stored) (before : Log) (to : ℕ) → before.stable ≤ length before.list → HasLog m left (machine.pruned m.grafts to before) → IsLeft m left before (machine.pruned m.grafts to before)
+left_moved m bare left before to within has = by (cases_lt before.start to)
   where
-    by : (before.start < to) ⊎ (to ≤ before.start) → IsLeft m left before (machine.pruned to before)
-    by (inl behind) = record { log = machine.pruned to before; has = has; may = moved (omega (arith, behind)) }
-    by (inr short) = left_stable m left before (machine.pruned to before) (length before.list) within (subst (λ n. HasLog m left (record (machine.settled before) { start = n })) (omega (arith, short)) has)
+    by : (before.start < to) ⊎ (to ≤ before.start) → IsLeft m left before (machine.pruned m.grafts to before)
+    by (inl behind) = record { log = machine.pruned m.grafts to before; has = has; may = moved (omega (arith, behind)) }
+    by (inr short) =
+        left_stable m left before (machine.pruned m.grafts to before) (length before.list) within
+        (subst (λ n. HasLog m left (record (machine.settled before) { start = n })) (omega (arith, short)) (subst (λ g. HasLog m left (machine.pruned g to before)) bare.1 has))
 
 -- a command that does nothing to the store, and is not told as its fault
 pub same_handles : {C K V D : Type 0} (members : stores.Ghosts C) (c : C) (answer : reply.Reply K V D) → Handles {K = K} {V = V} {D = D} members c c (Reply answer)
@@ -99,7 +95,7 @@ module _ {X C B S M K V D : Type 0} (members : stores.Ghosts C) (means : meaning
       → Goes (Reply (replies.Refused refused.NoDatabase)) (Store c) table opened (with_database s s.database f)
   not_open c table opened s f k = by s.database k.database
     where
-      by : (d : Option (List Operation)) → HeldIs members means s.had (Store c) d → Goes (Reply (replies.Refused refused.NoDatabase)) (Store c) table opened (with_database s d f)
+      by : (d : Option (List Operation)) → HeldIs members means s.opened s.had (Store c) d → Goes (Reply (replies.Refused refused.NoDatabase)) (Store c) table opened (with_database s d f)
       by None is = λ apart. (refl, k)
       by (Some list) is = absurd is
 
@@ -107,7 +103,7 @@ module _ {X C B S M K V D : Type 0} (members : stores.Ghosts C) (means : meaning
       → IsLeft means.scheme (members.told c) s.log ((with_database s s.database f).1).log
   not_open-left c table opened s f k = by s.database k.database
     where
-      by : (d : Option (List Operation)) → HeldIs members means s.had (Store c) d → IsLeft means.scheme (members.told c) s.log ((with_database s d f).1).log
+      by : (d : Option (List Operation)) → HeldIs members means s.opened s.had (Store c) d → IsLeft means.scheme (members.told c) s.log ((with_database s d f).1).log
       by None is = left_none means.scheme s.log s.log (members.told c) k.store.told
       by (Some list) is = absurd is
 
@@ -116,7 +112,7 @@ module _ {X C B S M K V D : Type 0} (members : stores.Ghosts C) (means : meaning
   imaged-beside s t r = let i = r.left in (ap (λ x. x.metadata) r.reads ∙ ap (λ x. x.metadata) i.same, ap (λ x. x.ends) r.reads ∙ ap (λ x. x.ends) i.same)
 
   -- A commit or a sync of a database.
-  module _ (x : X) (settling : Result X (Refusal X C)) (table : List (Slot B S M)) (opened : ℕ) (s : State) (k : Holds members means (Database x) table opened s) (done : IsSettling means members x settling) (peakless : peaks means.scheme.shape 0 ≡ []) where
+  module _ (x : X) (settling : Result X (Refusal X C)) (table : List (Slot B S M)) (opened : ℕ) (s : State) (k : Holds members means (Database x) table opened s) (done : IsSettling means members x settling) (peakless : IsBare means.scheme) where
     pub settled_turn : Goes (turn_settled settling) (given_after settling) table opened (machine.commit s)
     settled_turn = by settling done
       where
@@ -127,7 +123,7 @@ module _ {X C B S M K V D : Type 0} (members : stores.Ghosts C) (means : meaning
             (λ list is stands in_had apart. (
               refl,
               record {
-                database = subst (HeldIs members means s.had (Database after)) (sym is) (done.stands list stands, in_had);
+                database = subst (HeldIs members means s.opened s.had (Database after)) (sym is) (done.stands list stands, in_had, done.numbered s.opened (numbered-held members means s.opened x s.had s.database k.database));
                 store = record { start = done.start ∙ k.store.start; told = has-settled means.scheme peakless (members.told (means.inside x)) (members.told (means.inside after)) s.log k.store.told (omega (arith, k.start, k.within)) done.told };
                 start = omega (arith, k.start, k.within);
                 low = k.low;
@@ -169,7 +165,7 @@ module _ {X C B S M K V D : Type 0} (members : stores.Ghosts C) (means : meaning
       }
 
   -- A prune of a database.
-  module _ (x : X) (pruning : Result X (Refusal X C)) (table : List (Slot B S M)) (opened : ℕ) (s : State) (k : Holds members means (Database x) table opened s) (steady : IsSteady means.scheme s) (to : ℕ) (peakless : peaks means.scheme.shape 0 ≡ []) where
+  module _ (x : X) (pruning : Result X (Refusal X C)) (table : List (Slot B S M)) (opened : ℕ) (s : State) (k : Holds members means (Database x) table opened s) (steady : IsSteady means.scheme s) (to : ℕ) (peakless : IsBare means.scheme) where
     -- the list, with a location within its boundary
     module _ (list : List Operation) (is : s.database ≡ Some list) (stands : means.stands x list) (within : to ≤ means.scheme.boundary list) where
       same-list : s.log.list ≡ list
@@ -179,7 +175,7 @@ module _ {X C B S M K V D : Type 0} (members : stores.Ghosts C) (means : meaning
       few = subst (λ ops. length ops ≤ 2 ^ 62) same-list steady.few
 
       below : to ≤ floor list
-      below = let low = means.low list in omega (arith, within, low)
+      below = let low = means.bounds.low list in omega (arith, within, low)
 
       far : to ≤ length s.log.list
       far = let low = below in let inside = steady.within list is in omega (arith, low, inside, ap length same-list)
@@ -188,10 +184,10 @@ module _ {X C B S M K V D : Type 0} (members : stores.Ghosts C) (means : meaning
       head_is head is_head = is_head list stands few ∙ ap (λ ops. head_at means.scheme ops to) (sym same-list)
 
       -- the machine prunes there
-      pruned_as : (Q : Answer × State → Type 0) → Q (lines.Done, record s { log = machine.pruned to s.log }) → Q (machine.prune_in means.scheme s to list)
-      pruned_as Q q = subst (λ b. Q (cond b (machine.refuse s (refusals.PruneBeyondMinRequired to (means.scheme.boundary list))) (lines.Done, record s { log = machine.pruned to s.log }))) (sym (le-ltb (means.scheme.boundary list) to within)) q
+      pruned_as : (Q : Answer × State → Type 0) → Q (lines.Done, record s { log = machine.pruned means.scheme.grafts to s.log }) → Q (machine.prune_in means.scheme s to list)
+      pruned_as Q q = subst (λ b. Q (cond b (machine.refuse s (refusals.PruneBeyondMinRequired to (means.scheme.boundary list))) (lines.Done, record s { log = machine.pruned means.scheme.grafts to s.log }))) (sym (le-ltb (means.scheme.boundary list) to within)) q
 
-      pruned_told : (after : X) → IsPruned means members to x after → HasLog means.scheme (members.told (means.inside after)) (machine.pruned to s.log)
+      pruned_told : (after : X) → IsPruned means members to x after → HasLog means.scheme (members.told (means.inside after)) (machine.pruned means.scheme.grafts to s.log)
       pruned_told after done =
           has-pruned means.scheme peakless (members.told (means.inside x)) (members.told (means.inside after)) s.log to done.head k.store.told (omega (arith, k.start, k.within))
           (λ behind. head_is done.head (done.heads (subst (λ n. n < to) (sym k.store.start) behind)))
@@ -200,10 +196,10 @@ module _ {X C B S M K V D : Type 0} (members : stores.Ghosts C) (means : meaning
     -- or refuses to, past the boundary
     refused_as : (list : List Operation) (bound : ℕ) → bound < to → bound ≡ means.scheme.boundary list → (Q : Answer × State → Type 0) → Q (lines.Refuses (refusals.PruneBeyondMinRequired to bound), s) → Q (machine.prune_in means.scheme s to list)
     refused_as list bound past is Q q =
-        subst (λ n. Q (if_past n)) is (subst (λ b. Q (cond b (machine.refuse s (refusals.PruneBeyondMinRequired to bound)) (lines.Done, record s { log = machine.pruned to s.log }))) (sym (lt-ltb bound to past)) q)
+        subst (λ n. Q (if_past n)) is (subst (λ b. Q (cond b (machine.refuse s (refusals.PruneBeyondMinRequired to bound)) (lines.Done, record s { log = machine.pruned means.scheme.grafts to s.log }))) (sym (lt-ltb bound to past)) q)
       where
         if_past : ℕ → Answer × State
-        if_past n = cond (nat_lt n to) (machine.refuse s (refusals.PruneBeyondMinRequired to n)) (lines.Done, record s { log = machine.pruned to s.log })
+        if_past n = cond (nat_lt n to) (machine.refuse s (refusals.PruneBeyondMinRequired to n)) (lines.Done, record s { log = machine.pruned means.scheme.grafts to s.log })
 
     pub pruned_turn : IfOk pruning (IsPruned means members to x) → IfErr pruning (IsUnpruned means members to x) → Goes (turn_settled pruning) (given_after pruning) table opened (machine.prune means.scheme s to)
     pruned_turn done denied = by pruning done denied
@@ -221,7 +217,7 @@ module _ {X C B S M K V D : Type 0} (members : stores.Ghosts C) (means : meaning
             pruned_as list is stands stays.0 (Goes (Reply replies.Done) (Database after) table opened) (λ apart. (
               refl,
               record {
-                database = subst (HeldIs members means s.had (Database after)) (sym is) (stays.1, in_had);
+                database = subst (HeldIs members means s.opened s.had (Database after)) (sym is) (stays.1, in_had, done.numbered s.opened (numbered-held members means s.opened x s.had s.database k.database));
                 store = record { start = done.start ∙ ap (λ n. max n to) k.store.start; told = pruned_told list is stands stays.0 after done };
                 start = let within = far list is stands stays.0 in omega (arith, k.start, k.within, within);
                 low = subst (λ d. IfSome d (λ ops. max s.log.start to ≤ floor ops)) (sym is) (most list (subst (λ d. IfSome d (λ ops. s.log.start ≤ floor ops)) is k.low) (below list is stands stays.0));
@@ -247,7 +243,7 @@ module _ {X C B S M K V D : Type 0} (members : stores.Ghosts C) (means : meaning
         by (Ok after) done denied =
             with_held members means x s.had s.database s (λ list. machine.prune_in means.scheme s to list) (Left (means.inside after)) k.database
             (λ list is stands in_had. let within = (done.stands list stands).0 in
-            pruned_as list is stands within (Left (means.inside after)) (left_moved means.scheme (members.told (means.inside after)) s.log to k.within (pruned_told list is stands within after done)))
+            pruned_as list is stands within (Left (means.inside after)) (left_moved means.scheme peakless (members.told (means.inside after)) s.log to k.within (pruned_told list is stands within after done)))
         by (Err r) done (inl (bound, past, bound_is, given, error)) =
             subst (λ g. Left (store_given means.inside g) (machine.prune means.scheme s to)) (sym given)
             (with_list members means x s.had s.database s (λ list. machine.prune_in means.scheme s to list) (Left (means.inside x)) k.database
@@ -307,7 +303,7 @@ module _ {X C B S M K V D : Type 0} (members : stores.Ghosts C) (means : meaning
       (λ list is stands in_had. left_none means.scheme s.log s.log (members.told (means.inside x)) k.store.told)
 
   -- A store is emptied.
-  module _ (x : X) (table : List (Slot B S M)) (opened : ℕ) (s : State) (k : Holds members means (Database x) table opened s) (peakless : peaks means.scheme.shape 0 ≡ []) where
+  module _ (x : X) (table : List (Slot B S M)) (opened : ℕ) (s : State) (k : Holds members means (Database x) table opened s) (peakless : IsBare means.scheme) where
     pub destroyed_turn : (c : C) → members.start c ≡ 0 → Becomes (members.told (means.inside x)) (members.told c) destroyed → Goes (Reply replies.Done) (Store c) table opened (machine.destroy s)
     destroyed_turn c start made =
         with_held members means x s.had s.database s (λ list. (lines.Done, record (machine.closed s) { log = no_log })) (Goes (Reply replies.Done) (Store c) table opened) k.database
@@ -362,7 +358,7 @@ module _ {X C B S M K V D : Type 0} (members : stores.Ghosts C) (means : meaning
       }
 
   -- A crash.
-  module _ (held : Given X C) (table : List (Slot B S M)) (opened : ℕ) (s : State) (k : Holds members means held table opened s) (c : C) (peakless : peaks means.scheme.shape 0 ≡ []) where
+  module _ (held : Given X C) (table : List (Slot B S M)) (opened : ℕ) (s : State) (k : Holds members means held table opened s) (c : C) (peakless : IsBare means.scheme) where
     -- the store chose the first of the ends to come
     pub crashed_turn : (more rest : List ℕ) → model.Turns (members.told (store_given means.inside held)) (members.told c) HasRestarted → members.start c ≡ members.start (store_given means.inside held)
         → model.Turns (members.told (store_given means.inside held)) (members.told c) (IsBeside more) → s.choices ≡ more ++ rest → Goes (Reply replies.Done) (Store c) table opened (machine.crash s)

@@ -1,6 +1,6 @@
 -- Stores and their logs: what each call of a store makes of the log that it has, and what is left of one that failed.
 use Rattle.std.proofs.Common.{◌≡◌, ◌⊎◌, inl, inr, ℕ, zero, suc, ◌-◌, ◌<◌, ◌≤◌, Bool, true, false, cond, List, [], ◌∷◌, ◌++◌, length, take, drop, map, Option, Some, None, refl, sym, ap, ◌∙◌, subst, arith, append-nil, append_assoc, take_all, le_refl, length-take-le}
-use Rattle.std.specs.Prelude.{min, max, ◌==◌}
+use Rattle.std.specs.Prelude.{min, max, ◌==◌, option_map}
 use Rattle.std.specs.List.{concat, drop-map}
 use Rattle.std.proofs.Math.Seq.{drop-append_seam}
 use Rattle.std.proofs.lemmas.Bool.{cases_lt, eqb-true, lt-ltb, le-ltb}
@@ -13,8 +13,8 @@ use Rattle.qm_model.specs.Policies.{policies}
 use Rattle.qm_model.specs.Own.{Log, no_log, taken_up}
 use Rattle.qm_model.specs.Own as own
 use Rattle.qm_model.specs.Opening.{opened_list}
-use Rattle.qm_model.specs.StoreModel.{Stored, end_of, appended, settled, rewound, pruned, left_at, restarted, destroyed, IsImage, IsOldOrNew, ReadsAs, RewindLeaves, HasAppended, HasRestarted, DestroyLeaves, Turns, Becomes}
-use Rattle.qm_model.specs.Schemes.{Scheme, engine_of}
+use Rattle.qm_model.specs.StoreModel.{Rest, Stored, end_of, found_by, appended, settled, rewound, pruned, left_at, restarted, destroyed, IsImage, IsOldOrNew, ReadsAs, RewindLeaves, HasAppended, HasRestarted, DestroyLeaves, Turns, Becomes}
+use Rattle.qm_model.specs.Schemes.{Grafts, Scheme, chunks_of, engine_of}
 use Rattle.qm_machine.specs.Machine as machine
 use Rattle.qm_engine.specs.Stores.{HasLog, IsBeside, least, MayBe, grown, cut, moved, emptied, IsLeft}
 use Rattle.qm_model.specs.Taken.{head_at, taken, LeavesOpening, pruned_from, LeavesPruning}
@@ -92,12 +92,23 @@ drop-cut f start to list low = take-map f (to - start) (drop start list) ∙ ap 
 pub head-like : (m : Scheme) (n : ℕ) (a b : List Operation) → take n a ≡ take n b → head_at m a n ≡ head_at m b n
 head-like m n a b same = ap (λ list. concat (pins_at m.hash m.shape m.form list n)) same
 
-module _ (m : Scheme) (bare : peaks m.shape 0 ≡ []) where
+-- nothing has no peaks, and no chunks stand under the root
+abbrev pub IsBare : Scheme → Type 0
+IsBare m = (peaks m.shape 0 ≡ []) × (m.grafts ≡ None)
+
+module _ (m : Scheme) (bare : IsBare m) where
+  -- no chunk is pruned, whatever the list and the metadata are
+  uncounted : (log : Log) (s : Stored) → log.chunks ≡ 0 → own.MetadataIs (engine_of m policies) (chunks_of m) log s
+  uncounted log s none = subst (λ c. own.MetadataIs (engine_of m policies) c log s) (sym (ap (option_map (λ (g : Grafts). g.chunks)) bare.1)) none
+
+  counted : (log new : Log) (s t : Stored) → new.chunks ≡ log.chunks → own.MetadataIs (engine_of m policies) (chunks_of m) log s → own.MetadataIs (engine_of m policies) (chunks_of m) new t
+  counted log new s t same is = uncounted new t (same ∙ subst (λ c. own.MetadataIs (engine_of m policies) c log s) (ap (option_map (λ (g : Grafts). g.chunks)) bare.1) is)
+
   -- a store and its log
   module _ (log : Log) (s : Stored) (is : own.IsStored (engine_of m policies) log s) where
     -- with another stable length
-    pub stored-stable : (k : ℕ) → own.IsStored (engine_of m policies) (record log { stable = k }) (record s { stable = k })
-    stored-stable k = record { start = is.start; items = is.items; head = is.head; metadata = is.metadata; stable = refl }
+    pub stored-stable : (k : ℕ) (past : List Rest) → own.IsStored (engine_of m policies) (record log { stable = k }) (record s { stable = k; past = past })
+    stored-stable k past = record { start = is.start; items = is.items; head = is.head; metadata = counted log _ s _ refl is.metadata; stable = refl }
 
     -- its items up to a location
     pub items-cut : (to : ℕ) → log.start ≤ to → take (to - s.start) s.items ≡ map (spelling m.form) (drop log.start (take to log.list))
@@ -108,12 +119,12 @@ module _ (m : Scheme) (bare : peaks m.shape 0 ≡ []) where
     head-cut to low = is.head ∙ head-like m log.start log.list (take to log.list) (sym (take-take log.start to log.list low))
 
     -- up to a location
-    pub stored-cut : (to k : ℕ) → log.start ≤ to → own.IsStored (engine_of m policies) (record log { list = take to log.list; stable = k }) (record (left_at to s) { stable = k })
-    stored-cut to k low = record { start = is.start; items = items-cut to low; head = head-cut to low; metadata = is.metadata; stable = refl }
+    pub stored-cut : (to k : ℕ) (past : List Rest) → log.start ≤ to → own.IsStored (engine_of m policies) (record log { list = take to log.list; stable = k }) (record (left_at to s) { stable = k; past = past })
+    stored-cut to k past low = record { start = is.start; items = items-cut to low; head = head-cut to low; metadata = counted log _ s _ refl is.metadata; stable = refl }
 
     -- after a restart there
     pub stored-restarted : (to : ℕ) → log.start ≤ to → own.IsStored (engine_of m policies) (record log { list = take to log.list; stable = to }) (restarted to s)
-    stored-restarted to low = record { start = is.start; items = items-cut to low; head = head-cut to low; metadata = is.metadata; stable = refl }
+    stored-restarted to low = record { start = is.start; items = items-cut to low; head = head-cut to low; metadata = counted log _ s _ refl is.metadata; stable = refl }
 
     -- a log that starts within its list
     module _ (low : log.start ≤ length log.list) where
@@ -126,38 +137,41 @@ module _ (m : Scheme) (bare : peaks m.shape 0 ≡ []) where
         start = is.start;
         items = ap (λ xs. xs ++ map (spelling m.form) more) is.items ∙ drop-more (spelling m.form) log.start log.list more low;
         head = is.head ∙ head-like m log.start log.list (log.list ++ more) (sym (take-append-le log.start log.list more low));
-        metadata = is.metadata;
+        metadata = counted log _ s _ refl is.metadata;
         stable = is.stable;
       }
 
       -- after a commit
       pub stored-settled : own.IsStored (engine_of m policies) (machine.settled log) (settled s)
-      stored-settled = subst (λ n. own.IsStored (engine_of m policies) (machine.settled log) (record s { stable = n })) (sym end-whole) (stored-stable (length log.list))
+      stored-settled = record { start = is.start; items = is.items; head = is.head; metadata = counted log _ s _ refl is.metadata; stable = end-whole }
 
       -- after a prune to a location that is not before the start, with the head of what stands before it
-      pub stored-pruned : (to : ℕ) (head : Bytes) → log.start ≤ to → head ≡ head_at m log.list to → own.IsStored (engine_of m policies) (machine.pruned to log) (pruned to head (settled s))
-      stored-pruned to head behind head_is =
+      pub stored-pruned : (to : ℕ) (head : Bytes) (past : List Rest) → log.start ≤ to → head ≡ head_at m log.list to
+          → own.IsStored (engine_of m policies) (machine.pruned m.grafts to log) (record (pruned to head (settled s)) { past = past })
+      stored-pruned to head past behind head_is =
           let most : max log.start to ≡ to = omega (arith, behind) in
-          record {
+          subst (λ g. own.IsStored (engine_of m policies) (machine.pruned g to log) (record (pruned to head (settled s)) { past = past })) (sym bare.1) record {
             start = sym most;
             items = ap (λ n. drop (to - n) s.items) is.start ∙ (ap (drop (to - log.start)) is.items ∙ (drop-map (spelling m.form) (to - log.start) (drop log.start log.list)
                 ∙ ap (map (spelling m.form)) (drop-drop (to - log.start) log.start log.list ∙ ap (λ n. drop n log.list) (omega (arith, behind)))));
             head = head_is ∙ ap (head_at m log.list) (sym most);
-            metadata = is.metadata;
+            metadata = counted log _ s _ refl is.metadata;
             stable = end-whole;
           }
 
       -- after one to a location that is not behind it
-      pub stored-unpruned : (to : ℕ) → to ≤ log.start → own.IsStored (engine_of m policies) (machine.pruned to log) (settled s)
-      stored-unpruned to before = subst (λ n. own.IsStored (engine_of m policies) (record (machine.settled log) { start = n }) (settled s)) (omega (arith, before)) stored-settled
+      pub stored-unpruned : (to : ℕ) → to ≤ log.start → own.IsStored (engine_of m policies) (machine.pruned m.grafts to log) (settled s)
+      stored-unpruned to before =
+          subst (λ g. own.IsStored (engine_of m policies) (machine.pruned g to log) (settled s)) (sym bare.1)
+          (subst (λ n. own.IsStored (engine_of m policies) (record (machine.settled log) { start = n }) (settled s)) (omega (arith, before)) stored-settled)
 
   -- a store without items
   stored-none : (s : Stored) → s.start ≡ 0 → s.items ≡ [] → s.head ≡ [] → s.stable ≡ 0 → own.IsStored (engine_of m policies) no_log s
   stored-none s start items head stable = record {
     start = start;
     items = items;
-    head = head ∙ sym (ap (λ ps. concat (map (digest_of m.hash m.shape (leaves_from m.hash m.shape m.form 0 [])) ps)) bare);
-    metadata = refl;
+    head = head ∙ sym (ap (λ ps. concat (map (digest_of m.hash m.shape (leaves_from m.hash m.shape m.form 0 [])) ps)) bare.0);
+    metadata = uncounted no_log s refl;
     stable = stable;
   }
 
@@ -183,15 +197,15 @@ module _ (m : Scheme) (bare : peaks m.shape 0 ≡ []) where
       record { stored = t.0; is = t.1; has = subst (own.IsStored (engine_of m policies) no_log) (sym t.2) (stored-empty has.stored) }
 
   pub has-pruned : (told new : Option Stored) (log : Log) (to : ℕ) (head : Bytes) → HasLog m told log → log.start ≤ length log.list → (log.start < to → head ≡ head_at m log.list to)
-      → Becomes told new (pruned_from log.start to head) → HasLog m new (machine.pruned to log)
+      → Becomes told new (pruned_from log.start to head) → HasLog m new (machine.pruned m.grafts to log)
   has-pruned told new log to head has low heads made =
       let t = turned told new has.stored (λ s t. t ≡ pruned_from log.start to head s) has.is made in
-      record { stored = t.0; is = t.1; has = subst (own.IsStored (engine_of m policies) (machine.pruned to log)) (sym t.2) (by (cases_lt log.start to)) }
+      record { stored = t.0; is = t.1; has = subst (own.IsStored (engine_of m policies) (machine.pruned m.grafts to log)) (sym t.2) (by (cases_lt log.start to)) }
     where
-      by : (log.start < to) ⊎ (to ≤ log.start) → own.IsStored (engine_of m policies) (machine.pruned to log) (pruned_from log.start to head has.stored)
-      by (inl behind) = subst (λ b. own.IsStored (engine_of m policies) (machine.pruned to log) (cond b (pruned to head (settled has.stored)) (settled has.stored))) (sym (lt-ltb log.start to behind))
-          (stored-pruned log has.stored has.has low to head (omega (arith, behind)) (heads behind))
-      by (inr before) = subst (λ b. own.IsStored (engine_of m policies) (machine.pruned to log) (cond b (pruned to head (settled has.stored)) (settled has.stored))) (sym (le-ltb log.start to before))
+      by : (log.start < to) ⊎ (to ≤ log.start) → own.IsStored (engine_of m policies) (machine.pruned m.grafts to log) (pruned_from log.start to head has.stored)
+      by (inl behind) = subst (λ b. own.IsStored (engine_of m policies) (machine.pruned m.grafts to log) (cond b (pruned to head (settled has.stored)) (settled has.stored))) (sym (lt-ltb log.start to behind))
+          (stored-pruned log has.stored has.has low to head (found_by (settled has.stored)) (omega (arith, behind)) (heads behind))
+      by (inr before) = subst (λ b. own.IsStored (engine_of m policies) (machine.pruned m.grafts to log) (cond b (pruned to head (settled has.stored)) (settled has.stored))) (sym (le-ltb log.start to before))
           (stored-unpruned log has.stored has.has low to before)
 
   -- where a restart chose this end
@@ -219,11 +233,11 @@ module _ (m : Scheme) (bare : peaks m.shape 0 ≡ []) where
       let t = turned told left has.stored (HasAppended (map (spelling m.form) more)) has.is made in
       let a = t.2 in
       let log = record before { list = before.list ++ take a.count more; stable = t.0.stable } in
-      let part : own.IsStored (engine_of m policies) log (record (appended (map (spelling m.form) (take a.count more)) has.stored) { stable = t.0.stable }) =
-      stored-stable (record before { list = before.list ++ take a.count more }) (appended (map (spelling m.form) (take a.count more)) has.stored) (stored-appended before has.stored has.has (omega (arith, start, within)) (take a.count more)) t.0.stable in
+      let part : own.IsStored (engine_of m policies) log (record (appended (map (spelling m.form) (take a.count more)) has.stored) { stable = t.0.stable; past = t.0.past }) =
+      stored-stable (record before { list = before.list ++ take a.count more }) (appended (map (spelling m.form) (take a.count more)) has.stored) (stored-appended before has.stored has.has (omega (arith, start, within)) (take a.count more)) t.0.stable t.0.past in
       record {
         log = log;
-        has = record { stored = t.0; is = t.1; has = subst (own.IsStored (engine_of m policies) log) (ap (λ xs. record (appended xs has.stored) { stable = t.0.stable }) (sym (take-map (spelling m.form) a.count more)) ∙ sym a.reads) part };
+        has = record { stored = t.0; is = t.1; has = subst (own.IsStored (engine_of m policies) log) (ap (λ xs. record (appended xs has.stored) { stable = t.0.stable; past = t.0.past }) (sym (take-map (spelling m.form) a.count more)) ∙ sym a.reads) part };
         may = subst (λ xs. MayBe before after (record before { list = before.list ++ take a.count xs; stable = t.0.stable })) grows
             (grown a.count t.0.stable (let low = a.least_stable in omega (arith, low, has.has.stable)));
       }
@@ -251,10 +265,10 @@ module _ (m : Scheme) (bare : peaks m.shape 0 ≡ []) where
 
   -- such a one of a store that was cut there
   left_cut : (left : Option Stored) (before after : Log) (s t : Stored) (to : ℕ) → own.IsStored (engine_of m policies) before s → before.start ≤ to → before.stable ≤ length before.list → after.stable ≡ length after.list
-      → left ≡ Some t → t ≡ record (left_at to s) { stable = t.stable } → least before after ≤ to → least before after ≤ t.stable → IsLeft m left before after
+      → left ≡ Some t → t ≡ record (left_at to s) { stable = t.stable; past = t.past } → least before after ≤ to → least before after ≤ t.stable → IsLeft m left before after
   left_cut left before after s t to has behind within whole told same low low_stable = record {
     log = record before { list = take to before.list; stable = t.stable };
-    has = record { stored = t; is = told; has = subst (own.IsStored (engine_of m policies) (record before { list = take to before.list; stable = t.stable })) (sym same) (stored-cut before s has to t.stable behind) };
+    has = record { stored = t; is = told; has = subst (own.IsStored (engine_of m policies) (record before { list = take to before.list; stable = t.stable })) (sym same) (stored-cut before s has to t.stable t.past behind) };
     may = may_cut before after to t.stable within whole low low_stable;
   }
 
@@ -275,7 +289,7 @@ module _ (m : Scheme) (bare : peaks m.shape 0 ≡ []) where
       let low = i.may.stable in
       let low_stable = r.least_stable in
       let least_is = least-stable before after in
-      left_cut left before after has.stored t.0 i.to has.has (omega (arith, start, low, has.has.stable)) within whole t.1 (r.reads ∙ ap (λ (x : Stored). record x { stable = t.0.stable }) i.same)
+      left_cut left before after has.stored t.0 i.to has.has (omega (arith, start, low, has.has.stable)) within whole t.1 (r.reads ∙ ap (λ (x : Stored). record x { stable = t.0.stable; past = t.0.past }) i.same)
       (omega (arith, low, least_is, has.has.stable)) (omega (arith, low_stable, least_is, has.has.stable))
 
   -- a restart chose an end
@@ -302,15 +316,15 @@ module _ (m : Scheme) (bare : peaks m.shape 0 ≡ []) where
           let i = r.left in
           let low = i.may.stable in
           let low_stable = r.least_stable in
-          left_cut left before no_log has.stored t i.to has.has (omega (arith, start, low, has.has.stable)) within refl told (r.reads ∙ ap (λ (x : Stored). record x { stable = t.stable }) i.same)
+          left_cut left before no_log has.stored t i.to has.has (omega (arith, start, low, has.has.stable)) within refl told (r.reads ∙ ap (λ (x : Stored). record x { stable = t.stable; past = t.past }) i.same)
           (omega (arith, low, has.has.stable)) (omega (arith, low_stable, has.has.stable))
       by (t, told, inr r) =
           let i = r.left in
           let none : i.to ≡ 0 = let high = i.may.within in omega (arith, high) in
           let short = r.within in
-          let bare_items : t.items ≡ [] = ap (λ x. x.items) (r.reads ∙ ap (λ (x : Stored). record x { stable = t.stable }) i.same) ∙ nothing (i.to - 0) in
-          let none_start : t.start ≡ 0 = ap (λ x. x.start) (r.reads ∙ ap (λ (x : Stored). record x { stable = t.stable }) i.same) in
-          let head : t.head ≡ [] = ap (λ x. x.head) (r.reads ∙ ap (λ (x : Stored). record x { stable = t.stable }) i.same) in
+          let bare_items : t.items ≡ [] = ap (λ x. x.items) (r.reads ∙ ap (λ (x : Stored). record x { stable = t.stable; past = t.past }) i.same) ∙ nothing (i.to - 0) in
+          let none_start : t.start ≡ 0 = ap (λ x. x.start) (r.reads ∙ ap (λ (x : Stored). record x { stable = t.stable; past = t.past }) i.same) in
+          let head : t.head ≡ [] = ap (λ x. x.head) (r.reads ∙ ap (λ (x : Stored). record x { stable = t.stable; past = t.past }) i.same) in
           record { log = no_log; has = record { stored = t; is = told; has = stored-none t none_start bare_items head (omega (arith, short, none_start, ap length bare_items)) }; may = emptied refl }
         where
           nothing : (n : ℕ) → take {A = Bytes} n [] ≡ []
@@ -319,24 +333,24 @@ module _ (m : Scheme) (bare : peaks m.shape 0 ≡ []) where
 
   -- a prune failed
   pub left_pruned : (told left : Option Stored) (before : Log) (first to : ℕ) (IsHead : Bytes → Type 0) → first ≡ before.start → HasLog m told before → before.start ≤ before.stable → before.stable ≤ length before.list → to ≤ length before.list
-      → ((head : Bytes) → IsHead head → head ≡ head_at m before.list to) → Turns told left (LeavesPruning first IsHead to) → IsLeft m left before (machine.pruned to before)
+      → ((head : Bytes) → IsHead head → head ≡ head_at m before.list to) → Turns told left (LeavesPruning first IsHead to) → IsLeft m left before (machine.pruned m.grafts to before)
   left_pruned told left before first to IsHead starts has start within far heads made = by (turned told left has.stored (LeavesPruning first IsHead to) has.is made)
     where
       end : end_of has.stored ≡ length before.list
       end = end-whole before has.stored has.has (omega (arith, start, within))
 
       -- all of it
-      left_all : (t : Stored) → left ≡ Some t → ReadsAs (end_of has.stored) (IsImage (settled has.stored)) t → IsLeft m left before (machine.pruned to before)
+      left_all : (t : Stored) → left ≡ Some t → ReadsAs (end_of has.stored) (IsImage (settled has.stored)) t → IsLeft m left before (machine.pruned m.grafts to before)
       left_all t told r =
           let i = r.left in
           let low = i.may.stable in
           let low_stable = r.least_stable in
-          let least_is = least-stable before (machine.pruned to before) in
-          left_cut left before (machine.pruned to before) has.stored t i.to has.has (omega (arith, start, within, low, end)) within refl told (r.reads ∙ ap (λ (x : Stored). record x { stable = t.stable }) i.same)
+          let least_is = least-stable before (machine.pruned m.grafts to before) in
+          left_cut left before (machine.pruned m.grafts to before) has.stored t i.to has.has (omega (arith, start, within, low, end)) within refl told (r.reads ∙ ap (λ (x : Stored). record x { stable = t.stable; past = t.past }) i.same)
           (omega (arith, low, least_is, within, end)) (omega (arith, low_stable, least_is, within, end))
 
       -- all of it from the location on
-      left_rest : (t : Stored) (head : Bytes) → left ≡ Some t → before.start < to → IsHead head → ReadsAs (end_of has.stored) (IsImage (pruned to head (settled has.stored))) t → IsLeft m left before (machine.pruned to before)
+      left_rest : (t : Stored) (head : Bytes) → left ≡ Some t → before.start < to → IsHead head → ReadsAs (end_of has.stored) (IsImage (pruned to head (settled has.stored))) t → IsLeft m left before (machine.pruned m.grafts to before)
       left_rest t head told behind is_head r =
           let i = r.left in
           let rest = drop (to - has.stored.start) has.stored.items in
@@ -344,28 +358,28 @@ module _ (m : Scheme) (bare : peaks m.shape 0 ≡ []) where
           let low = i.may.stable in
           let low_stable = r.least_stable in
           let whole : take (i.to - to) rest ≡ rest = take_all (i.to - to) rest (omega (arith, size, low, end, far, behind, has.has.start)) in
-          let as_read : t ≡ record (pruned to head (settled has.stored)) { stable = t.stable } =
-          r.reads ∙ (ap (λ (x : Stored). record x { stable = t.stable }) i.same ∙ ap (λ (xs : List Bytes). record (pruned to head (settled has.stored)) { items = xs; stable = t.stable }) whole) in
+          let as_read : t ≡ record (pruned to head (settled has.stored)) { stable = t.stable; past = t.past } =
+          r.reads ∙ (ap (λ (x : Stored). record x { stable = t.stable; past = t.past }) i.same ∙ ap (λ (xs : List Bytes). record (pruned to head (settled has.stored)) { items = xs; stable = t.stable; past = t.past }) whole) in
           let high = r.within in
           let all : t.stable ≡ end_of has.stored = omega (arith, high, low_stable, ap (λ x. x.start) as_read, ap (λ x. length x.items) as_read, size, end, far, behind, has.has.start) in
-          let same : t ≡ pruned to head (settled has.stored) = as_read ∙ ap (λ n. record (pruned to head (settled has.stored)) { stable = n }) all in
+          let same : t ≡ record (pruned to head (settled has.stored)) { past = t.past } = as_read ∙ ap (λ n. record (pruned to head (settled has.stored)) { stable = n; past = t.past }) all in
           record {
-            log = machine.pruned to before;
-            has = record { stored = t; is = told; has = subst (own.IsStored (engine_of m policies) (machine.pruned to before)) (sym same) (stored-pruned before has.stored has.has (omega (arith, start, within)) to head (omega (arith, behind)) (heads head is_head)) };
+            log = machine.pruned m.grafts to before;
+            has = record { stored = t; is = told; has = subst (own.IsStored (engine_of m policies) (machine.pruned m.grafts to before)) (sym same) (stored-pruned before has.stored has.has (omega (arith, start, within)) to head t.past (omega (arith, behind)) (heads head is_head)) };
             may = moved (omega (arith, behind));
           }
 
-      by : (t : Stored) × (left ≡ Some t) × LeavesPruning first IsHead to has.stored t → IsLeft m left before (machine.pruned to before)
+      by : (t : Stored) × (left ≡ Some t) × LeavesPruning first IsHead to has.stored t → IsLeft m left before (machine.pruned m.grafts to before)
       by (t, told, inl r) =
           let i = r.left in
           let low = i.may.stable in
           let low_stable = r.least_stable in
-          let least_is = least-stable before (machine.pruned to before) in
-          left_cut left before (machine.pruned to before) has.stored t i.to has.has (omega (arith, start, low, has.has.stable)) within refl told (r.reads ∙ ap (λ (x : Stored). record x { stable = t.stable }) i.same)
+          let least_is = least-stable before (machine.pruned m.grafts to before) in
+          left_cut left before (machine.pruned m.grafts to before) has.stored t i.to has.has (omega (arith, start, low, has.has.stable)) within refl told (r.reads ∙ ap (λ (x : Stored). record x { stable = t.stable; past = t.past }) i.same)
           (omega (arith, low, least_is, has.has.stable)) (omega (arith, low_stable, least_is, has.has.stable))
       by (t, told, inr (behind, head, is_head, r)) = old_or_new r.left
         where
-          old_or_new : IsOldOrNew (pruned to head) (settled has.stored) r.image → IsLeft m left before (machine.pruned to before)
+          old_or_new : IsOldOrNew (pruned to head) (settled has.stored) r.image → IsLeft m left before (machine.pruned m.grafts to before)
           old_or_new (inl i) = left_all t told record { image = r.image; left = i; reads = r.reads; least_stable = r.least_stable; within = r.within }
           old_or_new (inr i) = left_rest t head told (subst (λ n. n < to) starts behind) is_head record { image = r.image; left = i; reads = r.reads; least_stable = r.least_stable; within = r.within }
 
@@ -378,7 +392,7 @@ module _ (m : Scheme) (bare : peaks m.shape 0 ≡ []) where
       subst (λ xs. own.IsStored (engine_of m policies) (record log { list = xs ++ fresh }) (appended (map (spelling m.form) fresh) s)) (none refl) (stored-appended log s is (omega (arith, low)) fresh) in
       stored-settled (record log { list = fresh }) (appended (map (spelling m.form) fresh) s) begun (omega (arith, low))
   stored-taken log s (suc j) is low none few =
-      stored-settled (record log { list = take (suc j) log.list; stable = min s.stable (suc j) }) (rewound (suc j) s) (stored-cut log s is (suc j) (min s.stable (suc j)) low) (omega (arith, low, length-take-le (suc j) log.list few))
+      stored-settled (record log { list = take (suc j) log.list; stable = min s.stable (suc j) }) (rewound (suc j) s) (stored-cut log s is (suc j) (min s.stable (suc j)) (rewound (suc j) s).past low) (omega (arith, low, length-take-le (suc j) log.list few))
 
   least-within : (before after : Log) → 0 < length after.list → least before after ≤ length after.list
   least-within before after some = at (length after.list == 0) refl
@@ -414,5 +428,5 @@ module _ (m : Scheme) (bare : peaks m.shape 0 ≡ []) where
       let low_stable = least-stable log after in
       let from = i.may.stable in
       let stays = r.least_stable in
-      left_cut left log after has.stored t.0 i.to has.has (omega (arith, start, behind, from, has.has.stable)) within refl t.1 (r.reads ∙ ap (λ (x : Stored). record x { stable = t.0.stable }) i.same)
+      left_cut left log after has.stored t.0 i.to has.has (omega (arith, start, behind, from, has.has.stable)) within refl t.1 (r.reads ∙ ap (λ (x : Stored). record x { stable = t.0.stable; past = t.0.past }) i.same)
       (omega (arith, low, low_stable, from, size, has.has.stable)) (omega (arith, low, low_stable, stays, size, has.has.stable))

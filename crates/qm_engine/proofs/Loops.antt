@@ -6,10 +6,11 @@ use Rattle.qm_model.specs.Causes.{Rose}
 use Rattle.qm_model.specs.Own.{Log, IsKept, IsOwn}
 use Rattle.qm_model.specs.StoreModel.{Stored, end_of, Turns}
 use Rattle.qm_model.specs.Walk.{Rules}
+use Rattle.qm_model.specs.Policies.{policies}
 use Rattle.qm_model.specs.Batches.{Apart, Chain}
 use Rattle.qm_machine.specs.Lines.{Line, Answer}
 use Rattle.qm_machine.specs.Machine.{State, initial, slot_at, turn, answers, state_after}
-use Rattle.qm_model.specs.Schemes.{Scheme, engine_of}
+use Rattle.qm_model.specs.Schemes.{Scheme, chunks_of, engine_of}
 use Rattle.qm_machine.proofs.Runs.{state_after-push, answers-push, Apart-before}
 use Rattle.qm_engine.specs.Stores.{HasLog, IsLeft}
 use Rattle.qm_engine.specs.Runs.{IsRun, IsOwnStore, IsOwnLeft, after}
@@ -33,7 +34,7 @@ use Rattle.qm_engine.specs.declared.session.Turn.TheVariants.{Reply}
 use Rattle.qm_engine.specs.Session.{HeldIs, SlotIs, Holds, Stands, IfReply, IsChosen}
 use Rattle.qm_engine.specs.Stores.{IsBeside}
 use Rattle.qm_engine.proofs.LastingStores.{beside-self, turns-told, turns-through}
-use Rattle.qm_engine.proofs.Owned.{own-of, none-left, owned}
+use Rattle.qm_engine.proofs.Owned.{counted-alike, own-of, none-left, owned}
 use Rattle.qm_engine.proofs.Followed.{turn-followed}
 
 -- what is told of a turn that replied, of a step that ended the run, and of one that did not
@@ -54,7 +55,7 @@ Rose-wider a b c d p q r = omega arith
 
 -- what is told of an own store has its log
 pub log-of : (m : Scheme) {P : Type 0} (rules : Rules P) (told : Option Stored) (stored : Stored) (log : Log) → told ≡ Some stored → IsOwn (engine_of m rules) log stored → HasLog m told log
-log-of m rules told stored log is own = let has = own.stored in record { stored = stored; is = is; has = record { start = has.start; items = has.items; head = has.head; metadata = has.metadata; stable = has.stable } }
+log-of m rules told stored log is own = let has = own.stored in record { stored = stored; is = is; has = record { start = has.start; items = has.items; head = has.head; metadata = counted-alike m rules policies (chunks_of m) log stored has.metadata; stable = has.stable } }
 
 module _ (m : Scheme) {P : Type 0} (rules : Rules P) (log : Log) (choices : List ℕ) (lines : List (Line P)) where
   -- the state after one command more
@@ -132,9 +133,9 @@ module _ {X C B S M : Type 0} (members : stores.Ghosts C) (means : meaning.Ghost
 
   -- the list of a database that is held is of its form
   formed : (held : Given X C) (table : List (Slot B S M)) (opened : ℕ) (s : State) → Holds members means held table opened s → IsFormed means.scheme rules s
-  formed held table opened s k list is = by held (subst (HeldIs members means s.had held) is k.database)
+  formed held table opened s k list is = by held (subst (HeldIs members means s.opened s.had held) is k.database)
     where
-      by : (held : Given X C) → HeldIs members means s.had held (Some list) → All (IsOf means.scheme.form) list
+      by : (held : Given X C) → HeldIs members means s.opened s.had held (Some list) → All (IsOf means.scheme.form) list
       by (Database x) at = means.formed x list at.0
       by (Store c) at = absurd at
 
@@ -143,11 +144,11 @@ module _ {X C B S M : Type 0} (members : stores.Ghosts C) (means : meaning.Ghost
       → ((s : State) → Stands members means old s → IsSteady means.scheme s → s.choices ≡ more ++ rest → Apart means.scheme.root ((turn means.scheme rules s line).1).had → T s × Stands members means new (turn means.scheme rules s line).1)
       → (s : State) → Between members means rules old (more ++ rest) s → Apart means.scheme.root ((turn means.scheme rules s line).1).had → T s × Between members means rules new rest (turn means.scheme rules s line).1
   goes-between old new more rest line T chosen did s between apart =
-      let done = did s between.stands (sound-steady means.scheme rules s between.sound) between.choices apart in (
+      let done = did s between.stands (sound-steady means.scheme rules means.bounds.prompt s between.sound) between.choices apart in (
         done.0,
         record {
           stands = done.1;
-          sound = turn-sound means.scheme rules means.low s line between.sound apart (formed new.held new.table.items new.opened (turn means.scheme rules s line).1 done.1);
+          sound = turn-sound means.scheme rules means.bounds s line between.sound apart (formed new.held new.table.items new.opened (turn means.scheme rules s line).1 done.1);
           choices = turn-choices means.scheme rules s line ∙ (ap (choices_after line) between.choices ∙ chosen rest);
         },
       )
@@ -164,11 +165,11 @@ module _ {X C B S M : Type 0} (members : stores.Ghosts C) (means : meaning.Ghost
       by (Staged b) is = absurd is
 
   -- what a command may leave there is one that databases leave
-  pub own-left : (session : Session X C B S M) (rest : List ℕ) (line : Line P) (left : Option Stored) (s : State) → IfSome left (λ t. t.stable ≤ end_of t) → Between members means rules session rest s → Apart means.scheme.root s.had
+  pub own-left : means.scheme.grafts ≡ None → (session : Session X C B S M) (rest : List ℕ) (line : Line P) (left : Option Stored) (s : State) → IfSome left (λ t. t.stable ≤ end_of t) → Between members means rules session rest s → Apart means.scheme.root s.had
       → IsLeft means.scheme left s.log ((turn means.scheme rules s line).1).log → IsOwnLeft means.scheme rules left s.log ((turn means.scheme rules s line).1).log
-  own-left session rest line left s stable between apart is =
-      let next = turn-followed means.scheme rules means.low s line between.sound apart (tips-formed session s between.stands) in
-      owned means.scheme rules s.log ((turn means.scheme rules s line).1).log between.sound.kept next.0 next.1 left stable is
+  own-left plain session rest line left s stable between apart is =
+      let next = turn-followed means.scheme rules plain means.bounds s line between.sound apart (tips-formed session s between.stands) in
+      owned means.scheme rules plain s.log ((turn means.scheme rules s line).1).log between.sound.kept next.0 next.1 left stable is
 
 -- The choices that a run's store made, by its parts.
 

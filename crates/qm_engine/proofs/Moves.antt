@@ -7,8 +7,8 @@ use Rattle.qm_model.specs.Writes.{Write}
 use Rattle.qm_model.specs.Batches.{Chain, IsKnown}
 use Rattle.qm_model.specs.StoreModel.{Turns}
 use Rattle.qm_model.specs.Refused as refusals
-use Rattle.qm_machine.specs.Lines.{Answer}
-use Rattle.qm_machine.specs.Machine.{State, with_database, refuse, if_ordered, beside_of, slot_at}
+use Rattle.qm_machine.specs.Lines.{Answer, Question}
+use Rattle.qm_machine.specs.Machine.{State, with_database, refuse, if_any, if_current, answered, if_ordered, beside_of, slot_at}
 use Rattle.qm_machine.specs.Machine as machine
 use Rattle.qm_machine.specs.Sound.{IsSteady}
 use Rattle.qm_base.specs.declared.error.JournalError.TheVariants as journal
@@ -27,7 +27,7 @@ use Rattle.qm_engine.specs.declared.table.Slot.TheVariants.{Gone, Writing, Stage
 use Rattle.qm_engine.specs.declared.session.Session.{Session}
 use Rattle.qm_engine.specs.declared.session.Turn.{Turn}
 use Rattle.qm_engine.specs.declared.session.Turn.TheVariants.{Reply, Memory, StoreFault}
-use Rattle.qm_engine.specs.Session.{HeldIs, SlotIs, Holds, Stands, FollowsHeld, Uses}
+use Rattle.qm_engine.specs.Session.{SlotIs, Holds, Stands, FollowsHeld, Uses}
 use Rattle.qm_engine.specs.Stores.{IsBeside}
 use Rattle.qm_engine.specs.Table.{writing_of, staged_of, merkleized_of}
 use Rattle.qm_engine.specs.Turn.{turn_of_error}
@@ -157,6 +157,17 @@ module _ {X C B S M K V D : Type 0} (members : stores.Ghosts C) (means : meaning
   abbrev pub Says : (State → Answer × State) → Turn K V D → Type 0
   Says next turn = record { machine : (s : State) → Stands members means old s → Goes old.table.items old.held turn (next s); never : turn ≢ StoreFault }
 
+  -- the same of one that only an any database offers
+  pub offered_told : means.scheme.grafts ≡ None → (f : State → Answer × State) → {turn : Turn K V D} → Says f turn → Says (λ s. if_any s means.scheme.grafts (f s)) turn
+  offered_told plain f {turn} says = record { machine = λ s k. subst (Goes old.table.items old.held turn) (sym (ap (λ grafts. if_any s grafts (f s)) plain)) (says.machine s k); never = says.never }
+
+  -- and of one that only a current database offers
+  pub not_current : means.scheme.grafts ≡ None → (question : Question) → Says (λ s. machine.current means.scheme s question) (Reply (replies.Refused refused.NotOffered))
+  not_current plain question = record {
+    machine = λ s k. subst (Goes old.table.items old.held (Reply (replies.Refused refused.NotOffered))) (sym (ap (λ grafts. if_current s grafts (λ g. answered s g question)) plain)) (λ apart. (refl, k));
+    never = λ e. absurd (cc e);
+  }
+
   pub none_told : (f : State → List Operation → Answer × State) → {c : C} → old.held ≡ Store c → {turn : Turn K V D} → turn ≡ Reply (replies.Refused refused.NoDatabase) → Says (λ s. with_database s s.database (f s)) turn
   none_told f is e = let stays = none_begun f is e in record { machine = stays.machine; never = stays.never }
 
@@ -173,7 +184,7 @@ module _ {X C B S M K V D : Type 0} (members : stores.Ghosts C) (means : meaning
     never = refusal-never members means key value digest old e;
   }
 
-  module _ {x after : X} {T : Type 0} {read : Result T Error} (is : old.held ≡ Database x) (reads : ReadsOnly means members x after (IsErrOf read (errors.Journal journal.Store))) where
+  module _ {x after : X} {T : Type 0} {read : Result T Error} (is : old.held ≡ Database x) (reads : ReadsOnly means members x after read) where
     -- a command that read, with this table behind it
     moved : (next : State → Answer × State) {table known : List (Slot B S M)} → table ≡ known → (turn : Turn K V D) → (turn ≡ StoreFault → IsErrOf read (errors.Journal journal.Store))
         → ((s : State) → Holds members means (Database x) old.table.items old.opened s → Goes known (Database after) turn (next s)) → Moves next table (Database after) turn
@@ -225,8 +236,8 @@ module _ {X C B S M K V D : Type 0} (members : stores.Ghosts C) (means : meaning
       pub found_ok : (k : Option K) → AtTip means x batch (λ list chain tip. CanRead means list chain tip) → AtTip means x batch (λ list chain tip. IsKnown list chain tip → option_map key k ≡ beside (live_keys tip))
           → Finds (Reply (replies.Beside k))
       found_ok k can are = finds (Reply (replies.Beside k)) (λ e. absurd (cc e))
-          (λ s held. beside_ok members means key value digest x after old.table.items old.opened h s beside batch k held (reads.same, reads.store) ordered named can are)
+          (λ s held. beside_ok members means key value digest x after old.table.items old.opened h s beside batch k held (reads.same, reads.store, reads.numbered) ordered named can are)
 
       pub found_err : {turn : Turn K V D} (error : Error) → read ≡ Err error → turn ≡ turn_of_error error → AtTip means x batch (λ list chain tip. IsReadFailure means (TellsFrom members (means.inside x) list) list chain tip error) → Finds turn
       found_err {turn} error was e why = subst Finds (sym e) (finds (turn_of_error error) (λ fault. was ∙ ap Err (fault-told error fault))
-          (λ s held. beside_err members means key value digest x after old.table.items old.opened h s beside batch error held (reads.same, reads.store) ordered named why))
+          (λ s held. beside_err members means key value digest x after old.table.items old.opened h s beside batch error held (reads.same, reads.store, reads.numbered) ordered named why))

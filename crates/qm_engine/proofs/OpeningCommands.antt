@@ -1,16 +1,17 @@
 -- The command that opens what a store keeps.
 use Rattle.std.proofs.Common.{◌≡◌, ℕ, zero, suc, ◌+◌, ◌≤◌, List, [], ◌∷◌, length, get_or, take, drop, map, Option, Some, None, IfSome, arith, refl, sym, ◌∙◌, ap, subst, le_refl, le_trans, length-take-le}
-use Rattle.std.specs.Prelude.{IsSome, is_some}
+use Rattle.std.specs.Prelude.{IsSome, is_some, option_map}
 use Rattle.std.specs.List.{AllByRecursion as Each}
 use Rattle.std.specs.List.{drop-map}
 use Rattle.std.proofs.lemmas.List.Elements.{All-take, All-drop, recursion_from_All}
-use Rattle.qm_model.specs.Trees.{peaks}
 use Rattle.qm_model.specs.Causes.{Rose}
 use Rattle.qm_model.specs.Live.{floor}
 use Rattle.qm_model.specs.Operations.{Bytes, Operation}
 use Rattle.qm_model.specs.Forms.{Form, IsOf, spelling, decoded}
 use Rattle.qm_model.specs.Own.{taken_up}
-use Rattle.qm_model.specs.Opening.{opens, refuses, found, selected, size_of, opening_refusal, opening_of, opening, opened_list}
+use Rattle.qm_model.specs.Own as own
+use Rattle.qm_model.specs.Policies.{policies}
+use Rattle.qm_model.specs.Opening.{Chunks, opens, refuses, found, found_with, selected, size_of, opening_refusal, opening_of, opening, opened_list}
 use Rattle.qm_model.specs.Refused as refusals
 use Rattle.qm_model.specs.StoreModel.{Stored}
 use Rattle.qm_model.specs.StoreModel as model
@@ -18,7 +19,7 @@ use Rattle.qm_model.proofs.Chains.{Contains-first}
 use Rattle.qm_model.proofs.Forms.{decoded-spelling}
 use Rattle.qm_machine.specs.Lines.{Answer}
 use Rattle.qm_machine.specs.Machine.{State, closed, opened_as, found_in}
-use Rattle.qm_model.specs.Schemes.{Scheme, layout_of}
+use Rattle.qm_model.specs.Schemes.{Grafts, Scheme, chunks_of, engine_of, layout_of}
 use Rattle.qm_machine.specs.Machine as machine
 use Rattle.qm_machine.specs.Sound.{IsSteady}
 use Rattle.qm_machine.proofs.Accepted.{opens-within, opens-behind, opens-none}
@@ -42,7 +43,7 @@ use Rattle.qm_engine.specs.Turn.{turn_of_error}
 use Rattle.qm_engine.specs.Stores.{HasLog, IsLeft}
 use Rattle.qm_model.specs.Taken.{IsTaken, head_at, selected_size, taken, LeavesOpening}
 use Rattle.qm_engine.specs.Session.{Holds, Handles}
-use Rattle.qm_engine.proofs.LastingStores.{turned, turns-beside, items-cut, head-cut, stored-taken, left_taken, left_opening}
+use Rattle.qm_engine.proofs.LastingStores.{IsBare, turned, turns-beside, items-cut, head-cut, stored-taken, left_taken, left_opening}
 use Rattle.qm_engine.proofs.LastingCommands.{fault-told}
 use Rattle.qm_engine.proofs.Commands.{left_none, some_is, due_told, by_refusal, stored-same, SlotIs-more, Turns}
 
@@ -52,7 +53,7 @@ read_all form [] each = refl
 read_all form (op ∷ ops) (is, each) = ap (λ o. o ∷ map (decoded form) (map (spelling form) ops)) (decoded-spelling form op is) ∙ ap (λ os. Some op ∷ os) (read_all form ops each)
 
 module _ {X C B S M K V D : Type 0} (members : stores.Ghosts C) (means : meaning.Ghosts X C B S M) (key : K → Bytes) (value : V → Bytes) (digest : D → Bytes)
-    (held : Given X C) (table : List (Slot B S M)) (opened : ℕ) (s : State) (bound : Option ℕ) (k : Holds members means held table opened s) (steady : IsSteady means.scheme s) (peakless : peaks means.scheme.shape 0 ≡ []) where
+    (held : Given X C) (table : List (Slot B S M)) (opened : ℕ) (s : State) (bound : Option ℕ) (k : Holds members means held table opened s) (steady : IsSteady means.scheme s) (peakless : IsBare means.scheme) where
   abbrev Goes : Turn K V D → Given X C → List (Slot B S M) → ℕ → Answer × State → Type 0
   Goes = Turns members means key value digest
 
@@ -66,10 +67,17 @@ module _ {X C B S M K V D : Type 0} (members : stores.Ghosts C) (means : meaning
   -- an opening finds there what the log says
   alike : found (layout_of means.scheme) stored ≡ found_in means.scheme s.log
   alike =
-      let has = k.store.told.has in
       let items : map (decoded means.scheme.form) stored.items ≡ map (λ op. Some op) (drop s.log.start s.log.list) =
       ap (map (decoded means.scheme.form)) has.items ∙ read_all means.scheme.form (drop s.log.start s.log.list) (recursion_from_All (IsOf means.scheme.form) (drop s.log.start s.log.list) (All-drop (IsOf means.scheme.form) s.log.start s.log.list steady.of_form)) in
-      λ i. record { start = has.start i; items = items i; head = has.head i; metadata = None; count = sym has.metadata i }
+      by items (chunks_of means.scheme) (ap (option_map (λ (g : Grafts). g.chunks)) peakless.1) has.metadata
+    where
+      has : own.IsStored (engine_of means.scheme policies) s.log stored
+      has = k.store.told.has
+
+      by : map (decoded means.scheme.form) stored.items ≡ map (λ op. Some op) (drop s.log.start s.log.list) → (chunks : Option Chunks) → chunks ≡ None
+          → own.MetadataIs (engine_of means.scheme policies) chunks s.log stored → found_with (layout_of means.scheme) stored chunks ≡ found_in means.scheme s.log
+      by items None none counted = λ i. record { start = has.start i; items = items i; head = has.head i; metadata = None; count = sym counted i }
+      by items (Some c) none counted = absurd (cc)
 
   -- and comes to this
   abbrev due : Option refusals.Refused
@@ -151,13 +159,13 @@ module _ {X C B S M K V D : Type 0} (members : stores.Ghosts C) (means : meaning
   offered : IfSome (members.told (store_given means.inside held)) (λ t. opening_refusal (layout_of means.scheme) (found (layout_of means.scheme) t) bound ≡ None) → due ≡ None
   offered is = sym due_is ∙ some_is (members.told (store_given means.inside held)) stored (λ t. opening_refusal (layout_of means.scheme) (found (layout_of means.scheme) t) bound ≡ None) told is
 
-  pub opened_turn : (x : X) (start count : ℕ)
+  pub opened_turn : (x : X) (start count : ℕ) → means.numbered x (opened + 1)
       → IfSome (members.told (store_given means.inside held)) (λ t. (list : List Operation) → IsTaken means.scheme t (selected_size means.scheme bound t) list → means.stands x list)
       → IfSome (members.told (store_given means.inside held)) (λ t. opening_refusal (layout_of means.scheme) (found (layout_of means.scheme) t) bound ≡ None)
       → model.Turns (members.told (store_given means.inside held)) (members.told (means.inside x)) (λ t new. new ≡ taken means.scheme (selected_size means.scheme bound t) t)
       → members.start (means.inside x) ≡ members.start (store_given means.inside held) → start ≡ members.start (means.inside x) → ((l : List Operation) → means.stands x l → count ≡ length l)
       → Goes (Reply (replies.Opened (opened + 1) start count)) (Database x) table (opened + 1) (machine.open_store means.scheme s bound)
-  opened_turn x start count stood is_offered became same_start is_start counted =
+  opened_turn x start count numbered stood is_offered became same_start is_start counted =
       let accepted : due ≡ None = offered is_offered in
       let stands : means.stands x (list accepted) =
       some_is (members.told (store_given means.inside held)) stored (λ t. (l : List Operation) → IsTaken means.scheme t (selected_size means.scheme bound t) l → means.stands x l) told stood (list accepted)
@@ -165,7 +173,7 @@ module _ {X C B S M K V D : Type 0} (members : stores.Ghosts C) (means : meaning
       subst (λ o. Goes (Reply (replies.Opened (opened + 1) start count)) (Database x) table (opened + 1) (opened_as (closed s) o)) (sym (opens_is accepted)) (λ apart. (
         rw (k.count, is_start ∙ same_start ∙ k.store.start, counted (list accepted) stands) refl,
         record {
-          database = (stands, Contains-first (list accepted) s.had);
+          database = (stands, Contains-first (list accepted) s.had, subst (means.numbered x) (ap (λ n. n + 1) k.count) numbered);
           store = record { start = same_start ∙ k.store.start; told = new_told accepted (means.inside x) became };
           start = inside accepted;
           low = low accepted;

@@ -1,6 +1,6 @@
 -- The commands that only an ordered database offers: what is read through a merkleized batch.
-use Rattle.std.proofs.Common.{◌≡◌, ℕ, true, cond, List, get_or, Option, Some, option_map, refl, sym, ◌∙◌, ap, subst, Result, Ok, Err}
-use Rattle.std.specs.Prelude.{Contains, IsErrOf}
+use Rattle.std.proofs.Common.{◌≡◌, ℕ, true, cond, List, get_or, Option, Some, option_map, refl, sym, ap, subst}
+use Rattle.std.specs.Prelude.{Contains}
 use Rattle.qm_model.specs.Operations.{Bytes, Operation}
 use Rattle.qm_model.specs.Live.{live_keys}
 use Rattle.qm_model.specs.Batches.{Chain, IsAmong, IsKnown}
@@ -20,7 +20,7 @@ use Rattle.qm_engine.specs.declared.session.Turn.{Turn}
 use Rattle.qm_engine.specs.declared.session.Turn.TheVariants.{Reply}
 use Rattle.qm_engine.specs.Table.{merkleized_of}
 use Rattle.qm_engine.specs.Turn.{turn_of_error}
-use Rattle.qm_offer.specs.Words.{AtTip, CanRead, IsReadFailure, ReadsOnly}
+use Rattle.qm_offer.specs.Words.{AtTip, CanRead, IsReadFailure}
 use Rattle.qm_engine.specs.Session.{SlotIs, Holds, Answers}
 use Rattle.qm_store.specs.Given.{TellsFrom}
 use Rattle.qm_engine.proofs.Commands.{with_told, Keeps, Holds-kept, Turns, answered, merkleized_slot}

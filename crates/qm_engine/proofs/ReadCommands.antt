@@ -25,10 +25,10 @@ use Rattle.qm_engine.specs.declared.session.Turn.{Turn}
 use Rattle.qm_engine.specs.Table.{merkleized_of}
 use Rattle.qm_engine.specs.Turn.{turn_of_error}
 use Rattle.qm_store.specs.Refusals.{refusal_of}
-use Rattle.qm_store.specs.Given.{IsUnchanged, TellsFrom}
+use Rattle.qm_store.specs.Given.{TellsFrom}
 use Rattle.qm_offer.specs.Words.{CanRead, IsReadFailure}
 use Rattle.qm_engine.specs.Session.{SlotIs, Holds, Answers}
-use Rattle.qm_engine.proofs.Commands.{choice, none_some, refuses, by_refusal, with_list, with_told, Holds-kept, Turns, answered}
+use Rattle.qm_engine.proofs.Commands.{choice, none_some, refuses, by_refusal, with_list, with_told, Keeps, Holds-kept, Turns, answered}
 
 -- whether an error tells that a read is stale
 pub is_stale_read : (error : Error) → (error ≡ errors.StaleRead) ⊎ (error ≢ errors.StaleRead)
@@ -125,23 +125,23 @@ module _ {X C B S M K V D : Type 0} (members : stores.Ghosts C) (means : meaning
 
   -- over a database, what is read through a batch number
   pub named_read : (turn : Turn K V D) (x after : X) (table : List (Slot B S M)) (opened h : ℕ) (keys : List Bytes) (s : State) → Holds members means (Database x) table opened s
-      → ((l : List Operation) → means.stands x l → means.stands after l) → IsUnchanged members (means.inside x) (means.inside after)
+      → Keeps members means x after
       → ((list : List Operation) (named : machine.Slot) → TellsFrom members (means.inside x) list → means.stands x list → Contains s.had list → SlotIs members means s.had (get_or table h Gone) named
       → Answers members means key value digest turn s (read_in means.scheme s h keys list named))
       → Goes turn (Database after) table opened (machine.read means.scheme s keys (Some h))
-  named_read turn x after table opened h keys s k keeps same_store told =
+  named_read turn x after table opened h keys s k keeps told =
       with_told members means x table opened s (λ list. read_in means.scheme s h keys list (slot_at s.table h)) (Goes turn (Database after) table opened) k
       (λ list tells stands in_had. answered members means key value digest turn (Database after) table opened s (read_in means.scheme s h keys list (slot_at s.table h)) (read_state-in s h keys list (slot_at s.table h))
-      (Holds-kept members means x after table opened s (keeps, same_store) k) (told list (slot_at s.table h) tells stands in_had (k.slots h)))
+      (Holds-kept members means x after table opened s keeps k) (told list (slot_at s.table h) tells stands in_had (k.slots h)))
 
   -- over a database, what is read of it
   pub database_read : (x after : X) (table : List (Slot B S M)) (opened : ℕ) (keys : List Bytes) (values : List (Option Bytes)) (s : State) → Holds members means (Database x) table opened s
-      → ((l : List Operation) → means.stands x l → means.stands after l) → IsUnchanged members (means.inside x) (means.inside after)
+      → Keeps members means x after
       → ((list : List Operation) → means.stands x list → values ≡ map (value_of list) keys)
       → (lines.Read values ≡ (machine.read means.scheme s keys None).0) × Holds members means (Database after) table opened (machine.read means.scheme s keys None).1
-  database_read x after table opened keys values s k keeps same_store are =
+  database_read x after table opened keys values s k keeps are =
       with_list members means x s.had s.database s (λ list. (lines.Read (map (value_of list) keys), s)) (λ next. (lines.Read values ≡ next.0) × Holds members means (Database after) table opened next.1) k.database
-      (λ list stands in_had. (ap lines.Read (are list stands), Holds-kept members means x after table opened s (keeps, same_store) k))
+      (λ list stands in_had. (ap lines.Read (are list stands), Holds-kept members means x after table opened s keeps k))
 
   pub ops_ok : (held : Given X C) (table : List (Slot B S M)) (opened : ℕ) (h base : ℕ) (own : List Operation) (batch : M) (s : State) → Holds members means held table opened s
       → ((chain : Chain) (tip : List Operation) → means.is_merkleized batch chain tip → (base ≡ length chain.base) × (own ≡ own_operations chain tip))

@@ -28,23 +28,35 @@ use Rattle.qm_engine.specs.declared.table.Slot.TheVariants.{Gone, Writing, Stage
 use Rattle.qm_engine.specs.declared.session.Session.{Session}
 use Rattle.qm_engine.specs.declared.session.Turn.{Turn}
 use Rattle.qm_engine.specs.declared.session.Turn.TheVariants.{Reply, Memory, StoreFault}
-use Rattle.qm_engine.specs.Session.{HeldIs, SlotIs, Holds, Stands, IfReply, Answers, FollowsHeld, Uses}
+use Rattle.qm_engine.specs.Session.{HeldIs, SlotIs, Holds, Stands, IfReply, Answers, FollowsHeld, TurnReads, Uses}
 use Rattle.qm_engine.specs.Table.{merkleized_of}
 use Rattle.qm_engine.specs.Turn.{turn_of_error}
 use Rattle.qm_offer.specs.Words.{ReadsOnly}
 use Rattle.qm_engine.proofs.Commands.{no_refusal, none_some, by_refusal, with_list, with_told, Holds-kept, answered}
 use Rattle.qm_engine.proofs.LastingCommands.{fault-told}
 
-module _ {X C B S M : Type 0} (members : stores.Ghosts C) (means : meaning.Ghosts X C B S M) {held : Given X C} {x after : X} {failed : Type 0} (is : held ≡ Database x) (reads : ReadsOnly means members x after failed) where
+module _ {X C B S M : Type 0} (members : stores.Ghosts C) (means : meaning.Ghosts X C B S M) {held : Given X C} {x after : X} {T : Type 0} {read : Result T Error} (is : held ≡ Database x) (reads : ReadsOnly means members x after read) where
   -- it has what it had
   pub read-keeps : IsUnchanged members (store_given means.inside held) (means.inside after)
   read-keeps = subst (λ (h : Given X C). IsUnchanged members (store_given means.inside h) (means.inside after)) (sym is) reads.store
 
   -- and was used as a turn may use it
-  pub read-uses : {K V D : Type 0} (turn : Turn K V D) → (turn ≡ StoreFault → failed) → Uses members (store_given means.inside held) (means.inside after) turn
+  pub read-uses : {K V D : Type 0} (turn : Turn K V D) → (turn ≡ StoreFault → IsErrOf read (errors.Journal journal.Store)) → Uses members (store_given means.inside held) (means.inside after) turn
   read-uses turn why =
       subst (λ (h : Given X C). Uses members (store_given means.inside h) (means.inside after) turn) (sym is)
       (record { start = reads.store.start; beside = ap beside_items reads.store.told; later = reads.faults.later; fault = λ e. reads.faults.failed (why e) })
+
+-- what a store has that only a database's was used, as that of what is held
+module _ {X C : Type 0} (members : stores.Ghosts C) (inside : X → C) {held : Given X C} {x : X} (is : held ≡ Database x) {now : C} where
+  pub unchanged-at : IsUnchanged members (inside x) now → IsUnchanged members (store_given inside held) now
+  unchanged-at = subst (λ (h : Given X C). IsUnchanged members (store_given inside h) now) (sym is)
+
+  pub uses-at : {K V D : Type 0} {turn : Turn K V D} → Uses members (inside x) now turn → Uses members (store_given inside held) now turn
+  uses-at {turn = turn} = subst (λ (h : Given X C). Uses members (store_given inside h) now turn) (sym is)
+
+-- what a call read, as its turn tells
+pub turn_reads : {X C B S M K V D : Type 0} (members : stores.Ghosts C) (means : meaning.Ghosts X C B S M) {x after : X} {T : Type 0} {read : Result T Error} → ReadsOnly means members x after read → (turn : Turn K V D) → (turn ≡ StoreFault → IsErrOf read (errors.Journal journal.Store)) → TurnReads members means x after turn
+turn_reads members means reads turn why = record { same = reads.same; numbered = reads.numbered; store = reads.store; faults = record { later = reads.faults.later; failed = λ e. reads.faults.failed (why e) } }
 
 -- What a command that only reads tells at each of its ways out: what is held, the batches and the count of openings.
 module _ {X C B S M K V D : Type 0} (members : stores.Ghosts C) (means : meaning.Ghosts X C B S M) (key : K → Bytes) (value : V → Bytes) (digest : D → Bytes) (old : Session X C B S M) where
@@ -80,9 +92,9 @@ module _ {X C B S M K V D : Type 0} (members : stores.Ghosts C) (means : meaning
 
   -- no database is open
   closed : {c : C} → old.held ≡ Store c → {turn : Turn K V D} → turn ≡ Reply (replies.Refused refused.NoDatabase) → (f : List Operation → Answer × State) (s : State) → Stands members means old s → Does old.held turn (with_database s s.database f)
-  closed {c} is e f s k = subst (λ t. Does old.held t (with_database s s.database f)) (sym e) (by s.database (subst (λ h. HeldIs members means s.had h s.database) is k.database))
+  closed {c} is e f s k = subst (λ t. Does old.held t (with_database s s.database f)) (sym e) (by s.database (subst (λ h. HeldIs members means s.opened s.had h s.database) is k.database))
     where
-      by : (d : Option (List Operation)) → HeldIs members means s.had (Store c) d → Does old.held (Reply (replies.Refused refused.NoDatabase)) (with_database s d f)
+      by : (d : Option (List Operation)) → HeldIs members means s.opened s.had (Store c) d → Does old.held (Reply (replies.Refused refused.NoDatabase)) (with_database s d f)
       by None none = λ apart. (refl, k)
       by (Some list) none = absurd none
 
@@ -115,7 +127,7 @@ module _ {X C B S M K V D : Type 0} (members : stores.Ghosts C) (means : meaning
       → Told (λ s. if_ordered means.scheme s (beside_of means.scheme s beside (Some h))) (Database x) turn
   no_beside beside h ordered {x} is none {turn} e = subst (λ held. Told (λ s. if_ordered means.scheme s (beside_of means.scheme s beside (Some h))) held turn) is (stayed (λ s. if_ordered means.scheme s (beside_of means.scheme s beside (Some h))) turn (refusal-never e)
       (λ s k. choice true ordered (λ s. beside_of means.scheme s beside (Some h)) old.held turn s (subst (λ t. Does old.held t (beside_of means.scheme s beside (Some h))) (sym e)
-      (with_list members means x s.had s.database s (λ list. beside_in means.scheme s h beside list (slot_at s.table h)) (Does old.held (Reply (replies.Refused (refused.NoSuchHandle h)))) (subst (λ held. HeldIs members means s.had held s.database) is k.database)
+      (with_list members means x s.had s.database s (λ list. beside_in means.scheme s h beside list (slot_at s.table h)) (Does old.held (Reply (replies.Refused (refused.NoSuchHandle h)))) (subst (λ held. HeldIs members means s.opened s.had held s.database) is k.database)
       (λ list stands in_had. by s k list (get_or old.table.items h Gone) (slot_at s.table h) (k.slots h) none)))))
     where
       by : (s : State) → Stands members means old s → (list : List Operation) (a : Slot B S M) (b : machine.Slot) → SlotIs members means s.had a b → None ≡ merkleized_of a → Does old.held (Reply (replies.Refused (refused.NoSuchHandle h))) (beside_in means.scheme s h beside list b)
@@ -130,40 +142,42 @@ module _ {X C B S M K V D : Type 0} (members : stores.Ghosts C) (means : meaning
       → Told (λ s. machine.read means.scheme s keys (Some h)) (Database x) turn
   no_read keys h {x} is gone {turn} e = subst (λ held. Told (λ s. machine.read means.scheme s keys (Some h)) held turn) is (stayed (λ s. machine.read means.scheme s keys (Some h)) turn (refusal-never e)
       (λ s k. subst (λ t. Does old.held t (machine.read means.scheme s keys (Some h))) (sym e)
-      (with_list members means x s.had s.database s (λ list. read_in means.scheme s h keys list (slot_at s.table h)) (Does old.held (Reply (replies.Refused (refused.NoSuchHandle h)))) (subst (λ held. HeldIs members means s.had held s.database) is k.database)
+      (with_list members means x s.had s.database s (λ list. read_in means.scheme s h keys list (slot_at s.table h)) (Does old.held (Reply (replies.Refused (refused.NoSuchHandle h)))) (subst (λ held. HeldIs members means s.opened s.had held s.database) is k.database)
       (λ list stands in_had. by s k list (slot_at s.table h) (subst (λ a. SlotIs members means s.had a (slot_at s.table h)) (sym gone) (k.slots h))))))
     where
       by : (s : State) → Stands members means old s → (list : List Operation) (b : machine.Slot) → SlotIs members means s.had Gone b → Does old.held (Reply (replies.Refused (refused.NoSuchHandle h))) (read_in means.scheme s h keys list b)
       by s k list machine.gone is = λ apart. (refl, k)
       by s k list b is = absurd is
 
-  module _ {x after : X} {failed : Type 0} (is : old.held ≡ Database x) (reads : ReadsOnly means members x after failed) (answer : List Operation → Answer) where
+  module _ {x after : X} (is : old.held ≡ Database x) (turn : Turn K V D) (reads : TurnReads members means x after turn) (answer : List Operation → Answer) where
     -- the turn answers from the list
-    answers : (turn : Turn K V D) → ((list : List Operation) → TellsFrom members (means.inside x) list → means.stands x list → IfReply turn (λ r. answer_view key value digest r ≡ answer list))
+    answers : ((list : List Operation) → TellsFrom members (means.inside x) list → means.stands x list → IfReply turn (λ r. answer_view key value digest r ≡ answer list))
         → (s : State) → Stands members means old s → Does (Database after) turn (with_database s s.database (λ list. (answer list, s)))
-    answers turn each s k =
+    answers each s k =
         let held_here : Holds members means (Database x) old.table.items old.opened s = subst (λ h. Holds members means h old.table.items old.opened s) is k in
         with_told members means x old.table.items old.opened s (λ list. (answer list, s)) (Does (Database after) turn) held_here
-        (λ list tells stands in_had. answered members means key value digest turn (Database after) old.table.items old.opened s (answer list, s) refl (Holds-kept members means x after old.table.items old.opened s (reads.same, reads.store) held_here) (with_apart turn s (answer list) (each list tells stands)))
+        (λ list tells stands in_had. answered members means key value digest turn (Database after) old.table.items old.opened s (answer list, s) refl
+        (Holds-kept members means x after old.table.items old.opened s (reads.same, reads.store, reads.numbered) held_here) (with_apart turn s (answer list) (each list tells stands)))
       where
         with_apart : (turn : Turn K V D) (s : State) (a : Answer) → IfReply turn (λ r. answer_view key value digest r ≡ a) → Answers members means key value digest turn s (a, s)
         with_apart (Reply r) s a same = λ apart. same
         with_apart Memory s a same = tt
         with_apart StoreFault s a same = tt
 
-    read_left : (next : State → Answer × State) (turn : Turn K V D) → (turn ≡ StoreFault → failed) → ((s : State) → Stands members means old s → Does (Database after) turn (next s)) → Told next (Database after) turn
-    read_left next turn why does = record { machine = does; store = read-keeps members means is reads; uses = read-uses members means is reads turn why; opened = refl }
-
-    no_refusal-here : {turn : Turn K V D} (error : Error) → turn ≡ turn_of_error error → ((list : List Operation) → means.stands x list → TellsFrom members (means.inside x) list → refusal_of error ≡ None)
-        → (list : List Operation) → TellsFrom members (means.inside x) list → means.stands x list → IfReply turn (λ r. answer_view key value digest r ≡ answer list)
-    no_refusal-here error e none list tells stands = subst (λ t. IfReply t (λ r. answer_view key value digest r ≡ answer list)) (sym e) (no_refusal error (λ r. answer_view key value digest r ≡ answer list) (none list stands tells))
+    read_left : (next : State → Answer × State) → ((s : State) → Stands members means old s → Does (Database after) turn (next s)) → Told next (Database after) turn
+    read_left next does = record {
+      machine = does;
+      store = unchanged-at members means.inside is reads.store;
+      uses = uses-at members means.inside is (record { start = reads.store.start; beside = ap beside_items reads.store.told; later = reads.faults.later; fault = reads.faults.failed });
+      opened = refl;
+    }
 
     -- as the turn does that a database gave
-    pub asked : (ordered : means.scheme.form.ordered ≡ true) (turn : Turn K V D) → (turn ≡ StoreFault → failed)
+    pub asked : (ordered : means.scheme.form.ordered ≡ true)
         → IfReply turn (λ r. means.scheme.form.ordered ≡ true → (list : List Operation) → means.stands x list → TellsFrom members (means.inside x) list → answer_view key value digest r ≡ answer list)
         → Told (λ s. if_ordered means.scheme s (with_database s s.database (λ list. (answer list, s)))) (Database after) turn
-    asked ordered turn why told = read_left (λ s. if_ordered means.scheme s (with_database s s.database (λ list. (answer list, s)))) turn why
-        (λ s k. choice true ordered (λ s. with_database s s.database (λ list. (answer list, s))) (Database after) turn s (answers turn (by turn told) s k))
+    asked ordered told = read_left (λ s. if_ordered means.scheme s (with_database s s.database (λ list. (answer list, s))))
+        (λ s k. choice true ordered (λ s. with_database s s.database (λ list. (answer list, s))) (Database after) turn s (answers (by turn told) s k))
       where
         by : (turn : Turn K V D) → IfReply turn (λ r. means.scheme.form.ordered ≡ true → (list : List Operation) → means.stands x list → TellsFrom members (means.inside x) list → answer_view key value digest r ≡ answer list)
             → (list : List Operation) → TellsFrom members (means.inside x) list → means.stands x list → IfReply turn (λ r. answer_view key value digest r ≡ answer list)
@@ -171,33 +185,30 @@ module _ {X C B S M K V D : Type 0} (members : stores.Ghosts C) (means : meaning
         by Memory told list tells stands = tt
         by StoreFault told list tells stands = tt
 
-    pub read_err : {turn : Turn K V D} (error : Error) → (error ≡ errors.Journal journal.Store → failed) → turn ≡ turn_of_error error → ((list : List Operation) → means.stands x list → TellsFrom members (means.inside x) list → refusal_of error ≡ None) → Told (λ s. with_database s s.database (λ list. (answer list, s))) (Database after) turn
-    read_err {turn} error why e none = read_left (λ s. with_database s s.database (λ list. (answer list, s))) turn (λ fault. why (fault-told error (sym e ∙ fault))) (answers turn (no_refusal-here error e none))
+  -- a call that failed as its turn tells
+  pub read_err : {x after : X} {T : Type 0} {read : Result T Error} → old.held ≡ Database x → ReadsOnly means members x after read → (answer : List Operation → Answer) → {turn : Turn K V D} (error : Error) → (error ≡ errors.Journal journal.Store → IsErrOf read (errors.Journal journal.Store)) → turn ≡ turn_of_error error
+      → ((list : List Operation) → means.stands x list → TellsFrom members (means.inside x) list → refusal_of error ≡ None) → Told (λ s. with_database s s.database (λ list. (answer list, s))) (Database after) turn
+  read_err is reads answer {turn} error why e none =
+      let turned = turn_reads members means reads turn (λ fault. why (fault-told error (sym e ∙ fault))) in
+      read_left is turn turned answer (λ s. with_database s s.database (λ list. (answer list, s)))
+      (answers is turn turned answer (λ list tells stands. subst (λ t. IfReply t (λ r. answer_view key value digest r ≡ answer list)) (sym e) (no_refusal error (λ r. answer_view key value digest r ≡ answer list) (none list stands tells))))
 
 -- What a call of a database comes to as a turn, where it answers so.
-module _ {X C B S M K V D T : Type 0} (members : stores.Ghosts C) (means : meaning.Ghosts X C B S M) (key : K → Bytes) (value : V → Bytes) (digest : D → Bytes) {old new : X} {read : Result T Error} (reads : ReadsOnly means members old new (IsErrOf read (errors.Journal journal.Store))) (answer : List Operation → Answer) where
+module _ {X C B S M K V D T : Type 0} (members : stores.Ghosts C) (means : meaning.Ghosts X C B S M) (key : K → Bytes) (value : V → Bytes) (digest : D → Bytes) {old new : X} {read : Result T Error} (reads : ReadsOnly means members old new read) (answer : List Operation → Answer) where
   abbrev pub Replies : Turn K V D → Type 0
   Replies turn = record {
     reply : IfReply turn (λ r. means.scheme.form.ordered ≡ true → (list : List Operation) → means.stands old list → TellsFrom members (means.inside old) list → answer_view key value digest r ≡ answer list);
-    reads : ReadsOnly means members old new (turn ≡ StoreFault);
+    reads : TurnReads members means old new turn;
   }
 
   pub replied_ok : (r : reply.Reply K V D) → (means.scheme.form.ordered ≡ true → (list : List Operation) → means.stands old list → answer_view key value digest r ≡ answer list) → Replies (Reply r)
   replied_ok r are = record {
     reply = λ ordered list stands tells. are ordered list stands;
-    reads = record { same = reads.same; store = reads.store; faults = record { later = reads.faults.later; failed = λ e. absurd (cc e) } };
+    reads = turn_reads members means reads (Reply r) (λ e. absurd (cc e));
   }
 
   pub replied_err : {turn : Turn K V D} (error : Error) → read ≡ Err error → turn ≡ turn_of_error error → ((list : List Operation) → means.stands old list → TellsFrom members (means.inside old) list → refusal_of error ≡ None) → Replies turn
   replied_err {turn} error was e none = subst Replies (sym e) (record {
     reply = by_refusal error (λ r. means.scheme.form.ordered ≡ true → (list : List Operation) → means.stands old list → TellsFrom members (means.inside old) list → answer_view key value digest r ≡ answer list) (λ r told ordered list stands tells. absurd (none_some (none list stands tells) told));
-    reads = record { same = reads.same; store = reads.store; faults = record { later = reads.faults.later; failed = λ fault. reads.faults.failed (was ∙ ap Err (fault-told error fault)) } };
+    reads = turn_reads members means reads (turn_of_error error) (λ fault. was ∙ ap Err (fault-told error fault));
   })
-
--- what a store has that only a database's was used, as that of what is held
-module _ {X C : Type 0} (members : stores.Ghosts C) (inside : X → C) {held : Given X C} {x : X} (is : held ≡ Database x) {now : C} where
-  pub unchanged-at : IsUnchanged members (inside x) now → IsUnchanged members (store_given inside held) now
-  unchanged-at = subst (λ (h : Given X C). IsUnchanged members (store_given inside h) now) (sym is)
-
-  pub uses-at : {K V D : Type 0} {turn : Turn K V D} → Uses members (inside x) now turn → Uses members (store_given inside held) now turn
-  uses-at {turn = turn} = subst (λ (h : Given X C). Uses members (store_given inside h) now turn) (sym is)

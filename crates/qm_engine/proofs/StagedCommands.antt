@@ -1,15 +1,13 @@
 -- The commands of staged reads.
-use Rattle.std.proofs.Common.{◌≡◌, ◌≢◌, ◌≤◌, ℕ, Bool, true, cond, List, ◌++◌, length, get_or, set, map, Option, Some, None, Result, Ok, Err, IfOk, IfErr, IfSome, sym, ◌∙◌, ap, ap₂, subst, ◌⊎◌, inl, inr, ◌==◌, ◌+◌}
+use Rattle.std.proofs.Common.{◌≡◌, ◌≢◌, ℕ, Bool, true, cond, List, ◌++◌, length, get_or, set, map, Option, Some, Result, sym, ◌∙◌, ap, ap₂, subst, ◌⊎◌, inl, inr, ◌==◌, ◌+◌}
 use Rattle.std.specs.Prelude.{Contains, MatchOption}
 use Rattle.std.proofs.lemmas.Bool.{eq-eqb, eqb-true}
-use Rattle.qm_model.specs.Live.{floor}
 use Rattle.qm_model.specs.Operations.{Bytes, Operation}
 use Rattle.qm_model.specs.Writes.{Write, read_through}
 use Rattle.qm_model.specs.Walk.{Rules}
 use Rattle.qm_model.specs.Slots.{slotted}
 use Rattle.qm_model.specs.Slots as slots
-use Rattle.qm_model.specs.Refusals.{tip_refusal}
-use Rattle.qm_model.specs.Batches.{Chain, IsAmong, IsKnown, IsOnChain, Apart, commitment, readable}
+use Rattle.qm_model.specs.Batches.{Chain, IsAmong, IsKnown, Apart, commitment, readable}
 use Rattle.qm_machine.specs.Lines.{Answer}
 use Rattle.qm_machine.specs.Lines as lines
 use Rattle.qm_model.specs.Refused as refusals
@@ -35,12 +33,12 @@ use Rattle.qm_engine.specs.Table.{writing_of, staged_of}
 use Rattle.qm_engine.specs.Turn.{turn_of_error}
 use Rattle.qm_store.specs.Refusals.{refusal_of}
 use Rattle.qm_store.specs.Given.{TellsFrom}
-use Rattle.qm_offer.specs.Words.{AtBatch, AtStaged, Fits, CanRead, IsReadFailure, tip_of}
+use Rattle.qm_offer.specs.Words.{AtBatch, AtStaged, CanRead, IsReadFailure, Makes, tip_of}
 use Rattle.qm_engine.specs.Making.{made_into, IsMaking}
 use Rattle.qm_engine.specs.Session.{SlotIs, Holds}
 use Rattle.qm_engine.proofs.Tables.{set_set}
-use Rattle.qm_engine.proofs.Commands.{choice, none_some, refuses, by_refusal, some-map, with_list, with_writing, with_staged, with_told_writing, with_told_staged, HeldIs-kept, stored-same, slots_set, lengths_set, Keeps, Holds-used, Turns}
-use Rattle.qm_engine.proofs.BatchCommands.{base-begins}
+use Rattle.qm_engine.proofs.Commands.{choice, none_some, refuses, by_refusal, numbered-held, with_list, with_writing, with_staged, with_told_writing, with_told_staged, HeldIs-kept, stored-same, slots_set, lengths_set, Keeps, Holds-used, Turns}
+use Rattle.qm_engine.proofs.BatchCommands.{base-begins, making_of}
 use Rattle.qm_engine.proofs.ReadCommands.{is_stale_read}
 use Rattle.qm_machine.specs.Sound.{IsSoundSlot, IsSteady}
 
@@ -73,7 +71,7 @@ module _ {X C B S M K V D : Type 0} (members : stores.Ghosts C) (means : meaning
         let now = facts (known apart can) in (
           now.0,
           record {
-            database = HeldIs-kept members means x after s.had s.database keeps.0 k.database;
+            database = HeldIs-kept members means s.opened x after s.had s.database keeps.0 keeps.2 k.database;
             store = stored-same members means.scheme (means.inside x) (means.inside after) s.log keeps.1 k.store;
             start = k.start;
             low = k.low;
@@ -148,44 +146,24 @@ module _ {X C B S M K V D : Type 0} (members : stores.Ghosts C) (means : meaning
       (λ list chain above ws staged tells named stands in_had among above_among is.
       staged_err x after table opened h s list chain above k keeps in_had among above_among error (lines.Expanded (length staged) (length staged + length keys) (map (read_through chain.base ws) keys)) (machine.staged chain above ws (staged ++ keys)) (TellsFrom members (means.inside x) list) tells (why list chain above ws staged stands is))
 
-  -- what a call says that makes a staged batch's tip list
-  pub staged_making : (x : X) (batch : S) (tip : Chain → List Write → List Bytes → List Operation) (made : Result M Error)
-      → IfOk made (λ _. AtStaged means x batch (λ list chain above ws keys. Fits means list chain))
-      → IfOk made (λ b. AtStaged means x batch (λ list chain above ws keys. IsOnChain list chain → (tip_refusal means.scheme.form chain (tip chain ws keys) ≡ None) × means.is_merkleized b chain (tip chain ws keys)))
-      → IfErr made (λ e. e ≡ errors.StaleBatch → AtStaged means x batch (λ list chain above ws keys. ¬ IsOnChain list chain))
-      → IfErr made (λ e. e ≢ errors.StaleBatch → AtStaged means x batch (λ list chain above ws keys. TellsFrom members (means.inside x) list
-      → IfSome (refusal_of e) (λ r. Fits means list chain × (IsOnChain list chain → floor list ≤ floor chain.base → tip_refusal means.scheme.form chain (tip chain ws keys) ≡ Some r))))
-      → AtStaged means x batch (λ list chain above ws keys. TellsFrom members (means.inside x) list → (IsOnChain list chain → floor list ≤ floor chain.base) → IsMaking means list chain (tip chain ws keys) made)
-  staged_making x batch tip (Ok b) fits did stale refused list chain above ws keys stands is tells low = record {
-    fits = fits list chain above ws keys stands is;
-    made = did list chain above ws keys stands is;
-    stale = tt;
-    refused = tt;
-  }
-  staged_making x batch tip (Err e) fits did stale refused list chain above ws keys stands is tells low = record {
-    fits = tt;
-    made = tt;
-    stale = λ same. stale same list chain above ws keys stands is;
-    refused = λ other. some-map (refusal_of e) (λ r both. (both.0, λ on. both.1 on (low on))) (refused other list chain above ws keys stands is tells);
-  }
-
   -- under policies with these rules, with what is given for the keys
   module _ {P : Type 0} (rules : Rules P) (policy : P) (meta : Option Bytes) (given : List slots.Slot) (others : List Write) where
     -- a resolve of a batch whose number is used up
     pub resolve_made : (Q : Answer × State → Type 0) (x after : X) (table : List (Slot B S M)) (opened h : ℕ) (batch : S) (made : Result M Error) (s : State)
         → Holds members means (Database x) table opened s → IsSteady means.scheme s → Keeps members means x after
         → length given ≡ means.count batch
-        → AtStaged means x batch (λ list chain above ws keys. TellsFrom members (means.inside x) list → (IsOnChain list chain → floor list ≤ floor chain.base) → IsMaking means list chain (tip_of means.scheme rules chain (slotted ws keys given others) policy meta) made)
+        → AtStaged means x batch (λ list chain above ws keys. Makes means members x list chain (tip_of means.scheme rules chain (slotted ws keys given others) policy meta) made)
         → staged_of (get_or table h Gone) ≡ Some batch
         → ((list : List Operation) (chain : Chain) (tip : List Operation) → Holds members means (Database after) (set table h Gone) opened (with_slot s h machine.gone) → Contains s.had list → IsAmong s.had chain
-        → IsMaking means list chain tip made → Q (made_into means.scheme s h list chain tip))
+        → IsMaking means s.opened list chain tip made → Q (made_into means.scheme s h list chain tip))
         → Q (machine.resolve means.scheme rules s h policy meta given others)
     resolve_made Q x after table opened h batch made s k sound keeps as_many making e each =
         with_told_staged members means x table opened h s (λ list. resolve_in means.scheme rules s h policy meta given others list) Q k batch e (λ list chain above ws keys tells named stands in_had among above_among is.
         subst (λ t. Q (cond t (merkleize_writes means.scheme rules s h policy meta list chain (slotted ws keys given others)) (refuse s (refusals.SlotCount (length keys) (length given)))))
         (sym (eq-eqb (length keys) (length given) (sym (as_many ∙ means.counted batch chain above ws keys is))))
         (each list chain (tip_of means.scheme rules chain (slotted ws keys given others) policy meta) (Holds-used members means x after table opened h s keeps k) in_had among
-        (making list chain above ws keys stands is tells (λ on. sound.floors list chain.base in_had among.base (base-begins list chain on (subst (IsSoundSlot s.had) named (sound.slots h)).1)))))
+        (making_of members means key value digest x s.opened list chain (tip_of means.scheme rules chain (slotted ws keys given others) policy meta) made (numbered-held members means s.opened x s.had s.database k.database) tells
+        (λ on. sound.floors list chain.base in_had among.base (base-begins list chain on (subst (IsSoundSlot s.had) named (sound.slots h)).1)) (making list chain above ws keys stands is))))
 
     -- one that is refused leaves what the number names
     pub resolve_refused : (x : X) (table : List (Slot B S M)) (opened h n : ℕ) (r : Refused) (s : State) → Holds members means (Database x) table opened s → n ≡ length given

@@ -1,6 +1,6 @@
 -- What a run holds, and the state of the machine that it stands for.
 use Rattle.std.specs.Prelude.{◌≡◌, ◌+◌, ◌≤◌, ℕ, List, [], ◌++◌, length, Contains, Option, Some, None, IfSome, slice_index_or}
-use Rattle.qm_model.specs.Causes.{Rose}
+use Rattle.qm_model.specs.Causes.{IsCause, Rose}
 use Rattle.qm_model.specs.Live.{floor}
 use Rattle.qm_model.specs.Operations.{Bytes, Operation}
 use Rattle.qm_model.specs.Batches.{IsAmong, Apart}
@@ -20,16 +20,17 @@ use Rattle.qm_engine.specs.declared.table.Slot.TheVariants.{Gone, Writing, Stage
 use Rattle.qm_engine.specs.declared.session.Session.{Session}
 use Rattle.qm_engine.specs.declared.session.Turn.{Turn}
 use Rattle.qm_engine.specs.declared.session.Turn.TheVariants.{Reply, Memory, StoreFault}
-use Rattle.qm_store.specs.Given.{store_given}
+use Rattle.qm_store.specs.Given.{store_given, IsUnchanged}
 use Rattle.qm_engine.specs.Stores.{IsStored, IsBeside, IsLeft}
 
 module _ {X C B S M : Type 0} (members : store.Ghosts C) (means : meaning.Ghosts X C B S M) where
-  -- the database stands for the machine's list, one of those that the run has had; without one there is a store alone
-  abbrev pub HeldIs : List (List Operation) → Given X C → Option (List Operation) → Type 0
-  HeldIs had (Database x) (Some list) = means.stands x list × Contains had list
-  HeldIs had (Database x) None = ⊥
-  HeldIs had (Store c) (Some list) = ⊥
-  HeldIs had (Store c) None = Unit {0}
+  -- the database stands for the machine's list, one of those that the run has had, and is the instance of this number; without one
+  -- there is a store alone
+  abbrev pub HeldIs : ℕ → List (List Operation) → Given X C → Option (List Operation) → Type 0
+  HeldIs number had (Database x) (Some list) = means.stands x list × Contains had list × means.numbered x number
+  HeldIs number had (Database x) None = ⊥
+  HeldIs number had (Store c) (Some list) = ⊥
+  HeldIs number had (Store c) None = Unit {0}
 
   -- a batch stands for the machine's batch of its number
   abbrev pub SlotIs : List (List Operation) → Slot B S M → machine.Slot → Type 0
@@ -41,7 +42,7 @@ module _ {X C B S M : Type 0} (members : store.Ghosts C) (means : meaning.Ghosts
 
   -- what is held stands for this state
   pub record Holds (held : Given X C) (table : List (Slot B S M)) (opened : ℕ) (s : State) : Type 0 where
-    pub database : HeldIs s.had held s.database
+    pub database : HeldIs s.opened s.had held s.database
     pub store : IsStored members means.scheme (store_given means.inside held) s.log
     pub start : s.log.start ≤ s.log.stable
     pub low : IfSome s.database (λ list. s.log.start ≤ floor list)
@@ -124,6 +125,13 @@ pub record Uses {C K V D : Type 0} (members : store.Ghosts C) (old new : C) (tur
   pub beside : beside_items (members.told new) ≡ beside_items (members.told old)
   pub later : members.faults old ≤ members.faults new
   pub fault : turn ≡ StoreFault → Rose (members.faults old) (members.faults new)
+
+-- A turn reads the database: what it stands for stays, and its store is as it was; where the turn is a fault of the store it tells so.
+pub record TurnReads {X C B S M K V D : Type 0} (members : store.Ghosts C) (means : meaning.Ghosts X C B S M) (old new : X) (turn : Turn K V D) : Type 0 where
+  pub same : (list : List Operation) → means.stands old list → means.stands new list
+  pub numbered : (n : ℕ) → means.numbered old n → means.numbered new n
+  pub store : IsUnchanged members (means.inside old) (means.inside new)
+  pub faults : IsCause (members.faults (means.inside old)) (members.faults (means.inside new)) (turn ≡ StoreFault)
 
 -- A turn handles the store: it puts no metadata, and no restart chooses an end; the count has not fallen, and it rose where a
 -- fault is told.

@@ -1,17 +1,10 @@
 -- What a store tells, as the machine has it.
-use Rattle.std.specs.Prelude.{◌≡◌, ◌-◌, ◌⊎◌, ◌≤◌, ◌<◌, ◌==◌, ◌^◌, ℕ, zero, suc, min, nat_lt, if◌then◌else◌, List, [], ◌++◌, length, map, take, drop, All, true, Option, Some}
-use Rattle.std.specs.List.{concat}
-use Rattle.qm_model.specs.Operations.{Bytes, Operation, fresh}
-use Rattle.qm_model.specs.Forms.{IsOf, spelling}
-use Rattle.qm_model.specs.Ordered.{IsRing}
+use Rattle.std.specs.Prelude.{◌≡◌, ◌⊎◌, ◌≤◌, ◌<◌, ◌==◌, ℕ, min, if◌then◌else◌, List, [], ◌++◌, length, take, drop, Option, Some}
 use Rattle.qm_model.specs.Policies.{policies}
-use Rattle.qm_model.specs.Proofs.{pins_at}
-use Rattle.qm_model.specs.Step.{IsGood}
-use Rattle.qm_model.specs.Opening.{found, selected, size_of}
 use Rattle.qm_model.specs.Own.{Log, no_log}
 use Rattle.qm_model.specs.Own as own
-use Rattle.qm_model.specs.StoreModel.{Stored, end_of, appended, settled, rewound, pruned, HasAppended, RewindLeaves, IsImage, IsOldOrNew, ReadsAs}
-use Rattle.qm_model.specs.Schemes.{Scheme, engine_of, layout_of}
+use Rattle.qm_model.specs.StoreModel.{Stored}
+use Rattle.qm_model.specs.Schemes.{Scheme, engine_of}
 use Rattle.qm_store.specs.declared.Store as store
 
 -- what is told is a store that has a log, by a machine's spelling and hash

@@ -17,13 +17,13 @@ ghost use Rattle.qm_model.specs.Own.{Log, IsOwn};
 ghost use Rattle.qm_model.specs.StoreModel.{Turns};
 ghost use Rattle.qm_engine.specs.Answered.{after_line, IsAnswered};
 
-use qm_offer::Engine;
 use crate::runs::begin;
 use crate::session::{SessionOf, Turn, returned};
 use crate::turns::turn;
 use qm_base::{ByteKey, ByteString, ByteValue, Digest, Gate, Twin};
 use qm_chain::Policy;
 use qm_lines::{AnyPolicy, Command, Reply, next_line, parse_line, reply_text};
+use qm_offer::Engine;
 use qm_store::Store;
 use std::alloc::{AllocError, Global};
 

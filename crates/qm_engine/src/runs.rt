@@ -14,13 +14,13 @@ ghost use Rattle.qm_model.specs.Own.{Log, IsOwn};
 ghost use Rattle.qm_model.specs.StoreModel.{Turns};
 ghost use Rattle.qm_engine.specs.Runs.{IsRun};
 
-use qm_offer::{Common, Engine};
-use crate::session::{SessionOf, Session, Turn, returned};
+use crate::session::{Session, SessionOf, Turn, returned};
 use crate::table::{Slot, push_slot};
 use crate::turns::turn;
 use qm_base::{Gate, Twin};
 use qm_chain::Policy;
 use qm_lines::{Command, Reply};
+use qm_offer::{Common, Engine};
 use qm_store::{Given, Store};
 use std::alloc::{AllocError, Global};
 

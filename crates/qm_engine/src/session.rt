@@ -4,10 +4,10 @@ ghost use Rattle.qm_model.specs.StoreModel.{end_of};
 ghost use Rattle.qm_store.specs.Given.{store_given};
 ghost use Rattle.qm_engine.specs.Turn.{turn_of_tree, turn_of_log, turn_of_error};
 
-use qm_offer::{Durable, Meaning};
 use crate::table::Slot;
 use qm_base::{Error, JournalError, MerkleError};
 use qm_lines::{LogRefused, Refused, Reply, TreeRefused};
+use qm_offer::{Durable, Meaning};
 use qm_store::{Given, Store};
 
 /// The database or its store, the batches, and how many openings were accepted.

@@ -11,8 +11,7 @@ mod proofs;
 mod reads;
 mod staged;
 
-use qm_offer::{Batching, Engine, Durable, Neighbours, Proving, Reading, Staging};
-use crate::session::{SessionOf, Session, Turn};
+use crate::session::{Session, SessionOf, Turn};
 use crate::table::Slot;
 use batches::{apply, batch, child, merkleize, put, tip};
 use lasting::{close, commit, crash, destroy, open, prune, sync};
@@ -21,6 +20,7 @@ use proofs::{batch_proof, pins, prove};
 use qm_base::Twin;
 use qm_chain::Policy;
 use qm_lines::{BatchCommand, Command, InfoCommand, ReadCommand, StoreCommand};
+use qm_offer::{Batching, Durable, Engine, Neighbours, Proving, Reading, Staging};
 use qm_store::{Given, Store};
 use reads::{batch_info, batch_root, current, info, meta, ops, read, read_key, root};
 use staged::{expand, resolve, stage};
@@ -117,7 +117,7 @@ fn info_turn<X: Reading<C> + Proving<C>, C: Store, P: Policy<X::Family, X::Key, 
         InfoCommand::Ops(number) => ops::<X, C>(alloc, session, *number),
         InfoCommand::Info => info::<X, C>(session),
         InfoCommand::BatchInfo(number) => batch_info::<X, C>(session, *number),
-        InfoCommand::Root => root::<X, C>(alloc, session),
+        InfoCommand::Root => root::<X, C>(session),
         InfoCommand::BatchRoot(number) => batch_root::<X, C>(session, *number),
         InfoCommand::BatchProof(number) => batch_proof::<X, C>(alloc, session, *number),
         InfoCommand::Meta => meta::<X, C>(alloc, session),

@@ -1,23 +1,22 @@
 // Commands that make, fill and apply batches.
-ghost use Rattle.std.specs.Prelude.{◌≡◌, ◌≤◌, ◌++◌, ◌∷◌, [], ◌≢◌, List, Some, None, option_map, Contains, IfOk, IsErrOf, ℕ};
-ghost use Rattle.qm_model.specs.Live.{floor};
+ghost use Rattle.std.specs.Prelude.{◌≡◌, ◌++◌, ◌∷◌, [], ◌≢◌, List, Some, None, option_map, Contains, IfOk, IsErrOf, ℕ};
 ghost use Rattle.qm_model.specs.Operations.{Operation};
 ghost use Rattle.qm_model.specs.Writes.{Write};
-ghost use Rattle.qm_model.specs.Batches.{Chain, IsAmong, IsOnChain};
+ghost use Rattle.qm_model.specs.Batches.{Chain, IsAmong};
 ghost use Rattle.qm_machine.specs.Machine.{State};
 ghost use Rattle.qm_machine.specs.Machine as machine;
-ghost use Rattle.qm_store.specs.Given.{store_given, IsUnchanged, TellsFrom};
-ghost use Rattle.qm_offer.specs.Words.{AtBatch, ReadsOnly, tip_of};
+ghost use Rattle.qm_store.specs.Given.{store_given, IsUnchanged};
+ghost use Rattle.qm_offer.specs.Words.{AtBatch, Makes, ReadsOnly, tip_of};
 ghost use Rattle.qm_engine.specs.Making.{IsMaking, made_into};
 ghost use Rattle.qm_engine.specs.Session.{SlotIs, Stands, Follows, Obeys, ObeysSteady, ObeysHeldSteady, LeavesHeldSteady, Uses};
 
-use qm_offer::{Common, Batching};
 use crate::session::{SessionOf, Turn, no_database, no_such_handle, turn_of};
 use crate::table::{Slot, merkleized_at, push_slot, put_slot, take_writing};
 use crate::turns::lasting::without_database;
 use qm_base::{ByteString, Error, JournalError, Twin};
 use qm_chain::Policy;
 use qm_lines::Reply;
+use qm_offer::{Batching, Common};
 use qm_store::{Given, Store};
 use std::alloc::{AllocError, Global};
 
@@ -147,9 +146,9 @@ fn merkleize_batch<X: Batching<C>, C: Store, P: Policy<X::Family, X::Key, X::Val
     policy: &P,
     metadata: &Option<X::Value>,
 ) -> Result<X::Merkleized, Error>
-    ensures made { AtBatch X.Meaning database.old batch (λ list chain above ws. TellsFrom C.Store (X.inside database.old) list → (IsOnChain list chain → floor list ≤ floor chain.base)
-        → IsMaking X.Meaning list chain (tip_of X.scheme P.rules chain ws policy.now (option_map X.Value.bytes metadata.now)) result) }
-    ensures reads { ReadsOnly X.Meaning C.Store database.old database.new (IsErrOf result (Error.Journal JournalError.Store)) }
+    ensures made { AtBatch X.Meaning database.old batch (λ list chain above ws.
+        Makes X.Meaning C.Store database.old list chain (tip_of X.scheme P.rules chain ws policy.now (option_map X.Value.bytes metadata.now)) result) }
+    ensures reads { ReadsOnly X.Meaning C.Store database.old database.new result }
 {
     let mut policy = policy.twin(alloc)?;
     database.merkleize(alloc, batch, &mut policy, metadata)
@@ -163,7 +162,7 @@ pub fn put_made<X: Batching<C>, C: Store>(
 ) -> Turn<X::Key, X::Value, X::Digest>
     ensures machine { (s : State) (list : List Operation) (chain : Chain) (tip : List Operation)
         → Stands C.Store X.Meaning session.old (machine.with_slot s number machine.gone) → Contains s.had list → IsAmong s.had chain
-        → IsMaking X.Meaning list chain tip made
+        → IsMaking X.Meaning s.opened list chain tip made
         → Follows C.Store X.Meaning X.Key.bytes X.Value.bytes X.Digest.bytes session.new result (made_into X.scheme s number list chain tip) }
     ensures rest { session.new ≡ record session.old { table = session.new.table } }
     ensures fault { result ≡ Turn.StoreFault → IsErrOf made (Error.Journal JournalError.Store) }

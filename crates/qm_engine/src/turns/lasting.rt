@@ -6,11 +6,11 @@ ghost use Rattle.qm_store.specs.Given.{store_given};
 ghost use Rattle.qm_engine.specs.Session.{ObeysHeld, ObeysHeldSteady, LeavesHeld, LeavesHeldSteady, Handles, HandlesLine};
 ghost use Rattle.qm_engine.specs.Turn.{given_after, turn_settled};
 
-use qm_offer::{Common, Durable};
 use crate::session::{Turn, into_store, no_database, turn_of};
 use qm_base::Error;
 use qm_chain::Policy;
 use qm_lines::{Refused, Reply};
+use qm_offer::{Common, Durable};
 use qm_store::{Given, Refusal, Store};
 use std::alloc::Global;
 
@@ -29,7 +29,7 @@ pub fn open<X: Durable<C>, C: Store>(
     ensures opened { opened.new ≤ opened.old + 1 }
 {
     let store = into_store::<X, C>(held);
-    match X::open(alloc, store, config, max_size) {
+    match X::open(alloc, store, config, max_size, *opened + 1) {
         Ok(x) => {
             let numbers = x.info();
             *opened += 1;

@@ -1,5 +1,5 @@
 // Commands that only an ordered database offers.
-ghost use Rattle.std.specs.Prelude.{◌≡◌, true, List, IfOk, IfErr, IsErrOf, option_map};
+ghost use Rattle.std.specs.Prelude.{◌≡◌, true, List, IfOk, IfErr, option_map};
 ghost use Rattle.qm_model.specs.Operations.{Operation};
 ghost use Rattle.qm_model.specs.Live.{live_keys};
 ghost use Rattle.qm_model.specs.Batches.{IsKnown};
@@ -7,14 +7,14 @@ ghost use Rattle.qm_machine.specs.Machine as machine;
 ghost use Rattle.qm_lines.specs.Views.{answer_view};
 ghost use Rattle.qm_store.specs.Given.{store_given, IsUnchanged, TellsFrom};
 ghost use Rattle.qm_engine.specs.Ordered.{key_beside, answer_to};
-ghost use Rattle.qm_engine.specs.Session.{Obeys, IfReply, Uses};
+ghost use Rattle.qm_engine.specs.Session.{Obeys, IfReply, TurnReads, Uses};
 ghost use Rattle.qm_offer.specs.Words.{AtTip, CanRead, IsReadFailure, ReadsOnly};
 
-use qm_offer::Neighbours;
 use crate::session::{SessionOf, Turn, no_database, no_such_handle, turn_of};
 use crate::table::merkleized_at;
-use qm_base::{Error, JournalError};
+use qm_base::Error;
 use qm_lines::{Refused, Reply};
+use qm_offer::Neighbours;
 use qm_store::{Given, Store};
 use std::alloc::Global;
 use std::ops::Bound;
@@ -49,7 +49,7 @@ fn reply_to<X: Neighbours<C>, C: Store>(
 ) -> Turn<X::Key, X::Value, X::Digest>
     ensures reply { IfReply result (λ r. X.scheme.form.ordered ≡ true → (list : List Operation) → X.stands database.old list → TellsFrom C.Store (X.inside database.old) list
         → answer_view X.Key.bytes X.Value.bytes X.Digest.bytes r ≡ answer_to X.Key.bytes question.entry list) }
-    ensures reads { ReadsOnly X.Meaning C.Store database.old database.new (result ≡ Turn.StoreFault) }
+    ensures reads { TurnReads C.Store X.Meaning database.old database.new result }
 {
     match question {
         Question::Beside(Side::Above, key) => match database.next(alloc, key) {
@@ -112,7 +112,7 @@ fn beside_from<X: Neighbours<C>, C: Store>(
     ensures beside { IfOk result (λ k. X.scheme.form.ordered ≡ true → AtTip X.Meaning database.old batch.now (λ list chain tip. IsKnown list chain tip
         → option_map X.Key.bytes k ≡ key_beside side (X.Key.bytes key.now) (live_keys tip))) }
     ensures failure { IfErr result (λ e. AtTip X.Meaning database.old batch.now (λ list chain tip. IsReadFailure X.Meaning (TellsFrom C.Store (X.inside database.old) list) list chain tip e)) }
-    ensures reads { ReadsOnly X.Meaning C.Store database.old database.new (IsErrOf result (Error.Journal JournalError.Store)) }
+    ensures reads { ReadsOnly X.Meaning C.Store database.old database.new result }
 {
     match side {
         Side::Above => database.next_from(alloc, batch, key),

@@ -5,10 +5,10 @@ ghost use Rattle.qm_machine.specs.Machine as machine;
 ghost use Rattle.qm_store.specs.Given.{store_given, IsUnchanged};
 ghost use Rattle.qm_engine.specs.Session.{Obeys, Tells, Uses};
 
-use qm_offer::Proving;
 use crate::session::{SessionOf, Turn, no_database, no_such_handle, turn_of};
 use crate::table::merkleized_at;
 use qm_lines::Reply;
+use qm_offer::Proving;
 use qm_proofs::Proof;
 use qm_store::{Given, Store};
 use std::alloc::Global;

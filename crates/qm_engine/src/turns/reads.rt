@@ -1,17 +1,17 @@
 // Commands that read, list and tell.
-ghost use Rattle.std.specs.Prelude.{◌≡◌, ◌≢◌, ◌∷◌, [], List, Some, None, map, Contains, IfOk};
+ghost use Rattle.std.specs.Prelude.{◌≡◌, ◌≢◌, ◌∷◌, [], List, ℕ, Some, None, map, Contains, IfOk};
 ghost use Rattle.qm_model.specs.Operations.{Operation};
-ghost use Rattle.qm_model.specs.Refused as refusals;
+ghost use Rattle.qm_machine.specs.Lines.{Question};
 ghost use Rattle.qm_machine.specs.Machine.{State};
 ghost use Rattle.qm_machine.specs.Machine as machine;
 ghost use Rattle.qm_store.specs.Given.{store_given, IsUnchanged, TellsFrom};
 ghost use Rattle.qm_engine.specs.Session.{SlotIs, Answers, Obeys, Tells, Uses};
 
-use qm_offer::{Common, BatchSizes, Numbers, Reading};
 use crate::session::{SessionOf, Turn, no_database, no_such_handle, turn_of};
 use crate::table::{Slot, merkleized_at, slot_at};
 use qm_base::ByteString;
 use qm_lines::{Refused, Reply};
+use qm_offer::{BatchSizes, Common, Numbers, Reading, Roots};
 use qm_store::{Given, Store};
 use std::alloc::{AllocError, Global};
 
@@ -27,6 +27,7 @@ fn read_slot<X: Reading<C>, C: Store>(
         → SlotIs C.Store X.Meaning s.had slot.now named
         → Answers C.Store X.Meaning X.Key.bytes X.Value.bytes X.Digest.bytes result s (machine.read_in X.scheme s number (map X.Key.bytes keys.now) list named) }
     ensures same { (list : List Operation) → X.stands database.old list → X.stands database.new list }
+    ensures numbered { (n : ℕ) → X.numbered database.old n → X.numbered database.new n }
     ensures store { IsUnchanged C.Store (X.inside database.old) (X.inside database.new) }
     ensures uses { Uses C.Store (X.inside database.old) (X.inside database.new) result }
 {
@@ -119,10 +120,12 @@ pub fn ops<X: Reading<C>, C: Store>(
     }
 }
 
-/// What only a current database offers.
-pub fn current<X: Common<C>, C: Store>(session: &SessionOf<X, C>) -> Turn<X::Key, X::Value, X::Digest>
-    ensures machine { Tells C.Store X.Meaning X.Key.bytes X.Value.bytes X.Digest.bytes session.now result
-        (λ s. machine.refuse s refusals.NotOffered) }
+/// What only a current database offers: this one has no chunks of bits.
+pub fn current<X: Common<C>, C: Store>(
+    session: &SessionOf<X, C>,
+) -> Turn<X::Key, X::Value, X::Digest>
+    ensures machine { (question : Question) → Tells C.Store X.Meaning X.Key.bytes X.Value.bytes X.Digest.bytes session.now result
+        (λ s. machine.current X.scheme s question) }
     ensures never { result ≢ Turn.StoreFault }
 {
     Turn::Reply(Reply::Refused(Refused::NotOffered))
@@ -168,11 +171,8 @@ pub fn batch_info<X: Common<C>, C: Store>(
     Turn::Reply(Reply::BatchInfo(base, tip, floor, boundary))
 }
 
-/// The root of the database.
-pub fn root<X: Reading<C>, C: Store>(
-    alloc: Global,
-    session: &SessionOf<X, C>,
-) -> Turn<X::Key, X::Value, X::Digest>
+/// The roots of the database.
+pub fn root<X: Reading<C>, C: Store>(session: &SessionOf<X, C>) -> Turn<X::Key, X::Value, X::Digest>
     ensures machine { Tells C.Store X.Meaning X.Key.bytes X.Value.bytes X.Digest.bytes session.now result
         (machine.root X.scheme) }
     ensures never { result ≢ Turn.StoreFault }
@@ -180,13 +180,11 @@ pub fn root<X: Reading<C>, C: Store>(
     let Given::Database(x) = &session.held else {
         return no_database();
     };
-    match x.root(alloc) {
-        Err(_) => Turn::Memory,
-        Ok(root) => Turn::Reply(Reply::Root(root, root)),
-    }
+    let Roots { root, operations } = x.root();
+    Turn::Reply(Reply::Root(root, operations))
 }
 
-/// The root of the list that a merkleized batch makes.
+/// The roots of the list that a merkleized batch makes.
 pub fn batch_root<X: Reading<C>, C: Store>(
     session: &SessionOf<X, C>,
     number: u64,
@@ -198,8 +196,8 @@ pub fn batch_root<X: Reading<C>, C: Store>(
     let Some(batch) = merkleized_at(&session.table, number) else {
         return no_such_handle(number);
     };
-    let root = X::batch_root(batch);
-    Turn::Reply(Reply::Root(root, root))
+    let Roots { root, operations } = X::batch_root(batch);
+    Turn::Reply(Reply::Root(root, operations))
 }
 
 /// The metadata of the list's last commit.

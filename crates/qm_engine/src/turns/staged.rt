@@ -1,23 +1,20 @@
 // Commands of staged reads.
-ghost use Rattle.std.specs.Prelude.{◌≡◌, ◌≢◌, ◌≤◌, Some, None, length, map, option_map, slice_index_or, slice_set, IfOk, IfErr, IsErrOf, MatchOption};
+ghost use Rattle.std.specs.Prelude.{◌≡◌, ◌≢◌, Some, None, length, map, option_map, slice_index_or, slice_set, IfOk, IfErr, MatchOption};
 ghost use Rattle.qm_base.specs.Slots.{slot_views, write_views};
-ghost use Rattle.qm_model.specs.Batches.{IsOnChain};
-ghost use Rattle.qm_model.specs.Live.{floor};
 ghost use Rattle.qm_model.specs.Slots.{slotted};
 ghost use Rattle.qm_machine.specs.Machine as machine;
-ghost use Rattle.qm_store.specs.Given.{store_given, IsUnchanged, TellsFrom};
+ghost use Rattle.qm_store.specs.Given.{store_given, IsUnchanged};
 ghost use Rattle.qm_engine.specs.Table.{staged_of};
-ghost use Rattle.qm_offer.specs.Words.{AtStaged, ReadsOnly, tip_of};
-ghost use Rattle.qm_engine.specs.Making.{IsMaking};
+ghost use Rattle.qm_offer.specs.Words.{AtStaged, Makes, ReadsOnly, tip_of};
 ghost use Rattle.qm_engine.specs.Session.{Obeys, ObeysSteady, Uses};
 
 use super::batches::put_made;
-use qm_offer::Staging;
 use crate::session::{SessionOf, Turn, no_database, no_such_handle, turn_of};
 use crate::table::{Slot, put_slot, take_staged, take_writing};
-use qm_base::{Error, JournalError, Resolution, Twin};
+use qm_base::{Error, Resolution, Twin};
 use qm_chain::Policy;
 use qm_lines::{Refused, Reply};
+use qm_offer::Staging;
 use qm_store::{Given, Store};
 use std::alloc::Global;
 
@@ -111,9 +108,10 @@ fn resolve_batch<X: Staging<C>, C: Store, P: Policy<X::Family, X::Key, X::Value>
     metadata: &Option<X::Value>,
 ) -> Result<X::Merkleized, Error>
     requires { length resolution.now.slots.items ≡ X.count batch }
-    ensures made { AtStaged X.Meaning database.old batch (λ list chain above ws keys. TellsFrom C.Store (X.inside database.old) list → (IsOnChain list chain → floor list ≤ floor chain.base)
-        → IsMaking X.Meaning list chain (tip_of X.scheme P.rules chain (slotted ws keys (slot_views X.Value.bytes resolution.now.slots.items) (write_views X.Key.bytes X.Value.bytes resolution.now.others.items)) policy.now (option_map X.Value.bytes metadata.now)) result) }
-    ensures reads { ReadsOnly X.Meaning C.Store database.old database.new (IsErrOf result (Error.Journal JournalError.Store)) }
+    ensures made { AtStaged X.Meaning database.old batch (λ list chain above ws keys.
+        let writes = slotted ws keys (slot_views X.Value.bytes resolution.now.slots.items) (write_views X.Key.bytes X.Value.bytes resolution.now.others.items) in
+        Makes X.Meaning C.Store database.old list chain (tip_of X.scheme P.rules chain writes policy.now (option_map X.Value.bytes metadata.now)) result) }
+    ensures reads { ReadsOnly X.Meaning C.Store database.old database.new result }
 {
     let mut policy = policy.twin(alloc)?;
     database.resolve(alloc, batch, resolution, &mut policy, metadata)

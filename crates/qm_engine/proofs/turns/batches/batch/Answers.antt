@@ -8,4 +8,4 @@ pub returns-in-Err : goal.returns-in-Err
 returns-in-Err g c = no_room g.C.Store g.X.Meaning g.X.Key.ByteString.bytes g.X.Value.ByteString.bytes g.X.Digest.Digest.bytes c.args.session.now start_batch
 
 pub returns-in_default : goal.returns-in_default
-returns-in_default g c = none_begun g.C.Store g.X.Meaning g.X.Key.ByteString.bytes g.X.Value.ByteString.bytes g.X.Digest.Digest.bytes c.args.session.now (λ s list. started s (writing (begun_on list) (begun_on list) [])) c.in_default.is c.no_database.ensures
+returns-in_default g c = none_begun g.C.Store g.X.Meaning g.X.Key.ByteString.bytes g.X.Value.ByteString.bytes g.X.Digest.Digest.bytes c.args.session.now (λ s list. started s (writing (begun_on s.opened list) (begun_on s.opened list) [])) c.in_default.is c.no_database.ensures

@@ -10,18 +10,18 @@ returns-in-Store-clause-handles g c = rw (c.in-Store.is, c.without_database.ensu
 
 pub returns-in-Ok-clause-machine : goal.returns-in-Ok-clause-machine
 returns-in-Ok-clause-machine g c = λ table opened s k.
-    destroyed_turn g.C.Store g.X.Meaning g.X.Key.ByteString.bytes g.X.Value.ByteString.bytes g.X.Digest.Digest.bytes c.in-Database.x table opened s (rw c.in-Database.is at k) g.met.X.Common.bare c.in-Ok.store c.in-Ok.ensures.start c.in-Ok.ensures.told
+    destroyed_turn g.C.Store g.X.Meaning g.X.Key.ByteString.bytes g.X.Value.ByteString.bytes g.X.Digest.Digest.bytes c.in-Database.x table opened s (rw c.in-Database.is at k) (g.met.X.Common.bare, g.met.X.Common.plain) c.in-Ok.store c.in-Ok.ensures.start c.in-Ok.ensures.told
 
 pub returns-in-Ok-clause-left : goal.returns-in-Ok-clause-left
 returns-in-Ok-clause-left g c = λ table opened s k apart.
-    destroyed_left g.C.Store g.X.Meaning g.X.Key.ByteString.bytes g.X.Value.ByteString.bytes g.X.Digest.Digest.bytes c.in-Database.x table opened s (rw c.in-Database.is at k) g.met.X.Common.bare c.in-Ok.store c.in-Ok.ensures.told
+    destroyed_left g.C.Store g.X.Meaning g.X.Key.ByteString.bytes g.X.Value.ByteString.bytes g.X.Digest.Digest.bytes c.in-Database.x table opened s (rw c.in-Database.is at k) (g.met.X.Common.bare, g.met.X.Common.plain) c.in-Ok.store c.in-Ok.ensures.told
 
 pub returns-in-Ok-clause-handles : goal.returns-in-Ok-clause-handles
 returns-in-Ok-clause-handles g c = rw c.in-Database.is (destroyed_handles g.C.Store g.X.Meaning g.X.Key.ByteString.bytes g.X.Value.ByteString.bytes g.X.Digest.Digest.bytes c.in-Database.x c.in-Ok.store c.in-Ok.ensures.told c.in-Ok.ensures.later)
 
 pub returns-in-Err-clause-left : goal.returns-in-Err-clause-left
 returns-in-Err-clause-left g c = λ table opened s k apart.
-    undestroyed_left g.C.Store g.X.Meaning g.X.Key.ByteString.bytes g.X.Value.ByteString.bytes g.X.Digest.Digest.bytes c.in-Database.x table opened s (rw c.in-Database.is at k) g.met.X.Common.bare c.in-Err.field-0 c.in-Err.ensures.failed
+    undestroyed_left g.C.Store g.X.Meaning g.X.Key.ByteString.bytes g.X.Value.ByteString.bytes g.X.Digest.Digest.bytes c.in-Database.x table opened s (rw c.in-Database.is at k) (g.met.X.Common.bare, g.met.X.Common.plain) c.in-Err.field-0 c.in-Err.ensures.failed
 
 pub returns-in-Err-clause-handles : goal.returns-in-Err-clause-handles
 returns-in-Err-clause-handles g c = rw (c.in-Database.is, c.turn_of.ensures) (undestroyed_handles g.C.Store g.X.Meaning g.X.Key.ByteString.bytes g.X.Value.ByteString.bytes g.X.Digest.Digest.bytes c.in-Database.x c.in-Err.field-0 c.in-Err.ensures.failed)

@@ -17,4 +17,4 @@ returns-in_default g c =
 pub returns : goal.returns
 returns g c =
     asked g.C.Store g.X.Meaning g.X.Key.ByteString.bytes g.X.Value.ByteString.bytes g.X.Digest.Digest.bytes c.args.session.now
-    c.in-Database.is c.reply_to.ensures.reads (answer_to g.X.Key.ByteString.bytes c.args.question) (sym c.is_ordered.ensures ∙ c.if-not-is_ordered.false) c.reply_to.result (λ e. e) c.reply_to.ensures.reply
+    c.in-Database.is c.reply_to.result c.reply_to.ensures.reads (answer_to g.X.Key.ByteString.bytes c.args.question) (sym c.is_ordered.ensures ∙ c.if-not-is_ordered.false) c.reply_to.ensures.reply

@@ -16,13 +16,13 @@ returns-in-Ok g c =
     stayed_ok g.C.Store g.X.Meaning g.X.Key.ByteString.bytes g.X.Value.ByteString.bytes g.X.Digest.Digest.bytes c.args.session.now c.in-Database.is c.prove.ensures.reads (λ s. prove g.X.Meaning.scheme s c.args.size c.args.start (non_zero_u64_get c.args.max)) (replies.Proof c.in-Ok.proof.leaves c.in-Ok.proof.inactive_peaks c.in-Ok.proof.digests c.in-Ok.operations)
     (λ s held _. prove_ok g.C.Store g.X.Meaning g.X.Key.ByteString.bytes g.X.Value.ByteString.bytes g.X.Digest.Digest.bytes c.in-Database.x c.prove.new.self c.args.session.now.table.items c.args.session.now.opened c.args.size c.args.start (non_zero_u64_get c.args.max)
     (proof_view g.X.Digest.Digest.bytes c.in-Ok.proof) (map (listed_view g.X.Key.ByteString.bytes g.X.Value.ByteString.bytes) c.in-Ok.operations.items) s held
-    c.prove.ensures.reads.same c.prove.ensures.reads.store c.in-Ok.ensures.offered c.in-Ok.ensures.proof c.in-Ok.ensures.ops)
+    (c.prove.ensures.reads.same, c.prove.ensures.reads.store, c.prove.ensures.reads.numbered) c.in-Ok.ensures.offered c.in-Ok.ensures.proof c.in-Ok.ensures.ops)
 
 pub returns-in-Err : goal.returns-in-Err
 returns-in-Err g c =
     stayed_err g.C.Store g.X.Meaning g.X.Key.ByteString.bytes g.X.Value.ByteString.bytes g.X.Digest.Digest.bytes c.args.session.now c.in-Database.is c.prove.ensures.reads (λ s. prove g.X.Meaning.scheme s c.args.size c.args.start (non_zero_u64_get c.args.max)) c.in-Err.error c.in-Err.is c.turn_of.ensures
     (λ s held. prove_err g.C.Store g.X.Meaning g.X.Key.ByteString.bytes g.X.Value.ByteString.bytes g.X.Digest.Digest.bytes c.in-Database.x c.prove.new.self c.args.session.now.table.items c.args.session.now.opened c.args.size c.args.start (non_zero_u64_get c.args.max) c.in-Err.error s held
-    c.prove.ensures.reads.same c.prove.ensures.reads.store c.in-Err.ensures.refused)
+    (c.prove.ensures.reads.same, c.prove.ensures.reads.store, c.prove.ensures.reads.numbered) c.in-Err.ensures.refused)
 
 pub returns-in_default : goal.returns-in_default
 returns-in_default g c =

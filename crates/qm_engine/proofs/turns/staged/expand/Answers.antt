@@ -16,7 +16,7 @@ returns-in-Ok g c =
     let range = c.in-Ok.ensures.range in
     moved_ok g.C.Store g.X.Meaning g.X.Key.ByteString.bytes g.X.Value.ByteString.bytes g.X.Digest.Digest.bytes c.args.session.now c.in-Database.is c.expand.ensures.reads (λ s. expand g.X.Meaning.scheme s c.args.number keys) c.args.number (Staged c.in-Ok.batch) c.put_slot.ensures c.in-Some.ensures.table (Expanded c.in-Ok.range.start c.in-Ok.range.end c.in-Ok.values)
     (λ s held. expand_ok g.C.Store g.X.Meaning g.X.Key.ByteString.bytes g.X.Value.ByteString.bytes g.X.Digest.Digest.bytes c.in-Database.x c.expand.new.self c.args.session.now.table.items c.args.session.now.opened c.args.number keys
-    c.in-Some.batch c.in-Ok.batch (Expanded c.in-Ok.range.start c.in-Ok.range.end c.in-Ok.values) (map (option_map g.X.Value.ByteString.bytes) c.in-Ok.values.items) s held (c.expand.ensures.reads.same, c.expand.ensures.reads.store)
+    c.in-Some.batch c.in-Ok.batch (Expanded c.in-Ok.range.start c.in-Ok.range.end c.in-Ok.values) (map (option_map g.X.Value.ByteString.bytes) c.in-Ok.values.items) s held (c.expand.ensures.reads.same, c.expand.ensures.reads.store, c.expand.ensures.reads.numbered)
     (expanded_is (map (option_map g.X.Value.ByteString.bytes) c.in-Ok.values.items) range.0 range.1 (length-map c.args.keys.now g.X.Key.ByteString.bytes))
     c.in-Ok.ensures.readable
     (λ list chain above ws staged stands is known. let facts = c.in-Ok.ensures.values list chain above ws staged stands is known in (facts.0 ∙ map-through g.X.Key.ByteString.bytes (read_through chain.base ws) c.args.keys.now, facts.1))
@@ -27,7 +27,7 @@ returns-in-Err g c =
     let keys = map g.X.Key.ByteString.bytes c.args.keys.now in
     moved_err g.C.Store g.X.Meaning g.X.Key.ByteString.bytes g.X.Value.ByteString.bytes g.X.Digest.Digest.bytes c.args.session.now c.in-Database.is c.expand.ensures.reads (λ s. expand g.X.Meaning.scheme s c.args.number keys) c.args.number c.in-Some.ensures.table c.in-Err.error c.in-Err.is c.turn_of.ensures
     (λ s held. expand_err g.C.Store g.X.Meaning g.X.Key.ByteString.bytes g.X.Value.ByteString.bytes g.X.Digest.Digest.bytes c.in-Database.x c.expand.new.self c.args.session.now.table.items c.args.session.now.opened c.args.number keys
-    c.in-Some.batch c.in-Err.error s held (c.expand.ensures.reads.same, c.expand.ensures.reads.store) c.in-Err.ensures.failure (sym c.in-Some.ensures.value))
+    c.in-Some.batch c.in-Err.error s held (c.expand.ensures.reads.same, c.expand.ensures.reads.store, c.expand.ensures.reads.numbered) c.in-Err.ensures.failure (sym c.in-Some.ensures.value))
 
 pub returns-in_default : goal.returns-in_default
 returns-in_default g c =

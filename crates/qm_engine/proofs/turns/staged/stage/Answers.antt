@@ -14,7 +14,7 @@ returns-in-Ok g c =
     let keys = map g.X.Key.ByteString.bytes c.args.keys.now in
     moved_ok g.C.Store g.X.Meaning g.X.Key.ByteString.bytes g.X.Value.ByteString.bytes g.X.Digest.Digest.bytes c.args.session.now c.in-Database.is c.stage.ensures.reads (λ s. stage g.X.Meaning.scheme s c.args.number keys) c.args.number (Staged c.in-Ok.batch) c.put_slot.ensures c.in-Some.ensures.table (Read c.in-Ok.values)
     (λ s held. stage_ok g.C.Store g.X.Meaning g.X.Key.ByteString.bytes g.X.Value.ByteString.bytes g.X.Digest.Digest.bytes c.in-Database.x c.stage.new.self c.args.session.now.table.items c.args.session.now.opened c.args.number keys
-    c.in-Some.batch c.in-Ok.batch (Read c.in-Ok.values) (map (option_map g.X.Value.ByteString.bytes) c.in-Ok.values.items) s held (c.stage.ensures.reads.same, c.stage.ensures.reads.store) refl
+    c.in-Some.batch c.in-Ok.batch (Read c.in-Ok.values) (map (option_map g.X.Value.ByteString.bytes) c.in-Ok.values.items) s held (c.stage.ensures.reads.same, c.stage.ensures.reads.store, c.stage.ensures.reads.numbered) refl
     c.in-Ok.ensures.readable
     (λ list chain above ws stands is known. let facts = c.in-Ok.ensures.values list chain above ws stands is known in (facts.0 ∙ map-through g.X.Key.ByteString.bytes (read_through chain.base ws) c.args.keys.now, facts.1))
     (sym c.in-Some.ensures.value))
@@ -24,7 +24,7 @@ returns-in-Err g c =
     let keys = map g.X.Key.ByteString.bytes c.args.keys.now in
     moved_err g.C.Store g.X.Meaning g.X.Key.ByteString.bytes g.X.Value.ByteString.bytes g.X.Digest.Digest.bytes c.args.session.now c.in-Database.is c.stage.ensures.reads (λ s. stage g.X.Meaning.scheme s c.args.number keys) c.args.number c.in-Some.ensures.table c.in-Err.error c.in-Err.is c.turn_of.ensures
     (λ s held. stage_err g.C.Store g.X.Meaning g.X.Key.ByteString.bytes g.X.Value.ByteString.bytes g.X.Digest.Digest.bytes c.in-Database.x c.stage.new.self c.args.session.now.table.items c.args.session.now.opened c.args.number keys
-    c.in-Some.batch c.in-Err.error s held (c.stage.ensures.reads.same, c.stage.ensures.reads.store) c.in-Err.ensures.failure (sym c.in-Some.ensures.value))
+    c.in-Some.batch c.in-Err.error s held (c.stage.ensures.reads.same, c.stage.ensures.reads.store, c.stage.ensures.reads.numbered) c.in-Err.ensures.failure (sym c.in-Some.ensures.value))
 
 pub returns-in_default : goal.returns-in_default
 returns-in_default g c =
