@@ -20,10 +20,12 @@ mod staged;
 use crate::batch::{MerkleizedBatch, UnmerkleizedBatch};
 use crate::db::Db;
 use crate::staged::Staged;
-use qm_base::{Digest, Hasher, Location};
+use qm_base::{Digest, Hasher, Location, Sha256};
+use qm_index::{Factory, FourCap};
 use qm_merkle::Family;
-use qm_offer::{BatchSizes, Common, Meaning, Numbers};
+use qm_offer::{BatchSizes, Common, Engine, Meaning, Numbers};
 use qm_operations::Update;
+use qm_step::kind::Steps;
 use qm_store::Store;
 use std::rc::Rc;
 
@@ -110,3 +112,10 @@ impl<
 
     ghost bare = { peaks-none F.shape F.births F.numbered F.peaked };
 }
+
+impl<
+    F: Family,
+    C: Store + Drop,
+    I: Factory<Value = Location<F>, Translator = FourCap> + Drop,
+    U: Steps<F, I>,
+> Engine<C> for Db<F, C, I, Sha256, U> {}

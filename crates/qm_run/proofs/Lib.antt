@@ -1,7 +1,2 @@
-pub mod Engines
-pub mod Spans
-pub mod Collected
-pub mod Heads
-pub mod Lasting
-pub mod Lacked
+pub mod Machines
 pub mod Sayings

@@ -24,7 +24,9 @@ scheme shape form = record {
   hash = sha256;
   digest_size = 32;
   root = sha256_root shape;
+  canonical = sha256_root shape;
   boundary = floor;
   proof = sha256_proof shape;
   pins = sha256_pins shape;
+  grafts = None;
 }

@@ -1,10 +1,7 @@
-//! The program's databases as engines, and its top call.
+//! The program: its databases, and its top call.
 #![tactic(auto)]
 
-pub mod database;
-mod listed;
+mod kind;
 mod program;
-mod ranges;
 
-pub use database::{Database, Kind, Link, Pair};
 pub use program::qmdb_main;

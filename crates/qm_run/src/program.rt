@@ -13,14 +13,17 @@ ghost use Rattle.qm_run.specs.Schemes.{scheme};
 ghost use Rattle.qm_run.specs.Program.{are_words, kind_word, kind_of_words, machine_of, scheme_of, Says, bad_text};
 ghost use Rattle.qm_run.specs.Endings.{tail_text, tail_status};
 
-use crate::database::{Database, Kind, Link, Pair};
-use qm_base::{ByteKey, ByteValue, Gate, Location};
+use crate::kind::{Kind, Link, Pair};
+use qm_any::Config;
+use qm_any::db::Db;
+use qm_base::{ByteKey, ByteValue, Gate, Location, Sha256};
 use qm_engine::{Answered, Ending, answer_lines};
 use qm_index::{Factory, FourCap, ordered, unordered};
 use qm_lines::{InputError, LIMIT, Sink, SinkError, Source, read_all, write_all};
 use qm_merkle::mmr;
 use qm_store::Store;
 use std::alloc::{AllocError, Global};
+use std::num::NonZeroUsize;
 
 /// Where the keys of unordered databases are live, by their first four bytes.
 type Places = unordered::Index<FourCap, Location<mmr::Family>>;
@@ -111,6 +114,19 @@ fn with_tail(
     Ok(text)
 }
 
+// How the program opens its databases. An opening keeps so many keys, to tell those with the same index key apart.
+fn opening() -> Config<FourCap, ()> {
+    let kept = match NonZeroUsize::new(1024) {
+        Some(count) => count,
+        None => NonZeroUsize::MIN,
+    };
+    Config {
+        translator: FourCap,
+        init_cache: kept,
+        init_concurrency: (),
+    }
+}
+
 // Answers the lines of an input by databases of this kind, and writes the text.
 fn serve<
     C: Store + Drop,
@@ -135,7 +151,13 @@ fn serve<
         answered,
         ending,
         store,
-    } = answer_lines::<Database<C, I, U>, C, G>(alloc, store, (), input, gate);
+    } = answer_lines::<Db<mmr::Family, C, I, Sha256, U>, C, G>(
+        alloc,
+        store,
+        opening(),
+        input,
+        gate,
+    );
     let text = match with_tail(alloc, text, ending, answered) {
         Ok(text) => text,
         Err(_) => return (5, store),

@@ -3,19 +3,20 @@
 use crate::db::Db;
 use crate::restore::{Config, init};
 use qm_base::{Location, Sha256};
-use qm_index::Factory;
+use qm_index::{Factory, FourCap};
 use qm_merkle::Family;
 use qm_offer::Durable;
 use qm_operations::Update;
 use qm_store::{Refusal, Store};
 use std::alloc::Global;
 
-impl<F: Family, C: Store + Drop, I: Factory<Value = Location<F>> + Drop, U: Update> Durable<C>
-    for Db<F, C, I, Sha256, U>
-where
-    I::Translator: Copy,
-{
-    type Config = Config<I::Translator, ()>;
+impl<
+    F: Family,
+    C: Store + Drop,
+    I: Factory<Value = Location<F>, Translator = FourCap> + Drop,
+    U: Update,
+> Durable<C> for Db<F, C, I, Sha256, U> {
+    type Config = Config<FourCap, ()>;
 
     fn open(
         alloc: Global,

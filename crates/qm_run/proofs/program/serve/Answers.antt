@@ -7,6 +7,7 @@ use Rattle.qm_engine.specs.Stores.{IsBeside}
 use Rattle.qm_model.specs.Mmr.{mmr}
 use Rattle.qm_run.specs.Schemes.{scheme}
 use Rattle.qm_run.specs.Endings.{tail_text, tail_status}
+use Rattle.qm_run.proofs.Machines.{machine-answers}
 use Rattle.qm_run.proofs.Sayings.{Told, IsWhole, is_whole, each_more, says_part, partial, whole, unchanged, grown, grown_part}
 use Rattle.qm_run.proofs.program.serve.Goals as goal
 
@@ -18,7 +19,7 @@ returns-in-Err-clause-headline g c =
     let ending = c.answer_lines-text.result.ending in
     let text = c.answer_lines-text.result.text.items in
     let k : ℕ = c.answer_lines-text.result.answered in
-    each_more (g.C.Store.told c.args.store) c.answer_lines-text.ensures.machine (λ stored told answered.
+    each_more (g.C.Store.told c.args.store) (machine-answers mmr g.U.Update.form g.met.U.Kind.lengths (g.C.Store.told c.args.store) left input k text c.answer_lines-text.ensures.machine) (λ stored told answered.
     let is : (log : Log) (choices : List ℕ) → IsWhole (scheme mmr g.U.Update.form) log choices input rose k ending = λ log choices. is_whole (scheme mmr g.U.Update.form) log choices input rose k ending c.answer_lines-text.ensures.done c.answer_lines-text.ensures.bad c.answer_lines-text.ensures.fault c.answer_lines-text.ensures.short in
     unchanged (scheme mmr g.U.Update.form) stored input 5 rose left (g.K.Sink.text c.args.sink.now)
     (λ log own choices turns. says_part (scheme mmr g.U.Update.form) log choices input rose 5 [] left k (inr refl)
@@ -33,7 +34,7 @@ returns-in-Ok-write_all-clause-headline g c =
     let text = c.answer_lines-text.result.text.items in
     let k : ℕ = c.answer_lines-text.result.answered in
     let spelt : c.deref.result.now ≡ text ++ tail_text ending k = c.deref.ensures.value ∙ c.in-Ok.ensures in
-    each_more (g.C.Store.told c.args.store) c.answer_lines-text.ensures.machine (λ stored told answered.
+    each_more (g.C.Store.told c.args.store) (machine-answers mmr g.U.Update.form g.met.U.Kind.lengths (g.C.Store.told c.args.store) left input k text c.answer_lines-text.ensures.machine) (λ stored told answered.
     let is : (log : Log) (choices : List ℕ) → IsWhole (scheme mmr g.U.Update.form) log choices input rose k ending = λ log choices. is_whole (scheme mmr g.U.Update.form) log choices input rose k ending c.answer_lines-text.ensures.done c.answer_lines-text.ensures.bad c.answer_lines-text.ensures.fault c.answer_lines-text.ensures.short in
     subst (λ s. Told (scheme mmr g.U.Update.form) stored input s rose left (g.K.Sink.text c.args.sink.now) (g.K.Sink.text c.write_all.new.sink)) (sym c.status_of.ensures)
     (grown (scheme mmr g.U.Update.form) stored input (tail_status ending) rose left (g.K.Sink.text c.args.sink.now) (g.K.Sink.text c.write_all.new.sink) (text ++ tail_text ending k)
@@ -49,7 +50,7 @@ returns-in-Err-Failed-clause-headline g c =
     let text = c.answer_lines-text.result.text.items in
     let k : ℕ = c.answer_lines-text.result.answered in
     let spelt : c.deref.result.now ≡ text ++ tail_text ending k = c.deref.ensures.value ∙ c.in-Ok.ensures in
-    each_more (g.C.Store.told c.args.store) c.answer_lines-text.ensures.machine (λ stored told answered.
+    each_more (g.C.Store.told c.args.store) (machine-answers mmr g.U.Update.form g.met.U.Kind.lengths (g.C.Store.told c.args.store) left input k text c.answer_lines-text.ensures.machine) (λ stored told answered.
     let is : (log : Log) (choices : List ℕ) → IsWhole (scheme mmr g.U.Update.form) log choices input rose k ending = λ log choices. is_whole (scheme mmr g.U.Update.form) log choices input rose k ending c.answer_lines-text.ensures.done c.answer_lines-text.ensures.bad c.answer_lines-text.ensures.fault c.answer_lines-text.ensures.short in
     grown_part (scheme mmr g.U.Update.form) stored input 4 rose left (g.K.Sink.text c.args.sink.now) (g.K.Sink.text c.write_all.new.sink) (text ++ tail_text ending k)
     (subst (GrowsPart (g.K.Sink.text c.args.sink.now) (g.K.Sink.text c.write_all.new.sink)) spelt c.in-Err-Failed.ensures.err)
@@ -65,7 +66,7 @@ returns-clause-headline g c =
     let text = c.answer_lines-text.result.text.items in
     let k : ℕ = c.answer_lines-text.result.answered in
     let spelt : c.deref.result.now ≡ text ++ tail_text ending k = c.deref.ensures.value ∙ c.in-Ok.ensures in
-    each_more (g.C.Store.told c.args.store) c.answer_lines-text.ensures.machine (λ stored told answered.
+    each_more (g.C.Store.told c.args.store) (machine-answers mmr g.U.Update.form g.met.U.Kind.lengths (g.C.Store.told c.args.store) left input k text c.answer_lines-text.ensures.machine) (λ stored told answered.
     let is : (log : Log) (choices : List ℕ) → IsWhole (scheme mmr g.U.Update.form) log choices input rose k ending = λ log choices. is_whole (scheme mmr g.U.Update.form) log choices input rose k ending c.answer_lines-text.ensures.done c.answer_lines-text.ensures.bad c.answer_lines-text.ensures.fault c.answer_lines-text.ensures.short in
     grown_part (scheme mmr g.U.Update.form) stored input 5 rose left (g.K.Sink.text c.args.sink.now) (g.K.Sink.text c.write_all.new.sink) (text ++ tail_text ending k)
     (subst (GrowsPart (g.K.Sink.text c.args.sink.now) (g.K.Sink.text c.write_all.new.sink)) spelt c.in-Err-Memory.ensures.err)
