@@ -24,7 +24,7 @@ ghost use Rattle.qm_index.specs.Indexed.{IsIndexed};
 ghost use Rattle.qm_store.specs.Reads.{IsReadError};
 ghost use Rattle.qm_step.specs.Lent.{NoneBelow};
 ghost use Rattle.qm_step.specs.Views.{changes_view, keys_of, read_view, wanted_view, AreReads, IsPlan, stepped, left_after};
-ghost use Rattle.qm_any.specs.Databases.{Database, over, IsBegun, IsDatabase, IsLeft, IsMade, IsTree, at_rest, read_under};
+ghost use Rattle.qm_any.specs.Databases.{Database, over, IsBegun, IsLeft, IsMade, IsTree, at_rest, read_under};
 ghost use Rattle.qm_store.specs.Given.{Appended, AppendedPart, store_given, store_after};
 ghost use Rattle.qm_store.specs.KeptTrees.{IsKeptTree};
 ghost use Rattle.qm_operations.specs.Views.{operation_views};
@@ -284,10 +284,12 @@ impl<F: Family, C: Store, I: qm_index::Unordered<Value = Location<F>>, H: Hasher
     where
         I: Drop,
         H: Drop,
-        ensures stands { (list : List Operation) (chain : Chain) (tip : List Operation) → ⟦<Self as LaidOut>⟧.stands self list → IsMade ⟦<Self as LaidOut>⟧.layout.hashing batch.now chain tip → IsOnChain list chain
+        ensures stands { (list : List Operation) (chain : Chain) (tip : List Operation) → ⟦<Self as LaidOut>⟧.stands self list
+            → IsMade ⟦<Self as LaidOut>⟧.layout.hashing batch.now chain tip → IsOnChain list chain
             → IfOk result (λ next. ⟦<Self as LaidOut>⟧.stands next tip) }
         ensures fits { OnOk result (is_at self.commitment batch.now.bounds.db batch.now.bounds.ancestors ≡ true) }
-        ensures grown { (chain : Chain) (tip : List Operation) → IsMade ⟦<Self as LaidOut>⟧.layout.hashing batch.now chain tip → IfOk result (λ next. Appended C.Store self.log.store next.log.store (map (spelling U.form) (drop self.commitment.size tip))) }
+        ensures grown { (chain : Chain) (tip : List Operation) → IsMade ⟦<Self as LaidOut>⟧.layout.hashing batch.now chain tip
+            → IfOk result (λ next. Appended C.Store self.log.store next.log.store (map (spelling U.form) (drop self.commitment.size tip))) }
         ensures start { C.start (store_after (λ db. db.log.store) result) ≡ C.start self.log.store }
         ensures beside { beside_items (C.told (store_after (λ db. db.log.store) result)) ≡ beside_items (C.told self.log.store) }
         ensures later { IfOk result (λ next. C.faults self.log.store ≤ C.faults next.log.store) }
@@ -356,7 +358,8 @@ impl<F: Family, C: Store, I: qm_index::Unordered<Value = Location<F>>, H: Hasher
         alloc: Global,
         keys: &[U::Key],
     ) -> Result<Vec<Option<U::Value>>, Error>
-        ensures values { AtList C.Store ⟦<Self as LaidOut>⟧.layout self.old (λ list. IfOk result (λ v. map (option_map U.Value.bytes) v.items ≡ map (λ k. lives.value_of list (U.Key.bytes k)) keys.now)) }
+        ensures values { AtList C.Store ⟦<Self as LaidOut>⟧.layout self.old (λ list.
+            IfOk result (λ v. map (option_map U.Value.bytes) v.items ≡ map (λ k. lives.value_of list (U.Key.bytes k)) keys.now)) }
         ensures reads { Reads C.Store ⟦<Self as LaidOut>⟧.layout self.old self.new result }
     {
         let writes = Writes::new(alloc);
@@ -454,9 +457,11 @@ impl<F: Family, C: Store, I: qm_index::Unordered<Value = Location<F>>, H: Hasher
         ensures leaves { IfOk result (λ grown. grown.0.leaves ≡ tree.now.leaves + length operations.now) }
         ensures taken { IfOk result (λ grown. IsSpelled U.form (operation_views U.view U.Key.bytes U.Value.bytes operations.now) grown.0.leaves) }
         ensures stops { IfOk result (λ grown. stops grown.0.leaves grown.0.layers ≡ grown.0.leaves ∷ stops_since boundary (stops tree.now.leaves tree.now.layers)) }
-        ensures tree { (list base : List Operation) (older : List (List Operation)) → ⟦<Self as LaidOut>⟧.stands self.old list → IsTree ⟦<Self as LaidOut>⟧.layout.hashing tree.now base older → Contains (base ∷ older) list
+        ensures tree { (list base : List Operation) (older : List (List Operation)) → ⟦<Self as LaidOut>⟧.stands self.old list
+            → IsTree ⟦<Self as LaidOut>⟧.layout.hashing tree.now base older → Contains (base ∷ older) list
             → IfOk result (λ grown. IsKeptTree H.Digest.bytes H.hash F.shape grown.0 (map (spelling U.form) (base ++ operation_views U.view U.Key.bytes U.Value.bytes operations.now)) (lists_since boundary (map (map (spelling U.form)) (base ∷ older)))) }
-        ensures root { (list base : List Operation) (older : List (List Operation)) → ⟦<Self as LaidOut>⟧.stands self.old list → IsTree ⟦<Self as LaidOut>⟧.layout.hashing tree.now base older → Contains (base ∷ older) list
+        ensures root { (list base : List Operation) (older : List (List Operation)) → ⟦<Self as LaidOut>⟧.stands self.old list
+            → IsTree ⟦<Self as LaidOut>⟧.layout.hashing tree.now base older → Contains (base ∷ older) list
             → floor ≡ lives.floor (base ++ operation_views U.view U.Key.bytes U.Value.bytes operations.now) → IfOk result (λ grown. H.Digest.bytes grown.1 ≡ ops_root H.hash F.shape U.form (base ++ operation_views U.view U.Key.bytes U.Value.bytes operations.now)) }
         ensures refused { IfErr result (λ e. (e ≡ Error.Memory) ⊎ IsTooLong (map (spelling U.form) (operation_views U.view U.Key.bytes U.Value.bytes operations.now)) (tree.now.leaves + length operations.now) e) }
         ensures same { self.new ≡ self.old }
