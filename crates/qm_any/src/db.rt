@@ -39,6 +39,7 @@ use qm_base::{
 use qm_batch::{Base, Plan, Read, Wanted, Writes, apply_diffs, read_key, staged};
 use qm_bits::{Chunk64, Prunable};
 use qm_chain::{Diff, Policy};
+use qm_merkle::mem::Mem;
 use qm_merkle::{Family, Position};
 use qm_operations::{Update, ValueEncoding};
 use qm_overlay::apply_bits;
@@ -366,6 +367,19 @@ impl<F: Family, C: Store, I: qm_index::Unordered<Value = Location<F>>, H: Hasher
         self.read_all(alloc, &Vec::new(alloc), &writes, keys)
     }
 
+    /// The live update of a key, if there is one, with its location. It takes as many reads of the log as `get`.
+    pub fn get_with_loc(
+        &mut self,
+        alloc: Global,
+        key: &U::Key,
+    ) -> Result<Option<(Location<F>, U)>, Error>
+        ensures value { AtList C.Store ⟦<Self as LaidOut>⟧.layout self.old (λ list.
+            IfOk result (λ found. option_map (read_view U.view) found ≡ update_of list (U.Key.bytes key.now))) }
+        ensures reads { Reads C.Store ⟦<Self as LaidOut>⟧.layout self.old self.new result }
+    {
+        self.find(alloc, &Vec::new(alloc), key)
+    }
+
     // The value of a key: that of its last write or, where it has none, the one on the base list of a batch of these steps.
     pub(crate) fn read_one(
         &mut self,
@@ -546,6 +560,13 @@ impl<F: Family, C: Store, I: qm_index::Unordered<Value = Location<F>>, H: Hasher
         ensures size { result.now.size ≡ self.now.commitment.size }
     {
         &self.commitment
+    }
+
+    /// The tree over the list.
+    pub fn tree(&self) -> &Mem<F, H::Digest>
+        ensures { result.now ≡ self.now.log.tree }
+    {
+        self.log.tree()
     }
 
     /// The store.

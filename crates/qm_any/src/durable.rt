@@ -6,7 +6,7 @@ ghost use Rattle.qm_model.specs.Operations.{Operation};
 ghost use Rattle.qm_model.specs.StoreModel.{end_of, settled, with_metadata, IsImage, IsOldOrNew, ReadsAs};
 ghost use Rattle.qm_store.specs.Log.{HasLeft};
 ghost use Rattle.qm_step.specs.Lent.{NoneBelow};
-ghost use Rattle.qm_any.specs.Lasting.{boundary_of, over_log, HasLasted, HasLeftPruned, HasLeftDestroyed, HasLeftStable, HasPruned, IsDestroyed, IsGivenUp};
+ghost use Rattle.qm_any.specs.Lasting.{bits_from, boundary_of, over_log, HasLasted, HasLeftPruned, HasLeftDestroyed, HasLeftStable, HasPruned, HasPrunedLog, IsDestroyed, IsGivenUp};
 
 use crate::db::{Beside, Db, LaidOut};
 use qm_base::{Error, Hasher, Location};
@@ -86,8 +86,31 @@ impl<
         ensures pruned { IfOk result (HasPruned C.Store ⟦<Self as LaidOut>⟧.layout.hashing (λ s. s) to self) }
         ensures refused { IfErr result (IsGivenUp C.Store (λ _. HasLeftPruned C.Store ⟦<Self as LaidOut>⟧.layout.hashing (λ s. s) to self.log) self.log.store) }
     {
+        self.prune_bits(to).prune_log(alloc, to)
+    }
+
+    /// The database without the bits of the chunks that end at a location or before it; all else of it stays. It takes no
+    /// memory.
+    pub fn prune_bits(self, to: u64) -> Self
+        requires size { to ≤ self.commitment.size }
+        ensures stands { (list : List Operation) → to ≤ lives.floor list → ⟦<Self as LaidOut>⟧.stands self list → ⟦<Self as LaidOut>⟧.stands result list }
+        ensures pruned { result ≡ record self { activity = bits_from to self.activity } }
+    {
         let (log, mut beside) = self.apart();
         beside.activity.prune_to_bit(to);
+        beside.over(log)
+    }
+
+    /// The database whose store has nothing before a location but the digests of the peaks there, where all of it is stable:
+    /// the bits stay, and a store that starts there or after it is not pruned. A refusal gives back the store.
+    pub fn prune_log(self, alloc: Global, to: u64) -> Result<Self, Refusal<Self, C>>
+        requires size { to ≤ self.commitment.size }
+        requires stable { IfSome (C.told self.log.store) (λ s. s.stable ≡ end_of s) }
+        ensures stands { (list : List Operation) → ⟦<Self as LaidOut>⟧.stands self list → IfOk result (λ db. ⟦<Self as LaidOut>⟧.stands db list) }
+        ensures pruned { IfOk result (HasPrunedLog C.Store ⟦<Self as LaidOut>⟧.layout.hashing to self) }
+        ensures refused { IfErr result (IsGivenUp C.Store (λ _. HasLeftPruned C.Store ⟦<Self as LaidOut>⟧.layout.hashing (λ s. s) to self.log) self.log.store) }
+    {
+        let (log, beside) = self.apart();
         let (start, _) = log.bounds();
         if to <= start {
             return Ok(beside.over(log));
