@@ -268,8 +268,8 @@ module _ {P : Type 0} {kind : Kind} {rules : Rules P} (keeps : Keeps kind rules)
       rest_of (lowered n s) ∷ [],
       refl,
       All-cons (λ r. IsBetween own log cut (at_rest r)) (rest_of (lowered n s)) []
-      (of-cut (record log { stable = min log.stable n }) (at_rest (rest_of (lowered n s))) (own-alike (record log { stable = min log.stable n }) (lowered n s) (at_rest (rest_of (lowered n s))) refl lowered-own) (Begins-self log.list) lower-stays)
-      (All-nil (λ r. IsBetween own log cut (at_rest r))),
+          (of-cut (record log { stable = min log.stable n }) (at_rest (rest_of (lowered n s))) (own-alike (record log { stable = min log.stable n }) (lowered n s) (at_rest (rest_of (lowered n s))) refl lowered-own) (Begins-self log.list) lower-stays)
+          (All-nil (λ r. IsBetween own log cut (at_rest r))),
     )
 
     -- an opening takes up this list

@@ -402,9 +402,11 @@ module _ {P : Type 0} {kind : Kind} {rules : Rules P} (keeps : Keeps kind rules)
       → nat_lt (length list) (pruned_bits chunks log.chunks) ≡ false → nat_lt (floor list) (pruned_bits chunks log.chunks) ≡ false → is_unabsorbed layout.shape chunks (length list) log.chunks ≡ false
       → ArePruned own chunks (taken_up list log)
   pruned-opened None log list prompt is same inside low absorbed = tt
-  pruned-opened (Some c) log list prompt is same inside low absorbed =
-      (is.0, subst (λ xs. log.chunks * 2 ^ c.height ≤ boundary layout.shape c.height xs) (sym same)
-      (may-go layout.shape c.height (floor list) (length list) log.chunks prompt (ltb-false (floor list) (log.chunks * 2 ^ c.height) low) (ltb-false (length list) (log.chunks * 2 ^ c.height) inside) absorbed))
+  pruned-opened (Some c) log list prompt is same inside low absorbed = (
+    is.0,
+    subst (λ xs. log.chunks * 2 ^ c.height ≤ boundary layout.shape c.height xs) (sym same)
+        (may-go layout.shape c.height (floor list) (length list) log.chunks prompt (ltb-false (floor list) (log.chunks * 2 ^ c.height) low) (ltb-false (length list) (log.chunks * 2 ^ c.height) inside) absorbed),
+  )
 
   -- and of a list for which none are
   pruned-none : (chunks : Option Chunks) (log : Log) (list : List Operation) → ArePruned own chunks log → nat_lt 0 (pruned_bits chunks log.chunks) ≡ false → ArePruned own chunks (taken_up list log)
