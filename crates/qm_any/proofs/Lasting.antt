@@ -1,16 +1,16 @@
 -- Databases over logs that calls of their store left.
 use Rattle.std.proofs.Common.{◌≡◌, ◌≢◌, ◌⊎◌, ◌∙◌, ◌≤◌, ◌-◌, ℕ, List, take_all, ap, sym, subst, refl, inl, inr, arith, map, Option, Some, None, IfSome, Result, Ok, Err, IfOk, IfErr}
 use Rattle.std.specs.Prelude.{IsSome}
-use Rattle.std.specs.Prelude.{if◌then◌else◌, nat_lt, ◌*◌, ◌/◌, ◌<◌, max, drop, replicate, false, true, Bool, ◌++◌, []}
+use Rattle.std.specs.Prelude.{if◌then◌else◌, nat_lt, length, ◌+◌, ◌*◌, ◌/◌, ◌<◌, max, drop, replicate, false, true, Bool, ◌++◌, []}
 use Rattle.std.proofs.Math.Nat.{div-mul-le_self, max-eq_left, max-eq_right, sub-eq-zero_of_le}
 use Rattle.std.proofs.Math.Seq.{drop-append-add}
 use Rattle.std.proofs.lemmas.Bool.{ltb-false, ltb-true, le-ltb, lt-ltb}
-use Rattle.std.proofs.lemmas.List.{length-replicate}
+use Rattle.std.proofs.lemmas.List.{length-drop, length-replicate}
 use Rattle.qm_model.specs.Bits.{bits}
 use Rattle.std.proofs.lemmas.List.Elements.{All-weaker}
 use Rattle.qm_model.specs.Live.{Live, floor, live}
 use Rattle.qm_model.specs.Step.{IsGood}
-use Rattle.qm_bits.specs.Bitmaps.{Bitmap, all_bits}
+use Rattle.qm_bits.specs.Bitmaps.{Bitmap, all_bits, bit_count}
 use Rattle.qm_bits.proofs.Activity.{activity_is}
 use Rattle.qm_model.specs.Operations.{Bytes, Operation}
 use Rattle.qm_model.specs.Forms.{spelling}
@@ -64,30 +64,77 @@ reads-itself f s all = record {
     same : s ≡ left_at (end_of s) s
     same = ap (λ n. record s { stable = n }) all ∙ ap (λ xs. record s { items = xs; stable = end_of s }) (sym (take_all (end_of s - s.start) s.items (omega arith)))
 
--- no bit of a good list is forgotten by what is dropped below its floor
-pub bits-kept : (to : ℕ) (map : Bitmap) (ops : List Operation) → IsGood ops → to ≤ floor ops → all_bits 64 map ≡ bits ops → all_bits 64 (bits_from to map) ≡ bits ops
-bits-kept to map ops good low is = cases (nat_lt map.pruned (to / 512)) refl
+-- bits that are dropped behind others are dropped behind all of these
+passed : (p q w : ℕ) → p ≤ q → p * w + (q - p) * w ≡ q * w
+passed p q w low = spread p (q - p) w ∙ ap (λ n. n * w) (omega (arith, low))
   where
-    whole : to / 512 * 512 ≤ to
-    whole = div-mul-le_self to 512
+    spread : (p d w : ℕ) → p * w + d * w ≡ (p + d) * w
+    spread p d w = omega arith
 
-    cases : (t : Bool) → nat_lt map.pruned (to / 512) ≡ t → all_bits 64 (bits_from to map) ≡ bits ops
+no-chunks : (w : ℕ) → 0 * w ≡ 0
+no-chunks w = omega arith
+
+-- no bit of a good list is forgotten by what is dropped below its floor
+pub bits-kept : (chunk to : ℕ) (map : Bitmap) (ops : List Operation) → IsGood ops → to ≤ floor ops → all_bits chunk map ≡ bits ops → all_bits chunk (bits_from chunk to map) ≡ bits ops
+bits-kept chunk to map ops good low is = cases (nat_lt map.pruned whole) refl
+  where
+    span : ℕ
+    span = 8 * chunk
+
+    whole : ℕ
+    whole = to / span
+
+    below : whole * span ≤ to
+    below = div-mul-le_self to span
+
+    cases : (t : Bool) → nat_lt map.pruned whole ≡ t → all_bits chunk (bits_from chunk to map) ≡ bits ops
     cases true h =
-        let less : map.pruned < to / 512 = ltb-true map.pruned (to / 512) h in
-        let last : max map.pruned (to / 512) ≡ to / 512 = max-eq_right (omega (arith, less)) in
-        let zeros = replicate (map.pruned * 512) false in
-        let long = length-replicate {A = Bool} (map.pruned * 512) false in
-        activity_is 64 (bits_from to map) ops good (record {
-          bits_are = sym (drop-append-add zeros map.kept ((to / 512 - map.pruned) * 512)) ∙ ap (λ n. drop n (zeros ++ map.kept)) (omega (arith, less, last, long)) ∙ ap (drop (max map.pruned (to / 512) * 512)) is;
-          below = omega (arith, last, whole, low);
+        let less : map.pruned < whole = ltb-true map.pruned whole h in
+        let last : max map.pruned whole ≡ whole = max-eq_right (omega (arith, less)) in
+        let zeros = replicate (map.pruned * span) false in
+        let long = length-replicate {A = Bool} (map.pruned * span) false in
+        let reached : length zeros + (whole - map.pruned) * span ≡ max map.pruned whole * span =
+        ap (λ n. n + (whole - map.pruned) * span) long ∙ passed map.pruned whole span (omega (arith, less)) ∙ ap (λ n. n * span) (sym last) in
+        activity_is chunk (bits_from chunk to map) ops good (record {
+          bits_are = sym (drop-append-add zeros map.kept ((whole - map.pruned) * span)) ∙ ap (λ n. drop n (zeros ++ map.kept)) reached ∙ ap (drop (max map.pruned whole * span)) is;
+          below = subst (λ n. n * span ≤ floor ops) (sym last) (omega (arith, below, low));
         })
     cases false h =
-        let least : to / 512 ≤ map.pruned = ltb-false map.pruned (to / 512) h in
-        ap (all_bits 64) (ap (λ n. record { pruned = n; kept = drop ((to / 512 - map.pruned) * 512) map.kept }) (max-eq_left least) ∙ ap (λ n. record { pruned = map.pruned; kept = drop (n * 512) map.kept }) (sub-eq-zero_of_le least)) ∙ is
+        let least : whole ≤ map.pruned = ltb-false map.pruned whole h in
+        ap (all_bits chunk) (ap (λ n. record { pruned = n; kept = drop ((whole - map.pruned) * span) map.kept }) (max-eq_left least)
+        ∙ ap (λ n. record { pruned = map.pruned; kept = drop (n * span) map.kept }) (sub-eq-zero_of_le least) ∙ ap (λ n. record { pruned = map.pruned; kept = drop n map.kept }) (no-chunks span)) ∙ is
+
+-- and there are as many bits as before
+pub count-kept : (chunk to : ℕ) (map : Bitmap) → to ≤ bit_count chunk map → bit_count chunk (bits_from chunk to map) ≡ bit_count chunk map
+count-kept chunk to map within = cases (nat_lt map.pruned whole) refl
+  where
+    span : ℕ
+    span = 8 * chunk
+
+    whole : ℕ
+    whole = to / span
+
+    below : whole * span ≤ to
+    below = div-mul-le_self to span
+
+    sum : (a n b l : ℕ) → a + n ≡ b → b ≤ a + l → b + (l - n) ≡ a + l
+    sum a n b l gone fits = omega (arith, gone, fits)
+
+    cases : (t : Bool) → nat_lt map.pruned whole ≡ t → bit_count chunk (bits_from chunk to map) ≡ bit_count chunk map
+    cases true h =
+        let less : map.pruned < whole = ltb-true map.pruned whole h in
+        let last : max map.pruned whole ≡ whole = max-eq_right (omega (arith, less)) in
+        let gone = passed map.pruned whole span (omega (arith, less)) in
+        ap (λ n. n * span + length (drop ((whole - map.pruned) * span) map.kept)) last ∙ ap (λ n. whole * span + n) (length-drop ((whole - map.pruned) * span) map.kept)
+        ∙ sum (map.pruned * span) ((whole - map.pruned) * span) (whole * span) (length map.kept) gone (omega (arith, below, within))
+    cases false h =
+        let least : whole ≤ map.pruned = ltb-false map.pruned whole h in
+        ap (λ n. n * span + length (drop ((whole - map.pruned) * span) map.kept)) (max-eq_left least)
+        ∙ ap (λ n. map.pruned * span + length (drop (n * span) map.kept)) (sub-eq-zero_of_le least) ∙ ap (λ n. map.pruned * span + length (drop n map.kept)) (no-chunks span)
 
 -- what a database has beside its log, with bits dropped
-abbrev pub cut : ℕ → Beside → Beside
-cut to beside = record beside { activity = bits_from to beside.activity }
+abbrev pub cut : ℕ → ℕ → Beside → Beside
+cut chunk to beside = record beside { activity = bits_from chunk to beside.activity }
 
 -- a store that is not pruned is what it was
 itself : (start to : ℕ) (o : Option Stored) → to ≤ start → Becomes o o (cut_to start to [])
@@ -183,13 +230,13 @@ module _ {C D : Type 0} (members : store.Ghosts C) where
           let left = refused.left s refl in
           record { store = s; given = refl; left = record { past = past; within = left.within; head = head; heads = heads; told = leaves-now (members.told old.store) (members.told s) (λ s. ReadsAs s.stable (IsOldOrNew (pruned to head) s)) (λ s. ReadsAs s.stable (IsOldOrNew (pruned to head) s)) left.told }; never = refused.never; cause = refused.cause }
 
-  pub cut-is : (v b : Beside) (a : Bitmap) (to : ℕ) (log : Log C D) (db : Database C D) → db ≡ over (record v { activity = a }) log → a ≡ bits_from to v.activity → v ≡ b → db ≡ over (cut to b) log
-  cut-is v b a to log db is same view = is ∙ ap (λ a. over (record v { activity = a }) log) same ∙ ap (λ v. over (cut to v) log) view
+  pub cut-is : (chunk : ℕ) (v b : Beside) (a : Bitmap) (to : ℕ) (log : Log C D) (db : Database C D) → db ≡ over (record v { activity = a }) log → a ≡ bits_from chunk to v.activity → v ≡ b → db ≡ over (cut chunk to b) log
+  cut-is chunk v b a to log db is same view = is ∙ ap (λ a. over (record v { activity = a }) log) same ∙ ap (λ v. over (cut chunk to v) log) view
 
   -- a database without what stands below a location up to its floor stands for the list that it stood for
   pub cut-stands : (layout : Layout D) (to : ℕ) (beside : Beside) (old new : Log C D) (list : List Operation) → to ≤ floor list → (IsSome (members.told old.store) → IsSome (members.told new.store))
       → IsLog members layout.hashing.shape layout.hashing.bytes layout.hashing.hash new (map (spelling layout.hashing.form) list)
-      → IsDatabase members layout (over beside old) list → IsDatabase members layout (over (cut to beside) new) list
+      → IsDatabase members layout (over beside old) list → IsDatabase members layout (over (cut layout.chunk to beside) new) list
   cut-stands layout to beside old new list low tells logged is =
       let moved = relogged layout beside old new list tells logged is in
       record {
@@ -199,7 +246,7 @@ module _ {C D : Type 0} (members : store.Ghosts C) where
         floor = moved.floor;
         live = moved.live;
         metadata = moved.metadata;
-        active = bits-kept to beside.activity list is.good low is.active;
+        active = bits-kept layout.chunk to beside.activity list is.good low is.active;
         good = moved.good;
         ring = moved.ring;
       }
@@ -229,16 +276,16 @@ module _ {C D : Type 0} (members : store.Ghosts C) where
   })
 
   -- a prune of the log of a database whose bits were dropped is one of the database
-  pub bits-first : (hashing : Hashing D) (to : ℕ) (self middle db : Database C D) → middle ≡ record self { activity = bits_from to self.activity } → HasPrunedLog members hashing to middle db → HasPruned members hashing (λ s. s) to self db
-  bits-first hashing to self middle db is cut = by (subst (λ m. HasPrunedLog members hashing to m db) is cut)
+  pub bits-first : (layout : Layout D) (to : ℕ) (self middle db : Database C D) → middle ≡ record self { activity = bits_from layout.chunk to self.activity } → HasPrunedLog members layout.hashing to middle db → HasPruned members layout (λ s. s) to self db
+  bits-first layout to self middle db is cut = by (subst (λ m. HasPrunedLog members layout.hashing to m db) is cut)
     where
-      by : HasPrunedLog members hashing to (record self { activity = bits_from to self.activity }) db → HasPruned members hashing (λ s. s) to self db
+      by : HasPrunedLog members layout.hashing to (record self { activity = bits_from layout.chunk to self.activity }) db → HasPruned members layout (λ s. s) to self db
       by cut = record { rest = cut.rest; start = cut.start; size = cut.size; head = cut.head; heads = cut.heads; told = cut.told; later = cut.later }
 
   -- a prune of what became of a database is one of the database
-  pub pruned-behind : (hashing : Hashing D) (f : Stored → Stored) (to : ℕ) (self middle db : Database C D) → HasLasted members hashing f self middle → HasPruned members hashing (λ s. s) to middle db → HasPruned members hashing f to self db
-  pruned-behind hashing f to self middle db last cut = record {
-    rest = cut.rest ∙ ap (λ (x : Database C D). record x { log = db.log; activity = bits_from to x.activity }) last.rest;
+  pub pruned-behind : (layout : Layout D) (f : Stored → Stored) (to : ℕ) (self middle db : Database C D) → HasLasted members layout.hashing f self middle → HasPruned members layout (λ s. s) to middle db → HasPruned members layout f to self db
+  pruned-behind layout f to self middle db last cut = record {
+    rest = cut.rest ∙ ap (λ (x : Database C D). record x { log = db.log; activity = bits_from layout.chunk to x.activity }) last.rest;
     start = cut.start ∙ ap (λ t. max t.start to) last.tree;
     size = cut.size ∙ ap (λ t. t.leaves) last.tree;
     head = cut.head;

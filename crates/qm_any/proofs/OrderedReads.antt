@@ -9,8 +9,8 @@ use Rattle.qm_step.specs.Changes.{located, next_in, update_of}
 use Rattle.qm_model.specs.Forms.{Form}
 use Rattle.qm_any.specs.Layouts.{Layout, hashing_with}
 
-abbrev pub laid_out : {D : Type 0} → (D → Bytes) → (Bytes → Bytes) → Shape → Form → (Bytes → ℕ) → Layout D
-laid_out bytes hash shape form index_key = record { hashing = hashing_with bytes hash shape form; index_key = index_key }
+abbrev pub laid_out : {D : Type 0} → ℕ → (D → Bytes) → (Bytes → Bytes) → Shape → Form → (Bytes → ℕ) → Layout D
+laid_out chunk bytes hash shape form index_key = record { hashing = hashing_with bytes hash shape form; chunk = chunk; index_key = index_key }
 
 -- value and next key of an update
 abbrev pub said : ℕ × Operation → Option (Bytes × Option Bytes)

@@ -1,5 +1,5 @@
 -- The database of what an opening made.
-use Rattle.std.proofs.Common.{◌≡◌, ◌≢◌, ◌⊎◌, inl, inr, ◌*◌, ◌^◌, Bool, true, false, ◌&&◌, [], ◌∷◌, eq-eqb, ne_eqb, ◌∙◌, ◌-◌, ◌≤◌, ◌<◌, ℕ, zero, suc, List, length, map, take, drop, arith, refl, ap, ap₂, sym, subst, Option, Some, None}
+use Rattle.std.proofs.Common.{◌≡◌, ◌≢◌, ◌⊎◌, inl, inr, ⊎_elim, le_refl, pow_mono, ◌+◌, ◌*◌, ◌^◌, Bool, true, false, ◌&&◌, [], ◌∷◌, eq-eqb, ne_eqb, ◌∙◌, ◌-◌, ◌≤◌, ◌<◌, ℕ, zero, suc, List, length, map, take, drop, arith, refl, ap, ap₂, sym, subst, Option, Some, None}
 use Rattle.std.specs.Prelude.{All, slice_get, option_and_then, option_map, not, ◌==◌, is_none, filter_map, IfSome, IsSome}
 use Rattle.std.specs.List.{list_any}
 use Rattle.qm_model.specs.Forms.{Form, IsOf, decoded, spelling}
@@ -19,6 +19,10 @@ use Rattle.qm_open.specs.Selecting.{any_layout, any_found, bits_of, content_refu
 use Rattle.qm_open.proofs.Refusing.{selected-same}
 use Rattle.qm_build.specs.Reads.{items_within}
 use Rattle.std.proofs.lemmas.List.{length-map}
+use Rattle.std.proofs.lemmas.Bool.{cases_lt}
+use Rattle.std.proofs.lemmas.Nat.{pow-add, pow_pos, mul-le}
+use Rattle.std.proofs.Math.Nat.{pow-suc}
+use Rattle.qm_model.proofs.MmbFamily.{log_is}
 use Rattle.qm_model.specs.Operations.{Bytes, Operation, update, delete, commit}
 use Rattle.qm_model.specs.Live.{floor, floor_after}
 use Rattle.qm_model.specs.Refusals.{commit_floor}
@@ -37,7 +41,7 @@ use Rattle.qm_build.specs.Opened.{IsOpened}
 use Rattle.qm_any.specs.Layouts.{Layout, spellings}
 use Rattle.qm_any.specs.Databases.{Database, IsDatabase}
 use Rattle.qm_build.proofs.Checking.{three}
-use Rattle.qm_any.specs.Restoring.{pruned_view}
+use Rattle.qm_any.specs.Restoring.{height_of, pruned_view}
 
 -- what shared metadata spells
 pub shared-bytes : {A V B : Type 0} (value : A → V) (bytes : V → B) (m : Option A) (meta : Option V) → option_map value m ≡ meta → option_map (λ r. bytes (value r)) m ≡ option_map bytes meta
@@ -51,7 +55,7 @@ told-so (Some x) Q q = q refl
 
 module _ {C D : Type 0} (members : store.Ghosts C) (layout : Layout D) where
   pub opened-stands : (old new : Log C D) (entries : List (ℕ × List ℕ)) (live_keys : ℕ) (activity : Bitmap) (root : Bytes) (meta : Option Bytes) (size low : ℕ) (db : Database C D) (list : List Operation)
-      → IsOpened members layout.hashing.shape layout.hashing.bytes layout.hashing.hash layout.hashing.form layout.index_key 64 old entries live_keys activity root meta list
+      → IsOpened members layout.hashing.shape layout.hashing.bytes layout.hashing.hash layout.hashing.form layout.index_key layout.chunk old entries live_keys activity root meta list
       → IsLog members layout.hashing.shape layout.hashing.bytes layout.hashing.hash new (spellings layout.hashing list) → IsSome (members.told new.store)
       → db ≡ record { entries = entries; activity = activity; log = new; commitment = record { size = size; root = root }; floor = low; live = live_keys; metadata = meta }
       → old.tree.leaves ≡ size → low ≡ floor list → IsGood list → HasRing layout.hashing.form list → IsDatabase members layout db list
@@ -144,15 +148,36 @@ module _ (form : Form) (shape : Shape) (size : ℕ) (s : Stored) (from : s.start
 
 -- Pruned chunks of activity bits, as an opening looks at them.
 
--- they are few enough
-pub few-seen : (pruned : Option (ℕ × Option ℕ)) (seen : Option Pruned) → seen ≡ option_map pruned_view pruned → IfSome pruned (λ p. p.0 * 512 ≤ 2 ^ 62) → AreFew seen
-few-seen None seen is few = subst AreFew (sym is) tt
-few-seen (Some p) seen is few = subst AreFew (sym is) (omega arith, few)
+module _ (chunk : ℕ) (power : (e : ℕ) × (chunk ≡ 2 ^ e)) where
+  -- the nodes over a chunk have a leaf for each of its bits
+  pub height-spans : 2 ^ height_of chunk ≡ 8 * chunk
+  height-spans =
+      let e = power.0 in
+      let whole : 8 * chunk ≡ 2 ^ (e + 3) = omega (arith, pow-add 2 e 3, power.1) in
+      let more = pow-suc 2 (e + 3) in
+      let some = pow_pos (e + 3) in
+      let high : height_of chunk ≡ e + 3 = log_is (8 * chunk) (e + 3) (omega (arith, whole)) (omega (arith, whole, more, some)) in
+      ap (λ n. 2 ^ n) high ∙ sym whole
+
+  height-low : chunk ≤ 65536 → height_of chunk < 62
+  height-low most = ⊎_elim
+      (λ (low : height_of chunk < 62). low)
+      (λ (past : 62 ≤ height_of chunk). let far : 2 ^ 62 ≤ 2 ^ height_of chunk = pow_mono past in absurd (omega (arith, far, height-spans, most)))
+      (cases_lt (height_of chunk) 62)
+
+  -- they are few enough
+  pub few-seen : chunk ≤ 65536 → (pruned : Option (ℕ × Option ℕ)) (seen : Option Pruned) → seen ≡ option_map (pruned_view chunk) pruned → IfSome pruned (λ p. p.0 * (8 * chunk) ≤ 2 ^ 62) → AreFew seen
+  few-seen most None seen is few = subst AreFew (sym is) tt
+  few-seen most (Some p) seen is few = subst AreFew (sym is) (height-low most, subst (λ n. p.0 * n ≤ 2 ^ 62) (sym height-spans) few)
+
+  -- where they have that number of bits, chunks of them reach no further
+  pub bits-seen : (p : ℕ × Option ℕ) (floor : ℕ) → bits_of (Some (pruned_view chunk p)) ≤ floor → p.0 * (8 * chunk) ≤ floor
+  bits-seen p floor low = subst (λ n. p.0 * n ≤ floor) height-spans low
 
 -- the threshold is theirs
-pub threshold-seen : (shape : Shape) (pruned : Option (ℕ × Option ℕ)) → IfSome pruned (λ p. p.1 ≡ pair_absorption_threshold shape 9 p.0) → HasThreshold shape (option_map pruned_view pruned)
-threshold-seen shape None same = tt
-threshold-seen shape (Some p) same = same
+pub threshold-seen : (chunk : ℕ) (shape : Shape) (pruned : Option (ℕ × Option ℕ)) → IfSome pruned (λ p. p.1 ≡ pair_absorption_threshold shape (height_of chunk) p.0) → HasThreshold shape (option_map (pruned_view chunk) pruned)
+threshold-seen chunk shape None same = tt
+threshold-seen chunk shape (Some p) same = same
 
 -- what the commit that is found tells of why an opening refuses the store
 module _ (form : Form) (told : Option Stored) (bound : Option ℕ) where
@@ -174,6 +199,11 @@ so-pruned None n chunks is told = tt
 so-pruned (Some p) n chunks is told = is ∙ told
 
 -- where they have no bit, none is told
-pub none-pruned : (pruned : Option (ℕ × Option ℕ)) (n : ℕ) → n ≡ 0 → bits_of (option_map pruned_view pruned) ≡ 0 → IfSome pruned (λ p. n ≡ p.0)
-none-pruned None n is none = tt
-none-pruned (Some p) n is none = omega (arith, is, none)
+pub none-pruned : (chunk : ℕ) (pruned : Option (ℕ × Option ℕ)) (n : ℕ) → n ≡ 0 → bits_of (option_map (pruned_view chunk) pruned) ≡ 0 → IfSome pruned (λ p. n ≡ p.0)
+none-pruned chunk None n is none = tt
+none-pruned chunk (Some p) n is none =
+    let some = pow_pos (height_of chunk) in
+    ⊎_elim
+    (λ (no : p.0 < 1). omega (arith, is, no))
+    (λ (more : 1 ≤ p.0). let least : 1 * 2 ^ height_of chunk ≤ p.0 * 2 ^ height_of chunk = mul-le 1 (2 ^ height_of chunk) p.0 (2 ^ height_of chunk) more (le_refl (2 ^ height_of chunk)) in absurd (omega (arith, least, none, some)))
+    (cases_lt p.0 1)

@@ -1,6 +1,6 @@
 -- What a fresh list stands for, proofs in the first operations of a list, and the floor of these.
-use Rattle.std.proofs.Common.{◌≡◌, ℕ, ◌+◌, List, [], length, take, map, refl, sym, ◌∙◌, ap, ap₂, subst, arith, Option, None, Some, IfSome, All}
-use Rattle.std.specs.Prelude.{IsSome, Result, Ok, Err, IfOk}
+use Rattle.std.proofs.Common.{◌≡◌, ℕ, ◌+◌, ◌*◌, ◌++◌, false, List, [], length, take, map, refl, sym, ◌∙◌, ap, ap₂, subst, arith, Option, None, Some, IfSome, All}
+use Rattle.std.specs.Prelude.{replicate, IsSome, Result, Ok, Err, IfOk}
 use Rattle.std.proofs.lemmas.List.{take_all}
 use Rattle.std.proofs.lemmas.List.Elements.{All-cons, All-nil}
 use Rattle.std.proofs.lemmas.List.Sorted.{IsPermutation-refl}
@@ -37,6 +37,10 @@ grown-told (Some s) (Some t) f P grows give = give refl
 fresh-of : (form : Form) → All (IsOf form) fresh
 fresh-of form = All-cons (IsOf form) (commit None 0) [] (tt, omega arith) (All-nil (IsOf form))
 
+-- no chunks have no bits
+no-chunks : (n : ℕ) → 0 * n ≡ 0
+no-chunks n = omega arith
+
 -- an empty index, the fresh list's bits, a log of it and its commitment are a database of it
 pub fresh-stands : {C D : Type 0} (members : store.Ghosts C) (layout : Layout D) (db : Database C D) (log : Log C D) (first : Commitment)
     → db ≡ record { entries = []; activity = record { pruned = 0; kept = bits fresh }; log = log; commitment = first; floor = 0; live = 0; metadata = None }
@@ -49,7 +53,7 @@ fresh-stands members layout db log first is committed told logged = subst (λ d.
   floor = refl;
   live = refl;
   metadata = refl;
-  active = refl;
+  active = ap (λ n. replicate n false ++ bits fresh) (no-chunks (8 * layout.chunk));
   good = fresh-good;
   ring = λ _. All-nil (λ (e : Live). e.next ≡ successor [] e.key);
 })

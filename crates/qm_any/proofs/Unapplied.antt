@@ -189,7 +189,7 @@ module _ {C D : Type 0} (members : store.Ghosts C) (layout : Layout D) where
       → ((l : List Bytes) (older : List (List Bytes)) → IsLog members layout.hashing.shape layout.hashing.bytes layout.hashing.hash db.log l
       → IsKeptTree layout.hashing.bytes layout.hashing.hash layout.hashing.shape batch.tree (l ++ items) older → Contains ((l ++ items) ∷ older) l → IsLog members layout.hashing.shape layout.hashing.bytes layout.hashing.hash next.log (l ++ items))
       → ((l t : List Operation) → LeadTo changes l t → IsIndexed layout.index_key db.entries l → IsIndexed layout.index_key next.entries t)
-      → ((l t : List Operation) → LeadTo changes l t → IsCommitEnded l → batch.bounds.tip.size ≡ length t → all_bits 64 db.activity ≡ bits l → all_bits 64 next.activity ≡ bits t)
+      → ((l t : List Operation) → LeadTo changes l t → IsCommitEnded l → batch.bounds.tip.size ≡ length t → all_bits layout.chunk db.activity ≡ bits l → all_bits layout.chunk next.activity ≡ bits t)
       → (next.commitment ≡ batch.bounds.tip) × (next.floor ≡ batch.bounds.inactivity_floor) × (next.live ≡ batch.live) × (next.metadata ≡ batch.metadata)
       → Appended members db.log.store next.log.store items
       → IsDatabase members layout next tip

@@ -209,7 +209,7 @@ module _ {C D : Type 0} (members : store.Ghosts C) where
     pub floor : db.floor ≡ floor list
     pub live : db.live ≡ length (live list)
     pub metadata : db.metadata ≡ last_metadata list
-    pub active : all_bits 64 db.activity ≡ bits list
+    pub active : all_bits layout.chunk db.activity ≡ bits list
     pub good : IsGood list
     pub ring : HasRing layout.hashing.form list
 

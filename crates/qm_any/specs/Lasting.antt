@@ -12,7 +12,7 @@ use Rattle.qm_store.specs.declared.refusal.Given.TheVariants.{Store}
 use Rattle.qm_store.specs.declared.refusal.Refusal.{Refusal}
 use Rattle.qm_store.specs.Log as logs
 use Rattle.qm_store.specs.Log.{Log, IsLog, IsHead, HasLeft, digests_from}
-use Rattle.qm_any.specs.Layouts.{Hashing}
+use Rattle.qm_any.specs.Layouts.{Hashing, Layout}
 use Rattle.qm_any.specs.Databases.{Database, Beside, over}
 
 -- what a refused call of a log gives back: its store
@@ -29,8 +29,8 @@ abbrev pub boundary_of : {C D : Type 0} → Database C D → ℕ
 boundary_of db = min db.floor db.commitment.size
 
 -- bits of which no chunk is kept that ends at or before a location
-abbrev pub bits_from : ℕ → Bitmap → Bitmap
-bits_from to bits = record { pruned = max bits.pruned (to / 512); kept = drop ((to / 512 - bits.pruned) * 512) bits.kept }
+abbrev pub bits_from : ℕ → ℕ → Bitmap → Bitmap
+bits_from chunk to bits = record { pruned = max bits.pruned (to / (8 * chunk)); kept = drop ((to / (8 * chunk) - bits.pruned) * (8 * chunk)) bits.kept }
 
 -- a store, of a log that starts here, pruned to a location, with this head, where that is behind the start
 abbrev pub cut_to : ℕ → ℕ → Bytes → Stored → Stored
@@ -75,12 +75,12 @@ module _ {C D : Type 0} (members : store.Ghosts C) where
   IsHeadAt hashing to log head = (items : List Bytes) → IsLog members hashing.shape hashing.bytes hashing.hash log items → IsHead hashing.shape hashing.bytes hashing.hash to (digests_from hashing.hash hashing.shape 0 items) head
 
   -- the database has what it had, but that its store was made this and then pruned to a location, and so were its bits
-  pub record HasPruned (hashing : Hashing D) (f : Stored → Stored) (to : ℕ) (old new : Database C D) : Type 0 where
-    pub rest : new ≡ record old { log = new.log; activity = bits_from to old.activity }
+  pub record HasPruned (layout : Layout D) (f : Stored → Stored) (to : ℕ) (old new : Database C D) : Type 0 where
+    pub rest : new ≡ record old { log = new.log; activity = bits_from layout.chunk to old.activity }
     pub start : new.log.tree.start ≡ max old.log.tree.start to
     pub size : new.log.tree.leaves ≡ old.log.tree.leaves
     pub head : Bytes
-    pub heads : old.log.tree.start < to → IsHeadAt hashing to old.log head
+    pub heads : old.log.tree.start < to → IsHeadAt layout.hashing to old.log head
     pub told : Becomes (members.told old.log.store) (members.told new.log.store) (λ s. cut_to old.log.tree.start to head (f s))
     pub later : members.faults old.log.store ≤ members.faults new.log.store
 

@@ -15,9 +15,10 @@ pub record Hashing (D : Type 0) : Type 0 where
   pub shape : Shape
   pub form : Form
 
--- how a database's lists are hashed, and the index keys of its keys
+-- how a database's lists are hashed, how many bytes a chunk of their bits has, and the index keys of its keys
 pub record Layout (D : Type 0) : Type 0 where
   pub hashing : Hashing D
+  pub chunk : ℕ
   pub index_key : Bytes → ℕ
 
 -- the spellings of a list
@@ -35,5 +36,5 @@ hashing_with bytes hash shape form = record { bytes = bytes; hash = hash; shape 
 abbrev pub hashing_of : {D H F U K V : Type 0} → (D → Bytes) → hasher.Ghosts H D → family.Ghosts F → update.Ghosts U K V → Hashing D
 hashing_of bytes hashes families updates = hashing_with bytes hashes.hash families.shape updates.form
 
-abbrev pub layout_of : {D H F U K V I L : Type 0} → (D → Bytes) → hasher.Ghosts H D → family.Ghosts F → update.Ghosts U K V → index.Ghosts I L → Layout D
-layout_of bytes hashes families updates indices = record { hashing = hashing_of bytes hashes families updates; index_key = indices.index_key }
+abbrev pub layout_of : {D H F U K V I L : Type 0} → ℕ → (D → Bytes) → hasher.Ghosts H D → family.Ghosts F → update.Ghosts U K V → index.Ghosts I L → Layout D
+layout_of chunk bytes hashes families updates indices = record { hashing = hashing_of bytes hashes families updates; chunk = chunk; index_key = indices.index_key }

@@ -1,6 +1,7 @@
 -- The list that an opening takes up of a store.
-use Rattle.std.specs.Prelude.{◌≡◌, ◌-◌, ℕ, zero, suc, min, List, length, take, drop, All, Option}
+use Rattle.std.specs.Prelude.{◌≡◌, ◌-◌, ◌*◌, ℕ, zero, suc, min, List, length, take, drop, All, Option}
 use Rattle.qm_model.specs.Forms.{IsOf}
+use Rattle.qm_model.specs.Mmb.{log}
 use Rattle.qm_model.specs.Opening as opening
 use Rattle.qm_model.specs.Opening.{size_of}
 use Rattle.qm_model.specs.Operations.{Operation, fresh}
@@ -21,9 +22,13 @@ pub record HasList {D : Type 0} (hashing : Hashing D) (s : Stored) (size : ℕ) 
   pub items : take (size - s.start) s.items ≡ drop s.start (spellings hashing list)
   pub head : IsHead hashing.shape hashing.bytes hashing.hash s.start (digests_from hashing.hash hashing.shape 0 (spellings hashing list)) s.head
 
--- so many pruned chunks of 512 locations, with the threshold for so many
-abbrev pub pruned_view : ℕ × Option ℕ → Pruned
-pruned_view p = record { chunks = p.0; height = 9; threshold = p.1 }
+-- the height of the nodes over a chunk of this number of bytes, a power of two: it has a bit for each of 2^height locations
+abbrev pub height_of : ℕ → ℕ
+height_of chunk = log (8 * chunk)
+
+-- this number of pruned chunks, with the threshold for it
+abbrev pub pruned_view : ℕ → ℕ × Option ℕ → Pruned
+pruned_view chunk p = record { chunks = p.0; height = height_of chunk; threshold = p.1 }
 
 -- the size of the list that an opening up to a bound selects
 abbrev pub selected_size : {D : Type 0} → Hashing D → Option ℕ → Stored → ℕ

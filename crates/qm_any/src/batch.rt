@@ -25,6 +25,7 @@ use crate::db::{Db, LaidOut, values_of};
 use crate::operations::{Step, diffs_of, share, shared_twin, spelled_steps, unapplied_of};
 use qm_base::{ByteString, Commitment, Digest, Error, Hasher, JournalError, Location, MerkleError};
 use qm_batch::{Base, Layer, Plan, Read, Write, Writes};
+use qm_bits::Chunks;
 use qm_chain::{Bounds, Diff, validate_batch_applicable};
 use qm_merkle::{Family, Position};
 use qm_operations::{Update, ValueEncoding};
@@ -145,30 +146,40 @@ impl<F: Family, D: Digest, U: Update> UnmerkleizedBatch<F, D, U> {
     /// is read where the database is at a state that the batch's parent knows; the parent of a batch that was begun on a
     /// database is that database as it was. A key that no kept step touches takes one read of the log for each location
     /// in its bucket, at most.
-    pub fn get<C: Store, I: qm_index::Unordered<Value = Location<F>>, H: Hasher<Digest = D>>(
+    pub fn get<
+        C: Store,
+        I: qm_index::Unordered<Value = Location<F>>,
+        H: Hasher<Digest = D>,
+        N: Chunks,
+    >(
         &self,
         alloc: Global,
         key: &U::Key,
-        db: &mut Db<F, C, I, H, U>,
+        db: &mut Db<F, C, I, H, U, N>,
     ) -> Result<Option<U::Value>, Error>
-        ensures value { AtBegun C.Store ⟦<Db<F, C, I, H, U> as LaidOut>⟧.layout db.old self.now (λ chain above.
+        ensures value { AtBegun C.Store ⟦<Db<F, C, I, H, U, N> as LaidOut>⟧.layout db.old self.now (λ chain above.
             IfOk result (λ v. option_map U.Value.bytes v ≡ read_through chain.base self.now.writes (U.Key.bytes key.now))) }
-        ensures reads { ReadsThrough C.Store ⟦<Db<F, C, I, H, U> as LaidOut>⟧.layout db.old db.new result self.now.parent.bounds }
+        ensures reads { ReadsThrough C.Store ⟦<Db<F, C, I, H, U, N> as LaidOut>⟧.layout db.old db.new result self.now.parent.bounds }
     {
         self.parent.known(db.commitment())?;
         db.read_one(alloc, &self.parent.steps, &self.writes, key)
     }
 
     /// The values of keys, in their order, as `get` reads them.
-    pub fn get_many<C: Store, I: qm_index::Unordered<Value = Location<F>>, H: Hasher<Digest = D>>(
+    pub fn get_many<
+        C: Store,
+        I: qm_index::Unordered<Value = Location<F>>,
+        H: Hasher<Digest = D>,
+        N: Chunks,
+    >(
         &self,
         alloc: Global,
         keys: &[U::Key],
-        db: &mut Db<F, C, I, H, U>,
+        db: &mut Db<F, C, I, H, U, N>,
     ) -> Result<Vec<Option<U::Value>>, Error>
-        ensures values { AtBegun C.Store ⟦<Db<F, C, I, H, U> as LaidOut>⟧.layout db.old self.now (λ chain above.
+        ensures values { AtBegun C.Store ⟦<Db<F, C, I, H, U, N> as LaidOut>⟧.layout db.old self.now (λ chain above.
             IfOk result (λ v. map (option_map U.Value.bytes) v.items ≡ map (λ k. read_through chain.base self.now.writes (U.Key.bytes k)) keys.now)) }
-        ensures reads { ReadsThrough C.Store ⟦<Db<F, C, I, H, U> as LaidOut>⟧.layout db.old db.new result self.now.parent.bounds }
+        ensures reads { ReadsThrough C.Store ⟦<Db<F, C, I, H, U, N> as LaidOut>⟧.layout db.old db.new result self.now.parent.bounds }
     {
         self.parent.known(db.commitment())?;
         db.read_all(alloc, &self.parent.steps, &self.writes, keys)
@@ -179,17 +190,18 @@ impl<F: Family, D: Digest, U: Update> UnmerkleizedBatch<F, D, U> {
         C: Store,
         I: qm_index::Unordered<Value = Location<F>>,
         H: Hasher<Digest = D>,
+        N: Chunks,
     >(
         &self,
         alloc: Global,
         keys: Vec<U::Key>,
-        db: &mut Db<F, C, I, H, U>,
+        db: &mut Db<F, C, I, H, U, N>,
     ) -> Result<(Vec<Read<F, U>>, Vec<Option<U::Value>>), Error>
         ensures keys { IfOk result (λ r. keys_of U.Key.bytes r.0.items ≡ map U.Key.bytes keys.items) }
-        ensures found { AtBegun C.Store ⟦<Db<F, C, I, H, U> as LaidOut>⟧.layout db.old self.now (λ chain above. IfOk result (λ r. AreReads U.view U.Key.bytes r.0.items chain.base)) }
-        ensures values { AtBegun C.Store ⟦<Db<F, C, I, H, U> as LaidOut>⟧.layout db.old self.now (λ chain above.
+        ensures found { AtBegun C.Store ⟦<Db<F, C, I, H, U, N> as LaidOut>⟧.layout db.old self.now (λ chain above. IfOk result (λ r. AreReads U.view U.Key.bytes r.0.items chain.base)) }
+        ensures values { AtBegun C.Store ⟦<Db<F, C, I, H, U, N> as LaidOut>⟧.layout db.old self.now (λ chain above.
             IfOk result (λ r. map (option_map U.Value.bytes) r.1.items ≡ map (λ k. read_through chain.base self.now.writes (U.Key.bytes k)) keys.items)) }
-        ensures reads { ReadsThrough C.Store ⟦<Db<F, C, I, H, U> as LaidOut>⟧.layout db.old db.new result self.now.parent.bounds }
+        ensures reads { ReadsThrough C.Store ⟦<Db<F, C, I, H, U, N> as LaidOut>⟧.layout db.old db.new result self.now.parent.bounds }
     {
         self.parent.known(db.commitment())?;
         let reads = db.find_all(alloc, &self.parent.steps, keys)?;
@@ -275,14 +287,19 @@ impl<F: Family, D: Digest, U: Update> MerkleizedBatch<F, D, U> {
 
     /// The value of a key on the list that the batch makes. It is read where the database is at a state that the batch
     /// knows: its tip, its boundary, or a kept ancestor's tip.
-    pub fn get<C: Store, I: qm_index::Unordered<Value = Location<F>>, H: Hasher<Digest = D>>(
+    pub fn get<
+        C: Store,
+        I: qm_index::Unordered<Value = Location<F>>,
+        H: Hasher<Digest = D>,
+        N: Chunks,
+    >(
         &self,
         alloc: Global,
         key: &U::Key,
-        db: &mut Db<F, C, I, H, U>,
+        db: &mut Db<F, C, I, H, U, N>,
     ) -> Result<Option<U::Value>, Error>
-        ensures value { AtMade C.Store ⟦<Db<F, C, I, H, U> as LaidOut>⟧.layout db.old self.now (λ chain tip. IfOk result (λ v. option_map U.Value.bytes v ≡ lives.value_of tip (U.Key.bytes key.now))) }
-        ensures reads { ReadsThrough C.Store ⟦<Db<F, C, I, H, U> as LaidOut>⟧.layout db.old db.new result self.now.bounds }
+        ensures value { AtMade C.Store ⟦<Db<F, C, I, H, U, N> as LaidOut>⟧.layout db.old self.now (λ chain tip. IfOk result (λ v. option_map U.Value.bytes v ≡ lives.value_of tip (U.Key.bytes key.now))) }
+        ensures reads { ReadsThrough C.Store ⟦<Db<F, C, I, H, U, N> as LaidOut>⟧.layout db.old db.new result self.now.bounds }
     {
         self.known(db.commitment())?;
         let writes = Writes::new(alloc);
@@ -290,15 +307,20 @@ impl<F: Family, D: Digest, U: Update> MerkleizedBatch<F, D, U> {
     }
 
     /// The values of keys, in their order, as `get` reads them.
-    pub fn get_many<C: Store, I: qm_index::Unordered<Value = Location<F>>, H: Hasher<Digest = D>>(
+    pub fn get_many<
+        C: Store,
+        I: qm_index::Unordered<Value = Location<F>>,
+        H: Hasher<Digest = D>,
+        N: Chunks,
+    >(
         &self,
         alloc: Global,
         keys: &[U::Key],
-        db: &mut Db<F, C, I, H, U>,
+        db: &mut Db<F, C, I, H, U, N>,
     ) -> Result<Vec<Option<U::Value>>, Error>
-        ensures values { AtMade C.Store ⟦<Db<F, C, I, H, U> as LaidOut>⟧.layout db.old self.now (λ chain tip.
+        ensures values { AtMade C.Store ⟦<Db<F, C, I, H, U, N> as LaidOut>⟧.layout db.old self.now (λ chain tip.
             IfOk result (λ v. map (option_map U.Value.bytes) v.items ≡ map (λ k. lives.value_of tip (U.Key.bytes k)) keys.now)) }
-        ensures reads { ReadsThrough C.Store ⟦<Db<F, C, I, H, U> as LaidOut>⟧.layout db.old db.new result self.now.bounds }
+        ensures reads { ReadsThrough C.Store ⟦<Db<F, C, I, H, U, N> as LaidOut>⟧.layout db.old db.new result self.now.bounds }
     {
         self.known(db.commitment())?;
         let writes = Writes::new(alloc);
@@ -306,13 +328,14 @@ impl<F: Family, D: Digest, U: Update> MerkleizedBatch<F, D, U> {
     }
 
     /// The proof of the batch's own operations in the list that it makes. It verifies against the batch's root.
-    pub fn proof<C: Store, I: qm_index::Unordered<Value = Location<F>>, H: Hasher<Digest = D>>(
-        &self,
-        alloc: Global,
-        db: &Db<F, C, I, H, U>,
-    ) -> Result<Proof<D>, Error>
-        ensures proof { (list : List Operation) (chain : Chain) (tip : List Operation) → ⟦<Db<F, C, I, H, U> as LaidOut>⟧.stands db.now list
-            → IsMade ⟦<Db<F, C, I, H, U> as LaidOut>⟧.layout.hashing self.now chain tip → IsKnown list chain tip
+    pub fn proof<
+        C: Store,
+        I: qm_index::Unordered<Value = Location<F>>,
+        H: Hasher<Digest = D>,
+        N: Chunks,
+    >(&self, alloc: Global, db: &Db<F, C, I, H, U, N>) -> Result<Proof<D>, Error>
+        ensures proof { (list : List Operation) (chain : Chain) (tip : List Operation) → ⟦<Db<F, C, I, H, U, N> as LaidOut>⟧.stands db.now list
+            → IsMade ⟦<Db<F, C, I, H, U, N> as LaidOut>⟧.layout.hashing self.now chain tip → IsKnown list chain tip
             → IfOk result (λ p. proof_view D.bytes p ≡ ops_proof H.hash F.shape U.form tip (length chain.base) (length tip)) }
         ensures readable { OnOk result (knows self.now.bounds db.now.commitment ≡ true) }
         ensures stale { IfErr result (λ e. e ≡ Error.StaleRead → knows self.now.bounds db.now.commitment ≡ false) }
@@ -320,8 +343,8 @@ impl<F: Family, D: Digest, U: Update> MerkleizedBatch<F, D, U> {
         ensures order { IfErr result (λ e. e ≢ Error.Memory → e ≢ Error.StaleRead → knows self.now.bounds db.now.commitment ≡ true) }
         ensures held { OnOk result (first_lacked (held_at F.shape self.now.tree db.now.log.tree) (needed_positions F.shape self.now.bounds.tip.size self.now.bounds.base.size self.now.bounds.tip.size) ≡ None) }
         ensures lacked { IfErr result (λ e. e ≢ Error.StaleRead → IsLacked (held_at F.shape self.now.tree db.now.log.tree) (needed_positions F.shape self.now.bounds.tip.size self.now.bounds.base.size self.now.bounds.tip.size) e) }
-        ensures whole { C.start db.now.log.store ≡ 0 → (list : List Operation) (chain : Chain) (tip : List Operation) → ⟦<Db<F, C, I, H, U> as LaidOut>⟧.stands db.now list
-            → IsMade ⟦<Db<F, C, I, H, U> as LaidOut>⟧.layout.hashing self.now chain tip → IsKnown list chain tip
+        ensures whole { C.start db.now.log.store ≡ 0 → (list : List Operation) (chain : Chain) (tip : List Operation) → ⟦<Db<F, C, I, H, U, N> as LaidOut>⟧.stands db.now list
+            → IsMade ⟦<Db<F, C, I, H, U, N> as LaidOut>⟧.layout.hashing self.now chain tip → IsKnown list chain tip
             → IfErr result (λ e. e ≡ Error.Memory) }
     {
         self.known(db.commitment())?;
@@ -337,9 +360,10 @@ impl<F: Family, D: Digest, U: Update> MerkleizedBatch<F, D, U> {
         C: Store,
         I: qm_index::Unordered<Value = Location<F>>,
         H: Hasher<Digest = D>,
-    >(&self, alloc: Global, db: &Db<F, C, I, H, U>) -> Result<Vec<D>, Error>
-        ensures pins { (list : List Operation) (chain : Chain) (tip : List Operation) → ⟦<Db<F, C, I, H, U> as LaidOut>⟧.stands db.now list
-            → IsMade ⟦<Db<F, C, I, H, U> as LaidOut>⟧.layout.hashing self.now chain tip → IsKnown list chain tip
+        N: Chunks,
+    >(&self, alloc: Global, db: &Db<F, C, I, H, U, N>) -> Result<Vec<D>, Error>
+        ensures pins { (list : List Operation) (chain : Chain) (tip : List Operation) → ⟦<Db<F, C, I, H, U, N> as LaidOut>⟧.stands db.now list
+            → IsMade ⟦<Db<F, C, I, H, U, N> as LaidOut>⟧.layout.hashing self.now chain tip → IsKnown list chain tip
             → IfOk result (λ pins. map D.bytes pins.items ≡ pins_at H.hash F.shape U.form tip (length chain.base)) }
         ensures readable { OnOk result (knows self.now.bounds db.now.commitment ≡ true) }
         ensures stale { IfErr result (λ e. e ≡ Error.StaleRead → knows self.now.bounds db.now.commitment ≡ false) }
@@ -347,8 +371,8 @@ impl<F: Family, D: Digest, U: Update> MerkleizedBatch<F, D, U> {
         ensures order { IfErr result (λ e. e ≢ Error.Memory → e ≢ Error.StaleRead → knows self.now.bounds db.now.commitment ≡ true) }
         ensures held { OnOk result (first_lacked (held_at F.shape self.now.tree db.now.log.tree) (trees.peak_positions F.shape self.now.bounds.base.size) ≡ None) }
         ensures lacked { IfErr result (λ e. e ≢ Error.StaleRead → IsLacked (held_at F.shape self.now.tree db.now.log.tree) (trees.peak_positions F.shape self.now.bounds.base.size) e) }
-        ensures whole { C.start db.now.log.store ≡ 0 → (list : List Operation) (chain : Chain) (tip : List Operation) → ⟦<Db<F, C, I, H, U> as LaidOut>⟧.stands db.now list
-            → IsMade ⟦<Db<F, C, I, H, U> as LaidOut>⟧.layout.hashing self.now chain tip → IsKnown list chain tip
+        ensures whole { C.start db.now.log.store ≡ 0 → (list : List Operation) (chain : Chain) (tip : List Operation) → ⟦<Db<F, C, I, H, U, N> as LaidOut>⟧.stands db.now list
+            → IsMade ⟦<Db<F, C, I, H, U, N> as LaidOut>⟧.layout.hashing self.now chain tip → IsKnown list chain tip
             → IfErr result (λ e. e ≡ Error.Memory) }
     {
         self.known(db.commitment())?;

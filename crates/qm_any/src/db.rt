@@ -37,7 +37,7 @@ use qm_base::{
     ByteString, Commitment, Digest, Error, Hasher, JournalError, Location, MerkleError, twin_option,
 };
 use qm_batch::{Base, Plan, Read, Wanted, Writes, apply_diffs, read_key, staged};
-use qm_bits::{Chunk64, Prunable};
+use qm_bits::{Chunks, Prunable};
 use qm_chain::{Diff, Policy};
 use qm_merkle::mem::Mem;
 use qm_merkle::{Family, Position};
@@ -61,9 +61,10 @@ pub struct Db<
     I: qm_index::Unordered<Value = Location<F>>,
     H: Hasher,
     U: Update,
+    N: Chunks,
 > {
     pub(crate) index: I,
-    activity: Prunable<Chunk64>,
+    activity: Prunable<N>,
     pub(crate) log: AuthLog<F, C, H>,
     commitment: Commitment<H::Digest>,
     floor: Location<F>,
@@ -71,8 +72,14 @@ pub struct Db<
     metadata: Option<Rc<U::Value>>,
 }
 
-impl<F: Family, C: Store, I: qm_index::Unordered<Value = Location<F>>, H: Hasher, U: Update> Model
-    for Db<F, C, I, H, U> {
+impl<
+    F: Family,
+    C: Store,
+    I: qm_index::Unordered<Value = Location<F>>,
+    H: Hasher,
+    U: Update,
+    N: Chunks,
+> Model for Db<F, C, I, H, U, N> {
     ghost use Rattle.std.specs.Prelude.{◌≡◌, ◌≤◌, option_map};
     ghost use Rattle.qm_bits.specs.Bitmaps.{bit_count};
     ghost use Rattle.qm_chain.specs.Bounds.{commitment_view};
@@ -82,22 +89,28 @@ impl<F: Family, C: Store, I: qm_index::Unordered<Value = Location<F>>, H: Hasher
 
     ghost view = { λ db. record { entries = I.entries db.index; activity = db.activity; log = db.log; commitment = commitment_view H.Digest.bytes db.commitment; floor = db.floor; live = db.live; metadata = option_map (λ m. U.Value.bytes m.value) db.metadata } };
 
-    ghost invariant = { λ db. (db.commitment.size ≡ db.log.tree.leaves) × (C.end db.log.store ≡ db.log.tree.leaves) × (db.live ≤ db.commitment.size) × (bit_count 64 db.activity ≡ db.commitment.size) };
+    ghost invariant = { λ db. (db.commitment.size ≡ db.log.tree.leaves) × (C.end db.log.store ≡ db.log.tree.leaves) × (db.live ≤ db.commitment.size) × (bit_count N.LEN db.activity ≡ db.commitment.size) };
 }
 
 /// What a database has beside its log.
 #[derive(Drop)]
-pub(crate) struct Beside<F, I: qm_index::Unordered<Value = Location<F>>, D: Digest, U: Update> {
+pub(crate) struct Beside<
+    F,
+    I: qm_index::Unordered<Value = Location<F>>,
+    D: Digest,
+    U: Update,
+    N: Chunks,
+> {
     index: I,
-    pub(crate) activity: Prunable<Chunk64>,
+    pub(crate) activity: Prunable<N>,
     commitment: Commitment<D>,
     floor: Location<F>,
     live: u64,
     metadata: Option<Rc<U::Value>>,
 }
 
-impl<F, I: qm_index::Unordered<Value = Location<F>>, D: Digest, U: Update> Model
-    for Beside<F, I, D, U> {
+impl<F, I: qm_index::Unordered<Value = Location<F>>, D: Digest, U: Update, N: Chunks> Model
+    for Beside<F, I, D, U, N> {
     ghost use Rattle.std.specs.Prelude.{◌≡◌, ◌≤◌, option_map};
     ghost use Rattle.qm_bits.specs.Bitmaps.{bit_count};
     ghost use Rattle.qm_chain.specs.Bounds.{commitment_view};
@@ -107,20 +120,21 @@ impl<F, I: qm_index::Unordered<Value = Location<F>>, D: Digest, U: Update> Model
 
     ghost view = { λ b. record { entries = I.entries b.index; activity = b.activity; commitment = commitment_view D.bytes b.commitment; floor = b.floor; live = b.live; metadata = option_map (λ m. U.Value.bytes m.value) b.metadata } };
 
-    ghost invariant = { λ b. (b.live ≤ b.commitment.size) × (bit_count 64 b.activity ≡ b.commitment.size) };
+    ghost invariant = { λ b. (b.live ≤ b.commitment.size) × (bit_count N.LEN b.activity ≡ b.commitment.size) };
 }
 
-impl<F: Family, I: qm_index::Unordered<Value = Location<F>>, D: Digest, U: Update> Beside<
-    F,
-    I,
-    D,
-    U,
-> {
+impl<
+    F: Family,
+    I: qm_index::Unordered<Value = Location<F>>,
+    D: Digest,
+    U: Update,
+    N: Chunks,
+> Beside<F, I, D, U, N> {
     // The database of this over a log.
     pub(crate) fn over<C: Store, H: Hasher<Digest = D>>(
         self,
         log: AuthLog<F, C, H>,
-    ) -> Db<F, C, I, H, U>
+    ) -> Db<F, C, I, H, U, N>
         requires size { self.commitment.size ≡ log.tree.leaves }
         requires end { C.end log.store ≡ log.tree.leaves }
         ensures { result ≡ over self log }
@@ -154,8 +168,14 @@ pub trait LaidOut {
     ghost stands: { Database Self.Store Self.Digest → List Operation → Type 0 };
 }
 
-impl<F: Family, C: Store, I: qm_index::Unordered<Value = Location<F>>, H: Hasher, U: Update> LaidOut
-    for Db<F, C, I, H, U> {
+impl<
+    F: Family,
+    C: Store,
+    I: qm_index::Unordered<Value = Location<F>>,
+    H: Hasher,
+    U: Update,
+    N: Chunks,
+> LaidOut for Db<F, C, I, H, U, N> {
     ghost use Rattle.qm_any.specs.Layouts.{layout_of};
     ghost use Rattle.qm_any.specs.Databases.{IsDatabase};
 
@@ -163,22 +183,23 @@ impl<F: Family, C: Store, I: qm_index::Unordered<Value = Location<F>>, H: Hasher
 
     type Store = C;
 
-    ghost layout = { layout_of H.Digest.bytes H.Hasher F.Family U.Update I.Unordered };
+    ghost layout = { layout_of N.LEN H.Digest.bytes H.Hasher F.Family U.Update I.Unordered };
 
-    ghost stands = { IsDatabase C.Store (layout_of H.Digest.bytes H.Hasher F.Family U.Update I.Unordered) };
+    ghost stands = { IsDatabase C.Store (layout_of N.LEN H.Digest.bytes H.Hasher F.Family U.Update I.Unordered) };
 }
 
-impl<F: Family, C: Store, I: qm_index::Unordered<Value = Location<F>>, H: Hasher, U: Update> Db<
-    F,
-    C,
-    I,
-    H,
-    U,
-> {
+impl<
+    F: Family,
+    C: Store,
+    I: qm_index::Unordered<Value = Location<F>>,
+    H: Hasher,
+    U: Update,
+    N: Chunks,
+> Db<F, C, I, H, U, N> {
     // The database of an index, a log and what these stand for.
     pub(crate) fn of_parts(
         index: I,
-        activity: Prunable<Chunk64>,
+        activity: Prunable<N>,
         log: AuthLog<F, C, H>,
         commitment: Commitment<H::Digest>,
         floor: Location<F>,
@@ -186,7 +207,7 @@ impl<F: Family, C: Store, I: qm_index::Unordered<Value = Location<F>>, H: Hasher
         metadata: Option<Rc<U::Value>>,
     ) -> Self
         requires size { commitment.size ≡ log.tree.leaves }
-        requires bits { bit_count 64 activity ≡ commitment.size }
+        requires bits { bit_count N.LEN activity ≡ commitment.size }
         requires end { C.end log.store ≡ log.tree.leaves }
         requires live { live ≤ commitment.size }
         ensures { result ≡ record { entries = I.entries index; activity = activity; log = log; commitment = commitment_view H.Digest.bytes commitment; floor = floor; live = live; metadata = option_map (λ m. U.Value.bytes m.value) metadata } }
@@ -203,7 +224,7 @@ impl<F: Family, C: Store, I: qm_index::Unordered<Value = Location<F>>, H: Hasher
     }
 
     // The log, and what the database has beside it.
-    pub(crate) fn apart(self) -> (AuthLog<F, C, H>, Beside<F, I, H::Digest, U>)
+    pub(crate) fn apart(self) -> (AuthLog<F, C, H>, Beside<F, I, H::Digest, U, N>)
         ensures whole { self ≡ over result.1 result.0 }
         ensures size { result.1.commitment.size ≡ result.0.tree.leaves }
         ensures end { C.end result.0.store ≡ result.0.tree.leaves }
@@ -325,7 +346,7 @@ impl<F: Family, C: Store, I: qm_index::Unordered<Value = Location<F>>, H: Hasher
             → IsKeptTree H.Digest.bytes H.hash F.shape batch.now.tree (list ++ map (λ v. v.items) lacking.entry.items.items) older → Contains ((list ++ map (λ v. v.items) lacking.entry.items.items) ∷ older) list
             → logs.IsLog C.Store F.shape H.Digest.bytes H.hash next.log (list ++ map (λ v. v.items) lacking.entry.items.items)) }
         ensures index { IfOk result (λ next. (list tip : List Operation) → LeadTo (map (λ d. changes_view U.Key.bytes U.Value.bytes d.value) lacking.entry.diffs.now) list tip → IsIndexed I.index_key self.entries list → IsIndexed I.index_key next.entries tip) }
-        ensures active { IfOk result (λ next. (list tip : List Operation) → LeadTo (map (λ d. changes_view U.Key.bytes U.Value.bytes d.value) lacking.entry.diffs.now) list tip → IsCommitEnded list → batch.now.bounds.tip.size ≡ length tip → all_bits 64 self.activity ≡ bits list → all_bits 64 next.activity ≡ bits tip) }
+        ensures active { IfOk result (λ next. (list tip : List Operation) → LeadTo (map (λ d. changes_view U.Key.bytes U.Value.bytes d.value) lacking.entry.diffs.now) list tip → IsCommitEnded list → batch.now.bounds.tip.size ≡ length tip → all_bits N.LEN self.activity ≡ bits list → all_bits N.LEN next.activity ≡ bits tip) }
         ensures rest { IfOk result (λ next. (next.commitment ≡ batch.now.bounds.tip) × (next.floor ≡ batch.now.bounds.inactivity_floor) × (next.live ≡ batch.now.live) × (next.metadata ≡ option_map (λ m. U.Value.bytes m.value) lacking.entry.metadata)) }
         ensures grown { IfOk result (λ next. Appended C.Store self.log.store next.log.store (map (λ v. v.items) lacking.entry.items.items)) }
         ensures later { IfOk result (λ next. C.faults self.log.store ≤ C.faults next.log.store) }
@@ -577,7 +598,7 @@ impl<F: Family, C: Store, I: qm_index::Unordered<Value = Location<F>>, H: Hasher
     }
 
     /// The bits of the list: set where a live update stands and at the last commit.
-    pub fn bitmap(&self) -> &Prunable<Chunk64>
+    pub fn bitmap(&self) -> &Prunable<N>
         ensures { result.now ≡ self.now.activity }
     {
         &self.activity
@@ -600,7 +621,8 @@ impl<
     I: qm_index::Unordered<Value = Location<F>>,
     H: Hasher,
     U: Steps<F, I>,
-> Db<F, C, I, H, U> {
+    N: Chunks,
+> Db<F, C, I, H, U, N> {
     // What is wanted, and metadata, make of a base list, under a policy.
     pub(crate) fn plan<P: Policy<F, U::Key, U::Value>>(
         &mut self,
@@ -644,7 +666,8 @@ impl<
     I: qm_index::Unordered<Value = Location<F>>,
     H: Hasher,
     U: Update,
-> fmt::Debug for Db<F, C, I, H, U> {
+    N: Chunks,
+> fmt::Debug for Db<F, C, I, H, U, N> {
     fn fmt<W: fmt::Write>(&self, f: &mut fmt::Formatter<W>) -> fmt::Result {
         let (start, size) = self.log.bounds();
         f.debug_struct("Db")
@@ -695,19 +718,20 @@ fn indexed<
     I: qm_index::Unordered<Value = Location<F>> + Drop,
     H: Hasher + Drop,
     U: Update,
+    N: Chunks,
 >(
-    beside: Beside<F, I, H::Digest, U>,
+    beside: Beside<F, I, H::Digest, U, N>,
     log: AuthLog<F, C, H>,
     diffs: &[Rc<Diff<F, U::Key, U::Value>>],
     batch: &MerkleizedBatch<F, H::Digest, U>,
     metadata: Option<Rc<U::Value>>,
-) -> Result<Db<F, C, I, H, U>, Refusal<Db<F, C, I, H, U>, C>>
+) -> Result<Db<F, C, I, H, U, N>, Refusal<Db<F, C, I, H, U, N>, C>>
     requires size { batch.now.bounds.tip.size ≡ log.tree.leaves }
     requires grown { beside.commitment.size ≤ log.tree.leaves }
     requires end { C.end log.store ≡ log.tree.leaves }
     ensures log { IfOk result (λ next. next.log ≡ log) }
     ensures index { IfOk result (λ next. (list tip : List Operation) → LeadTo (map (λ d. changes_view U.Key.bytes U.Value.bytes d.value) diffs.now) list tip → IsIndexed I.index_key beside.entries list → IsIndexed I.index_key next.entries tip) }
-    ensures active { IfOk result (λ next. (list tip : List Operation) → LeadTo (map (λ d. changes_view U.Key.bytes U.Value.bytes d.value) diffs.now) list tip → IsCommitEnded list → batch.now.bounds.tip.size ≡ length tip → all_bits 64 beside.activity ≡ bits list → all_bits 64 next.activity ≡ bits tip) }
+    ensures active { IfOk result (λ next. (list tip : List Operation) → LeadTo (map (λ d. changes_view U.Key.bytes U.Value.bytes d.value) diffs.now) list tip → IsCommitEnded list → batch.now.bounds.tip.size ≡ length tip → all_bits N.LEN beside.activity ≡ bits list → all_bits N.LEN next.activity ≡ bits tip) }
     ensures rest { IfOk result (λ next. (next.commitment ≡ batch.now.bounds.tip) × (next.floor ≡ batch.now.bounds.inactivity_floor) × (next.live ≡ batch.now.live) × (next.metadata ≡ option_map (λ m. U.Value.bytes m.value) metadata)) }
     ensures back { IfErr result (λ r. (r.given ≡ Given.Store log.store) × (r.error ≡ Error.Memory)) }
 {
@@ -734,17 +758,23 @@ fn indexed<
 }
 
 // Index and bits of a batch's list, of which the database lacked the steps that make these differences.
-fn brought_up<F: Family, I: qm_index::Unordered<Value = Location<F>>, K: ByteString, V: ByteString>(
+fn brought_up<
+    F: Family,
+    I: qm_index::Unordered<Value = Location<F>>,
+    K: ByteString,
+    V: ByteString,
+    N: Chunks,
+>(
     index: &mut I,
-    activity: &mut Prunable<Chunk64>,
+    activity: &mut Prunable<N>,
     size: u64,
     diffs: &[Rc<Diff<F, K, V>>],
 ) -> Result<(), AllocError>
-    requires bits { bit_count 64 activity.old ≤ size }
+    requires bits { bit_count N.LEN activity.old ≤ size }
     requires few { size ≤ 2 ^ 62 }
     ensures index { (list tip : List Operation) → LeadTo (map (λ d. changes_view K.bytes V.bytes d.value) diffs.now) list tip → IsIndexed I.index_key (I.entries index.old) list → OnOk result (IsIndexed I.index_key (I.entries index.new) tip) }
-    ensures count { OnOk result (bit_count 64 activity.new ≡ size) }
-    ensures active { (list tip : List Operation) → LeadTo (map (λ d. changes_view K.bytes V.bytes d.value) diffs.now) list tip → IsCommitEnded list → size ≡ length tip → all_bits 64 activity.old ≡ bits list → OnOk result (all_bits 64 activity.new ≡ bits tip) }
+    ensures count { OnOk result (bit_count N.LEN activity.new ≡ size) }
+    ensures active { (list tip : List Operation) → LeadTo (map (λ d. changes_view K.bytes V.bytes d.value) diffs.now) list tip → IsCommitEnded list → size ≡ length tip → all_bits N.LEN activity.old ≡ bits list → OnOk result (all_bits N.LEN activity.new ≡ bits tip) }
     ensures err { OnErr result (activity.new ≡ activity.old) }
 {
     apply_diffs(index, diffs)?;
@@ -758,10 +788,11 @@ fn given_back<
     I: qm_index::Unordered<Value = Location<F>> + Drop,
     H: Hasher,
     U: Update,
+    N: Chunks,
 >(
-    beside: Beside<F, I, H::Digest, U>,
+    beside: Beside<F, I, H::Digest, U, N>,
     given: LogGiven<AuthLog<F, C, H>, C>,
-) -> Given<Db<F, C, I, H, U>, C>
+) -> Given<Db<F, C, I, H, U, N>, C>
     requires { (log : logs.Log C H.Digest) → given ≡ LogGiven.Log log → (beside.commitment.size ≡ log.tree.leaves) × (C.end log.store ≡ log.tree.leaves) }
     ensures store { store_given (λ db. db.log.store) result ≡ logs.store_given given }
     ensures back { (x : Database C H.Digest) → result ≡ Given.Database x → (given ≡ LogGiven.Log x.log) × (x ≡ over beside x.log) }

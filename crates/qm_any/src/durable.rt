@@ -10,6 +10,7 @@ ghost use Rattle.qm_any.specs.Lasting.{bits_from, boundary_of, over_log, HasLast
 
 use crate::db::{Beside, Db, LaidOut};
 use qm_base::{Error, Hasher, Location};
+use qm_bits::Chunks;
 use qm_build::store_of;
 use qm_merkle::Family;
 use qm_operations::Update;
@@ -22,7 +23,8 @@ impl<
     I: qm_index::Unordered<Value = Location<F>> + Drop,
     H: Hasher + Drop,
     U: Update,
-> Db<F, C, I, H, U> {
+    N: Chunks,
+> Db<F, C, I, H, U, N> {
     /// Makes the operations stable: from then on a crash leaves them all. It takes one call of the store and no memory. A
     /// refusal gives back the store.
     pub fn commit(self) -> Result<Self, Refusal<Self, C>>
@@ -61,7 +63,7 @@ impl<
     pub fn prune(self, alloc: Global, loc: Location<F>) -> Result<Self, Refusal<Self, C>>
         ensures stands { (list : List Operation) → ⟦<Self as LaidOut>⟧.stands self list → IfOk result (λ db. ⟦<Self as LaidOut>⟧.stands db list) }
         ensures whole { (list : List Operation) → ⟦<Self as LaidOut>⟧.stands self list → NoneBelow self.log.tree.start list → IfOk result (λ db. NoneBelow db.log.tree.start list) }
-        ensures pruned { IfOk result (HasPruned C.Store ⟦<Self as LaidOut>⟧.layout.hashing settled loc self) }
+        ensures pruned { IfOk result (HasPruned C.Store ⟦<Self as LaidOut>⟧.layout settled loc self) }
         ensures boundary { (list : List Operation) → ⟦<Self as LaidOut>⟧.stands self list → boundary_of self ≡ lives.floor list }
         ensures fits { OnOk result (loc ≤ boundary_of self) }
         ensures beyond { IfErr result (λ r. boundary_of self < loc → (r.given ≡ Given.Database self) × (r.error ≡ Error.PruneBeyondMinRequired loc (boundary_of self))) }
@@ -83,7 +85,7 @@ impl<
         requires size { to ≤ self.commitment.size }
         requires stable { IfSome (C.told self.log.store) (λ s. s.stable ≡ end_of s) }
         ensures stands { (list : List Operation) → to ≤ lives.floor list → ⟦<Self as LaidOut>⟧.stands self list → IfOk result (λ db. ⟦<Self as LaidOut>⟧.stands db list) }
-        ensures pruned { IfOk result (HasPruned C.Store ⟦<Self as LaidOut>⟧.layout.hashing (λ s. s) to self) }
+        ensures pruned { IfOk result (HasPruned C.Store ⟦<Self as LaidOut>⟧.layout (λ s. s) to self) }
         ensures refused { IfErr result (IsGivenUp C.Store (λ _. HasLeftPruned C.Store ⟦<Self as LaidOut>⟧.layout.hashing (λ s. s) to self.log) self.log.store) }
     {
         self.prune_bits(to).prune_log(alloc, to)
@@ -94,7 +96,7 @@ impl<
     pub fn prune_bits(self, to: u64) -> Self
         requires size { to ≤ self.commitment.size }
         ensures stands { (list : List Operation) → to ≤ lives.floor list → ⟦<Self as LaidOut>⟧.stands self list → ⟦<Self as LaidOut>⟧.stands result list }
-        ensures pruned { result ≡ record self { activity = bits_from to self.activity } }
+        ensures pruned { result ≡ record self { activity = bits_from N.LEN to self.activity } }
     {
         let (log, mut beside) = self.apart();
         beside.activity.prune_to_bit(to);
@@ -141,10 +143,11 @@ fn over<
     I: qm_index::Unordered<Value = Location<F>> + Drop,
     H: Hasher + Drop,
     U: Update,
+    N: Chunks,
 >(
-    beside: Beside<F, I, H::Digest, U>,
+    beside: Beside<F, I, H::Digest, U, N>,
     done: Result<AuthLog<F, C, H>, LogRefusal<AuthLog<F, C, H>, C>>,
-) -> Result<Db<F, C, I, H, U>, Refusal<Db<F, C, I, H, U>, C>>
+) -> Result<Db<F, C, I, H, U, N>, Refusal<Db<F, C, I, H, U, N>, C>>
     requires { IfOk done (λ log. (beside.commitment.size ≡ log.tree.leaves) × (C.end log.store ≡ log.tree.leaves)) }
     ensures { result ≡ over_log beside done }
 {

@@ -10,7 +10,7 @@ use qm_store::Store;
 
 /// Of a database that stands for a list: each bit below its floor is clear.
 pub fn bits_below_the_floor_are_clear<C: Store, D>()
-    ensures { (layout : Layout D) (db : Database C D) (list : List Operation) (i : ℕ) → IsDatabase C.Store layout db list → i < db.floor → slice_index_or (all_bits 64 db.activity) i false ≡ false }
+    ensures { (layout : Layout D) (db : Database C D) (list : List Operation) (i : ℕ) → IsDatabase C.Store layout db list → i < db.floor → slice_index_or (all_bits layout.chunk db.activity) i false ≡ false }
 {}
 
 /// Its floor is a location of the list, and its commit exactly where no key is live.

@@ -15,7 +15,7 @@ ghost use Rattle.qm_store.specs.Given.{Appended, AppendedPart, store_given, IsUn
 use crate::db::{Db, LaidOut};
 use crate::operations::spelled;
 use qm_base::{Commitment, Digest, Error, Hasher, JournalError, Location};
-use qm_bits::{Chunk64, Prunable};
+use qm_bits::{Chunks, Prunable};
 use qm_build::{empty_log, store_of};
 use qm_index::Factory;
 use qm_merkle::Family;
@@ -32,15 +32,16 @@ pub(crate) fn begin<
     I: Factory<Value = Location<F>> + Drop,
     H: Hasher + Drop,
     U: Update,
+    N: Chunks,
 >(
     alloc: Global,
     store: C,
     hasher: H,
     translator: I::Translator,
-) -> Result<Db<F, C, I, H, U>, Refusal<Db<F, C, I, H, U>, C>>
+) -> Result<Db<F, C, I, H, U, N>, Refusal<Db<F, C, I, H, U, N>, C>>
     requires start { C.start store ≡ 0 }
     requires empty { C.end store ≡ 0 }
-    ensures stands { IfSome (C.told store) (λ _. IfOk result (λ db. ⟦<Db<F, C, I, H, U> as LaidOut>⟧.stands db fresh)) }
+    ensures stands { IfSome (C.told store) (λ _. IfOk result (λ db. ⟦<Db<F, C, I, H, U, N> as LaidOut>⟧.stands db fresh)) }
     ensures became { IfOk result (λ db. Becomes (C.told store) (C.told db.log.store) (λ s. settled (appended (map (spelling U.form) fresh) s))) }
     ensures left { IfErr result (λ r. Turns (C.told store) (C.told (store_given (λ db. db.log.store) r.given)) (HasAppended (map (spelling U.form) fresh))) }
     ensures unopened { IfErr result (λ r. IfSome (C.told store) (λ s. IsSome (content_refusal (any_layout U.form F.shape H.Digest.SIZE) (any_found U.form s) None) → IsUnchanged C.Store store (store_given (λ db. db.log.store) r.given))) }
@@ -74,7 +75,7 @@ fn fresh_items<F, U: Update>(alloc: Global) -> Result<Vec<Vec<u8>>, AllocError>
 }
 
 // The bits of a fresh list: its commit is active.
-fn first_bit(alloc: Global) -> Result<Prunable<Chunk64>, AllocError>
+fn first_bit<N: Chunks>(alloc: Global) -> Result<Prunable<N>, AllocError>
     ensures { IfOk result (λ activity. activity ≡ record { pruned = 0; kept = bits fresh }) }
 {
     let mut activity = Prunable::new(alloc);
@@ -83,17 +84,24 @@ fn first_bit(alloc: Global) -> Result<Prunable<Chunk64>, AllocError>
 }
 
 // The database of a fresh list, whose spelling is put into an empty log.
-fn begun<F: Family, C: Store, I: Factory<Value = Location<F>>, H: Hasher + Drop, U: Update>(
+fn begun<
+    F: Family,
+    C: Store,
+    I: Factory<Value = Location<F>>,
+    H: Hasher + Drop,
+    U: Update,
+    N: Chunks,
+>(
     alloc: Global,
     log: AuthLog<F, C, H>,
     translator: I::Translator,
     items: &[Vec<u8>],
-) -> Result<Db<F, C, I, H, U>, Refusal<Db<F, C, I, H, U>, C>>
+) -> Result<Db<F, C, I, H, U, N>, Refusal<Db<F, C, I, H, U, N>, C>>
     requires log { IsLog C.Store F.shape H.Digest.bytes H.hash log [] }
     requires end { C.end log.store ≡ 0 }
     requires items { map (λ v. v.items) items.now ≡ map (spelling U.form) fresh }
     requires count { length items.now ≡ 1 }
-    ensures stands { IfSome (C.told log.store) (λ _. IfOk result (λ db. ⟦<Db<F, C, I, H, U> as LaidOut>⟧.stands db fresh)) }
+    ensures stands { IfSome (C.told log.store) (λ _. IfOk result (λ db. ⟦<Db<F, C, I, H, U, N> as LaidOut>⟧.stands db fresh)) }
     ensures pruned { IfOk result (λ db. db.activity.pruned ≡ 0) }
     ensures grown { IfOk result (λ db. Appended C.Store log.store db.log.store (map (spelling U.form) fresh)) }
     ensures later { IfOk result (λ db. C.faults log.store ≤ C.faults db.log.store) }

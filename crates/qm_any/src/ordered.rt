@@ -17,6 +17,7 @@ use crate::db::{Db, LaidOut};
 use crate::operations::Step;
 use qm_base::{Digest, Error, Hasher, JournalError, Location};
 use qm_batch::{holder, next_key, previous_key, read_key};
+use qm_bits::Chunks;
 use qm_merkle::Family;
 use qm_operations::Update;
 use qm_step::kind::Steps;
@@ -29,7 +30,8 @@ impl<
     I: qm_index::Unordered<Value = Location<F>>,
     H: Hasher,
     U: Steps<F, I>,
-> Db<F, C, I, H, U> {
+    N: Chunks,
+> Db<F, C, I, H, U, N> {
     /// The live update whose span holds the key, with its location: the key's own, or else that of the nearest live key
     /// before it, around the ring; none only where no key is live. It takes the reads of two buckets at most.
     pub fn get_span(
@@ -117,18 +119,19 @@ impl<F: Family, D: Digest, U: Update> MerkleizedBatch<F, D, U> {
         C: Store,
         I: qm_index::Unordered<Value = Location<F>>,
         H: Hasher<Digest = D>,
+        N: Chunks,
     >(
         &self,
         alloc: Global,
         key: &U::Key,
-        db: &mut Db<F, C, I, H, U>,
+        db: &mut Db<F, C, I, H, U, N>,
     ) -> Result<Option<U::Key>, Error>
     where
         U: Steps<F, I>,
         requires { U.form.ordered ≡ true }
-        ensures value { AtMade C.Store ⟦<Db<F, C, I, H, U> as LaidOut>⟧.layout db.old self.now (λ chain tip.
+        ensures value { AtMade C.Store ⟦<Db<F, C, I, H, U, N> as LaidOut>⟧.layout db.old self.now (λ chain tip.
             IfOk result (λ found. option_map U.Key.bytes found ≡ key_above (live_keys tip) (U.Key.bytes key.now))) }
-        ensures reads { ReadsThrough C.Store ⟦<Db<F, C, I, H, U> as LaidOut>⟧.layout db.old db.new result self.now.bounds }
+        ensures reads { ReadsThrough C.Store ⟦<Db<F, C, I, H, U, N> as LaidOut>⟧.layout db.old db.new result self.now.bounds }
     {
         self.known(db.commitment())?;
         db.next_over(alloc, &self.steps, key)
@@ -140,18 +143,19 @@ impl<F: Family, D: Digest, U: Update> MerkleizedBatch<F, D, U> {
         C: Store,
         I: qm_index::Unordered<Value = Location<F>>,
         H: Hasher<Digest = D>,
+        N: Chunks,
     >(
         &self,
         alloc: Global,
         key: &U::Key,
-        db: &mut Db<F, C, I, H, U>,
+        db: &mut Db<F, C, I, H, U, N>,
     ) -> Result<Option<U::Key>, Error>
     where
         U: Steps<F, I>,
         requires { U.form.ordered ≡ true }
-        ensures value { AtMade C.Store ⟦<Db<F, C, I, H, U> as LaidOut>⟧.layout db.old self.now (λ chain tip.
+        ensures value { AtMade C.Store ⟦<Db<F, C, I, H, U, N> as LaidOut>⟧.layout db.old self.now (λ chain tip.
             IfOk result (λ found. option_map U.Key.bytes found ≡ key_below (live_keys tip) (U.Key.bytes key.now))) }
-        ensures reads { ReadsThrough C.Store ⟦<Db<F, C, I, H, U> as LaidOut>⟧.layout db.old db.new result self.now.bounds }
+        ensures reads { ReadsThrough C.Store ⟦<Db<F, C, I, H, U, N> as LaidOut>⟧.layout db.old db.new result self.now.bounds }
     {
         self.known(db.commitment())?;
         db.previous_over(alloc, &self.steps, key)

@@ -20,6 +20,7 @@ ghost use Rattle.qm_build.specs.Reasons.{proof_reasons};
 
 use crate::db::{Db, LaidOut};
 use qm_base::{Digest, Error, Hasher, JournalError, Location, MerkleError};
+use qm_bits::Chunks;
 use qm_build::proved_over;
 use qm_merkle::Family;
 use qm_operations::{Operation, Update};
@@ -28,13 +29,14 @@ use qm_store::Store;
 use std::alloc::Global;
 use std::num::NonZeroU64;
 
-impl<F: Family, C: Store, I: qm_index::Unordered<Value = Location<F>>, H: Hasher, U: Update> Db<
-    F,
-    C,
-    I,
-    H,
-    U,
-> {
+impl<
+    F: Family,
+    C: Store,
+    I: qm_index::Unordered<Value = Location<F>>,
+    H: Hasher,
+    U: Update,
+    N: Chunks,
+> Db<F, C, I, H, U, N> {
     /// The operations from `start` on, at most `max`, and their proof in the list of the first `size` operations, which
     /// has to end with a commit. It verifies against the root that the database had with these operations. It is refused
     /// for the first of these: so many operations are past the end; the store no longer has the last of them, or that is

@@ -18,12 +18,12 @@ ghost use Rattle.qm_build.specs.Reads.{items_within, IsRead, IsReadError};
 ghost use Rattle.qm_step.specs.Kinds.{HasRing};
 ghost use Rattle.qm_open.specs.Selecting.{any_layout, any_found, bits_of, content_refusal, found_of, layout_of, selected_view};
 ghost use Rattle.qm_store.specs.Refusals.{refusal_of, IsDue};
-ghost use Rattle.qm_any.specs.Restoring.{pruned_view, selected_size, taken, HasList, LeavesOpening};
+ghost use Rattle.qm_any.specs.Restoring.{height_of, pruned_view, selected_size, taken, HasList, LeavesOpening};
 
 use crate::db::{Db, LaidOut};
 use crate::open::begin;
 use qm_base::{Commitment, Digest, Error, Hasher, JournalError, Location};
-use qm_bits::Chunk64;
+use qm_bits::Chunks;
 use qm_build::{Opened, open_checked, store_of};
 use qm_index::Factory;
 use qm_merkle::Family;
@@ -51,17 +51,18 @@ fn settled<
     I: qm_index::Unordered<Value = Location<F>> + Drop,
     H: Hasher + Drop,
     U: Update,
+    N: Chunks,
 >(
     alloc: Global,
-    opened: Opened<Chunk64, F, C, I, H, U>,
+    opened: Opened<N, F, C, I, H, U>,
     selected: Selected,
-) -> Result<Db<F, C, I, H, U>, Refusal<Db<F, C, I, H, U>, C>>
+) -> Result<Db<F, C, I, H, U, N>, Refusal<Db<F, C, I, H, U, N>, C>>
     requires size { opened.log.tree.leaves ≡ selected.size }
-    requires bits { bit_count 64 opened.activity ≡ selected.size }
+    requires bits { bit_count N.LEN opened.activity ≡ selected.size }
     requires live { opened.live ≤ selected.size }
     requires stable { IfSome (C.told opened.log.store) (λ s. s.stable ≤ end_of s) }
-    ensures stands { (list : List Operation) → IsOpened C.Store F.shape H.Digest.bytes H.hash U.form I.index_key 64 opened.log (I.entries opened.index) opened.live opened.activity (H.Digest.bytes opened.root) (option_map U.Value.bytes opened.metadata) list
-        → IsGood list → HasRing U.form list → selected.floor ≡ lives.floor list → IfSome (C.told opened.log.store) (λ _. IfOk result (λ db. ⟦<Db<F, C, I, H, U> as LaidOut>⟧.stands db list)) }
+    ensures stands { (list : List Operation) → IsOpened C.Store F.shape H.Digest.bytes H.hash U.form I.index_key N.LEN opened.log (I.entries opened.index) opened.live opened.activity (H.Digest.bytes opened.root) (option_map U.Value.bytes opened.metadata) list
+        → IsGood list → HasRing U.form list → selected.floor ≡ lives.floor list → IfSome (C.told opened.log.store) (λ _. IfOk result (λ db. ⟦<Db<F, C, I, H, U, N> as LaidOut>⟧.stands db list)) }
     ensures became { IfOk result (λ db. Becomes (C.told opened.log.store) (C.told db.log.store) (rewound selected.size)) }
     ensures left { IfErr result (λ r. Turns (C.told opened.log.store) (C.told (store_given (λ db. db.log.store) r.given)) (λ s. ReadsAs (min s.stable selected.size) (RewindLeaves selected.size s))) }
     ensures activity { IfOk result (λ db. db.activity ≡ opened.activity) }
@@ -105,6 +106,7 @@ fn open_list<
     I: Factory<Value = Location<F>> + Drop,
     H: Hasher + Drop,
     U: Update,
+    N: Chunks,
 >(
     alloc: Global,
     store: C,
@@ -113,14 +115,14 @@ fn open_list<
     kept_keys: NonZeroUsize,
     selected: Selected,
     chunks: usize,
-) -> Result<Db<F, C, I, H, U>, Refusal<Db<F, C, I, H, U>, C>>
+) -> Result<Db<F, C, I, H, U, N>, Refusal<Db<F, C, I, H, U, N>, C>>
     requires start { C.start store ≤ selected.floor }
-    requires pruned { chunks * 512 ≤ selected.floor }
+    requires pruned { chunks * (8 * N.LEN) ≤ selected.floor }
     requires floor { selected.floor < selected.size }
     requires end { selected.size ≤ C.end store }
     requires stable { IfSome (C.told store) (λ s. s.stable ≤ end_of s) }
-    ensures stands { IfSome (C.told store) (λ s. (list : List Operation) → HasList ⟦<Db<F, C, I, H, U> as LaidOut>⟧.layout.hashing s selected.size list → selected.floor ≡ lives.floor list
-        → IfOk result (λ db. ⟦<Db<F, C, I, H, U> as LaidOut>⟧.stands db list)) }
+    ensures stands { IfSome (C.told store) (λ s. (list : List Operation) → HasList ⟦<Db<F, C, I, H, U, N> as LaidOut>⟧.layout.hashing s selected.size list → selected.floor ≡ lives.floor list
+        → IfOk result (λ db. ⟦<Db<F, C, I, H, U, N> as LaidOut>⟧.stands db list)) }
     ensures became { IfOk result (λ db. Becomes (C.told store) (C.told db.log.store) (λ s. settled (rewound selected.size s))) }
     ensures left { IfErr result (λ r. Turns (C.told store) (C.told (store_given (λ db. db.log.store) r.given)) (λ s. ReadsAs (min s.stable selected.size) (RewindLeaves selected.size s))) }
     ensures unopened { IfErr result (λ r. IfSome (C.told store) (λ s. IsSome (content_refusal (any_layout U.form F.shape H.Digest.SIZE) (any_found U.form s) (Some (selected_view selected))) → IsUnchanged C.Store store (store_given (λ db. db.log.store) r.given))) }
@@ -137,14 +139,21 @@ fn open_list<
     settled(alloc, opened, selected)?.commit()
 }
 
-// The pruned chunks of activity bits, as an opening looks at them: each has 512 bits.
-fn pruned_bits(pruned: Option<(u64, Option<u64>)>) -> Option<Pruned>
-    ensures { result ≡ option_map pruned_view pruned }
+// The height of the nodes over a chunk: it has a bit for each of 2^height locations.
+fn chunk_height<N: Chunks>() -> u32
+    ensures { result ≡ height_of N.LEN }
+{
+    N::span().ilog2()
+}
+
+// The pruned chunks of activity bits, as an opening looks at them.
+fn pruned_bits<N: Chunks>(pruned: Option<(u64, Option<u64>)>) -> Option<Pruned>
+    ensures { result ≡ option_map (pruned_view N.LEN) pruned }
 {
     match pruned {
         Some((chunks, threshold)) => Some(Pruned {
             chunks,
-            height: 9,
+            height: chunk_height::<N>(),
             threshold,
         }),
         None => None,
@@ -152,14 +161,14 @@ fn pruned_bits(pruned: Option<(u64, Option<u64>)>) -> Option<Pruned>
 }
 
 // With how many pruned chunks the bits of a list with this floor begin: so many as are told, or else all below the floor.
-fn chunks_below(floor: u64, pruned: Option<(u64, Option<u64>)>) -> usize
-    requires { bits_of (option_map pruned_view pruned) ≤ floor }
-    ensures below { result * 512 ≤ floor }
+fn chunks_below<N: Chunks>(floor: u64, pruned: Option<(u64, Option<u64>)>) -> usize
+    requires { bits_of (option_map (pruned_view N.LEN) pruned) ≤ floor }
+    ensures below { result * (8 * N.LEN) ≤ floor }
     ensures told { IfSome pruned (λ p. result ≡ p.0) }
 {
     match pruned {
         Some((chunks, _)) => chunks as usize,
-        None => (floor / 512) as usize,
+        None => (floor / N::span()) as usize,
     }
 }
 
@@ -187,21 +196,22 @@ pub fn init<
     I: Factory<Value = Location<F>> + Drop,
     H: Hasher + Drop,
     U: Update,
+    N: Chunks,
 >(
     alloc: Global,
     store: C,
     hasher: H,
     config: Config<I::Translator, ()>,
     max_size: Option<u64>,
-) -> Result<Db<F, C, I, H, U>, Refusal<Db<F, C, I, H, U>, C>>
-    ensures keys { ⟦<Db<F, C, I, H, U> as LaidOut>⟧.layout.index_key ≡ I.Translator.index_key }
-    ensures stands { IfSome (C.told store) (λ s. (list : List Operation) → HasList ⟦<Db<F, C, I, H, U> as LaidOut>⟧.layout.hashing s (selected_size ⟦<Db<F, C, I, H, U> as LaidOut>⟧.layout.hashing max_size s) list
-        → IfOk result (λ db. ⟦<Db<F, C, I, H, U> as LaidOut>⟧.stands db list)) }
-    ensures fresh { IfSome (C.told store) (λ s. selected_size ⟦<Db<F, C, I, H, U> as LaidOut>⟧.layout.hashing max_size s ≡ 0 → IfOk result (λ db. ⟦<Db<F, C, I, H, U> as LaidOut>⟧.stands db fresh)) }
+) -> Result<Db<F, C, I, H, U, N>, Refusal<Db<F, C, I, H, U, N>, C>>
+    ensures keys { ⟦<Db<F, C, I, H, U, N> as LaidOut>⟧.layout.index_key ≡ I.Translator.index_key }
+    ensures stands { IfSome (C.told store) (λ s. (list : List Operation) → HasList ⟦<Db<F, C, I, H, U, N> as LaidOut>⟧.layout.hashing s (selected_size ⟦<Db<F, C, I, H, U, N> as LaidOut>⟧.layout.hashing max_size s) list
+        → IfOk result (λ db. ⟦<Db<F, C, I, H, U, N> as LaidOut>⟧.stands db list)) }
+    ensures fresh { IfSome (C.told store) (λ s. selected_size ⟦<Db<F, C, I, H, U, N> as LaidOut>⟧.layout.hashing max_size s ≡ 0 → IfOk result (λ db. ⟦<Db<F, C, I, H, U, N> as LaidOut>⟧.stands db fresh)) }
     ensures accepted { IfSome (C.told store) (λ s. OnOk result (opening_refusal (any_layout U.form F.shape H.Digest.SIZE) (any_found U.form s) max_size ≡ None)) }
     ensures refused { IfSome (C.told store) (λ s. IfErr result (λ r. IsDue r.error (opening_refusal (any_layout U.form F.shape H.Digest.SIZE) (any_found U.form s) max_size))) }
-    ensures became { IfOk result (λ db. Turns (C.told store) (C.told db.log.store) (λ s new. new ≡ taken ⟦<Db<F, C, I, H, U> as LaidOut>⟧.layout.hashing (selected_size ⟦<Db<F, C, I, H, U> as LaidOut>⟧.layout.hashing max_size s) s)) }
-    ensures left { IfErr result (λ r. Turns (C.told store) (C.told (store_given (λ db. db.log.store) r.given)) (λ s new. LeavesOpening ⟦<Db<F, C, I, H, U> as LaidOut>⟧.layout.hashing (selected_size ⟦<Db<F, C, I, H, U> as LaidOut>⟧.layout.hashing max_size s) s new)) }
+    ensures became { IfOk result (λ db. Turns (C.told store) (C.told db.log.store) (λ s new. new ≡ taken ⟦<Db<F, C, I, H, U, N> as LaidOut>⟧.layout.hashing (selected_size ⟦<Db<F, C, I, H, U, N> as LaidOut>⟧.layout.hashing max_size s) s)) }
+    ensures left { IfErr result (λ r. Turns (C.told store) (C.told (store_given (λ db. db.log.store) r.given)) (λ s new. LeavesOpening ⟦<Db<F, C, I, H, U, N> as LaidOut>⟧.layout.hashing (selected_size ⟦<Db<F, C, I, H, U, N> as LaidOut>⟧.layout.hashing max_size s) s new)) }
     ensures unopened { IfErr result (λ r. IfSome (C.told store) (λ s. IsSome (opening_refusal (any_layout U.form F.shape H.Digest.SIZE) (any_found U.form s) max_size) → IsUnchanged C.Store store (store_given (λ db. db.log.store) r.given))) }
     ensures start { IfOk result (λ db. C.start db.log.store ≡ C.start store) }
     ensures later { IfOk result (λ db. C.faults store ≤ C.faults db.log.store) }
@@ -221,6 +231,7 @@ pub fn init_with<
     I: Factory<Value = Location<F>> + Drop,
     H: Hasher + Drop,
     U: Update,
+    N: Chunks,
 >(
     alloc: Global,
     store: C,
@@ -228,18 +239,18 @@ pub fn init_with<
     config: Config<I::Translator, ()>,
     max_size: Option<u64>,
     pruned: Option<(u64, Option<u64>)>,
-) -> Result<Db<F, C, I, H, U>, Refusal<Db<F, C, I, H, U>, C>>
-    requires few { IfSome pruned (λ p. p.0 * 512 ≤ 2 ^ 62) }
-    requires threshold { IfSome pruned (λ p. p.1 ≡ pair_absorption_threshold F.shape 9 p.0) }
-    ensures keys { ⟦<Db<F, C, I, H, U> as LaidOut>⟧.layout.index_key ≡ I.Translator.index_key }
-    ensures stands { IfSome (C.told store) (λ s. (list : List Operation) → HasList ⟦<Db<F, C, I, H, U> as LaidOut>⟧.layout.hashing s (selected_size ⟦<Db<F, C, I, H, U> as LaidOut>⟧.layout.hashing max_size s) list
-        → IfOk result (λ db. ⟦<Db<F, C, I, H, U> as LaidOut>⟧.stands db list)) }
-    ensures fresh { IfSome (C.told store) (λ s. selected_size ⟦<Db<F, C, I, H, U> as LaidOut>⟧.layout.hashing max_size s ≡ 0 → IfOk result (λ db. ⟦<Db<F, C, I, H, U> as LaidOut>⟧.stands db fresh)) }
-    ensures accepted { IfSome (C.told store) (λ s. OnOk result (opening_refusal (layout_of U.form F.shape H.Digest.SIZE (option_map pruned_view pruned)) (found_of U.form s (option_map pruned_view pruned)) max_size ≡ None)) }
-    ensures refused { IfSome (C.told store) (λ s. IfErr result (λ r. IsDue r.error (opening_refusal (layout_of U.form F.shape H.Digest.SIZE (option_map pruned_view pruned)) (found_of U.form s (option_map pruned_view pruned)) max_size))) }
-    ensures became { IfOk result (λ db. Turns (C.told store) (C.told db.log.store) (λ s new. new ≡ taken ⟦<Db<F, C, I, H, U> as LaidOut>⟧.layout.hashing (selected_size ⟦<Db<F, C, I, H, U> as LaidOut>⟧.layout.hashing max_size s) s)) }
-    ensures left { IfErr result (λ r. Turns (C.told store) (C.told (store_given (λ db. db.log.store) r.given)) (λ s new. LeavesOpening ⟦<Db<F, C, I, H, U> as LaidOut>⟧.layout.hashing (selected_size ⟦<Db<F, C, I, H, U> as LaidOut>⟧.layout.hashing max_size s) s new)) }
-    ensures unopened { IfErr result (λ r. IfSome (C.told store) (λ s. IsSome (opening_refusal (layout_of U.form F.shape H.Digest.SIZE (option_map pruned_view pruned)) (found_of U.form s (option_map pruned_view pruned)) max_size) → IsUnchanged C.Store store (store_given (λ db. db.log.store) r.given))) }
+) -> Result<Db<F, C, I, H, U, N>, Refusal<Db<F, C, I, H, U, N>, C>>
+    requires few { IfSome pruned (λ p. p.0 * (8 * N.LEN) ≤ 2 ^ 62) }
+    requires threshold { IfSome pruned (λ p. p.1 ≡ pair_absorption_threshold F.shape (height_of N.LEN) p.0) }
+    ensures keys { ⟦<Db<F, C, I, H, U, N> as LaidOut>⟧.layout.index_key ≡ I.Translator.index_key }
+    ensures stands { IfSome (C.told store) (λ s. (list : List Operation) → HasList ⟦<Db<F, C, I, H, U, N> as LaidOut>⟧.layout.hashing s (selected_size ⟦<Db<F, C, I, H, U, N> as LaidOut>⟧.layout.hashing max_size s) list
+        → IfOk result (λ db. ⟦<Db<F, C, I, H, U, N> as LaidOut>⟧.stands db list)) }
+    ensures fresh { IfSome (C.told store) (λ s. selected_size ⟦<Db<F, C, I, H, U, N> as LaidOut>⟧.layout.hashing max_size s ≡ 0 → IfOk result (λ db. ⟦<Db<F, C, I, H, U, N> as LaidOut>⟧.stands db fresh)) }
+    ensures accepted { IfSome (C.told store) (λ s. OnOk result (opening_refusal (layout_of U.form F.shape H.Digest.SIZE (option_map (pruned_view N.LEN) pruned)) (found_of U.form s (option_map (pruned_view N.LEN) pruned)) max_size ≡ None)) }
+    ensures refused { IfSome (C.told store) (λ s. IfErr result (λ r. IsDue r.error (opening_refusal (layout_of U.form F.shape H.Digest.SIZE (option_map (pruned_view N.LEN) pruned)) (found_of U.form s (option_map (pruned_view N.LEN) pruned)) max_size))) }
+    ensures became { IfOk result (λ db. Turns (C.told store) (C.told db.log.store) (λ s new. new ≡ taken ⟦<Db<F, C, I, H, U, N> as LaidOut>⟧.layout.hashing (selected_size ⟦<Db<F, C, I, H, U, N> as LaidOut>⟧.layout.hashing max_size s) s)) }
+    ensures left { IfErr result (λ r. Turns (C.told store) (C.told (store_given (λ db. db.log.store) r.given)) (λ s new. LeavesOpening ⟦<Db<F, C, I, H, U, N> as LaidOut>⟧.layout.hashing (selected_size ⟦<Db<F, C, I, H, U, N> as LaidOut>⟧.layout.hashing max_size s) s new)) }
+    ensures unopened { IfErr result (λ r. IfSome (C.told store) (λ s. IsSome (opening_refusal (layout_of U.form F.shape H.Digest.SIZE (option_map (pruned_view N.LEN) pruned)) (found_of U.form s (option_map (pruned_view N.LEN) pruned)) max_size) → IsUnchanged C.Store store (store_given (λ db. db.log.store) r.given))) }
     ensures pruned { IfOk result (λ db. IfSome pruned (λ p. db.activity.pruned ≡ p.0)) }
     ensures start { IfOk result (λ db. C.start db.log.store ≡ C.start store) }
     ensures later { IfOk result (λ db. C.faults store ≤ C.faults db.log.store) }
@@ -253,9 +264,9 @@ pub fn init_with<
         init_cache,
         init_concurrency: _,
     } = config;
-    match select_commit::<F, C, U>(alloc, &mut store, max_size, pruned_bits(pruned)) {
+    match select_commit::<F, C, U>(alloc, &mut store, max_size, pruned_bits::<N>(pruned)) {
         Ok(Some(selected)) => {
-            let chunks = chunks_below(selected.floor, pruned);
+            let chunks = chunks_below::<N>(selected.floor, pruned);
             open_list(
                 alloc, store, hasher, translator, init_cache, selected, chunks,
             )

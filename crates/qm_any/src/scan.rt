@@ -13,6 +13,7 @@ ghost use Rattle.qm_any.specs.Scanned.{keys_left, lent_to, lent_to_keys, pairs_l
 use crate::db::{Db, LaidOut};
 use qm_base::{Error, Hasher, JournalError, Location};
 use qm_batch::Scan;
+use qm_bits::Chunks;
 use qm_merkle::Family;
 use qm_operations::Update;
 use qm_step::kind::Steps;
@@ -29,9 +30,10 @@ pub struct RangeScan<
     I: qm_index::Unordered<Value = Location<F>>,
     H: Hasher,
     U: Update,
+    N: Chunks,
 > {
     alloc: Global,
-    db: &'a mut Db<F, C, I, H, U>,
+    db: &'a mut Db<F, C, I, H, U, N>,
     scan: Scan<U>,
 }
 
@@ -44,8 +46,9 @@ pub struct KeyScan<
     I: qm_index::Unordered<Value = Location<F>>,
     H: Hasher,
     U: Update,
+    N: Chunks,
 > {
-    pairs: RangeScan<'a, F, C, I, H, U>,
+    pairs: RangeScan<'a, F, C, I, H, U, N>,
 }
 
 impl<
@@ -54,7 +57,8 @@ impl<
     I: qm_index::Unordered<Value = Location<F>>,
     H: Hasher,
     U: Steps<F, I>,
-> Db<F, C, I, H, U> {
+    N: Chunks,
+> Db<F, C, I, H, U, N> {
     /// Begins a scan of the live keys in a range with their values, in key order. It reads nothing yet. A range that ends
     /// before it begins has nothing.
     pub fn stream_range(
@@ -62,7 +66,7 @@ impl<
         alloc: Global,
         low: Bound<U::Key>,
         high: Bound<U::Key>,
-    ) -> RangeScan<'_, F, C, I, H, U>
+    ) -> RangeScan<'_, F, C, I, H, U, N>
         ensures value { (list : List Operation) → pairs_left I.index_key result list ≡ pairs_in (limit_of U.Key.bytes low) (limit_of U.Key.bytes high) list }
         ensures lent { (lent_to result).now ≡ self.old }
         ensures same { (lent_to result).ghost_name ≡ self.entry.ghost_name }
@@ -81,7 +85,7 @@ impl<
         alloc: Global,
         low: Bound<U::Key>,
         high: Bound<U::Key>,
-    ) -> KeyScan<'_, F, C, I, H, U>
+    ) -> KeyScan<'_, F, C, I, H, U, N>
         ensures value { (list : List Operation) → keys_left I.index_key result list ≡ keys_in (limit_of U.Key.bytes low) (limit_of U.Key.bytes high) list }
         ensures lent { (lent_to_keys result).now ≡ self.old }
         ensures same { (lent_to_keys result).ghost_name ≡ self.entry.ghost_name }
@@ -99,12 +103,12 @@ impl<
         scan: &mut Scan<U>,
     ) -> Option<Result<(U::Key, U::Value), Error>>
         requires { U.form.ordered ≡ true }
-        ensures value { (list : List Operation) → ⟦<Db<F, C, I, H, U> as LaidOut>⟧.stands self.old list
+        ensures value { (list : List Operation) → ⟦<Db<F, C, I, H, U, N> as LaidOut>⟧.stands self.old list
             → IsStep (pair_view U.Key.bytes U.Value.bytes) (left_of I.index_key scan.old list) (left_of I.index_key scan.new list) result }
         ensures error { IfSome result (λ r. IfErr r (IsReadError C.Store self.old.log self.new.log)) }
-        ensures whole { (list : List Operation) → ⟦<Db<F, C, I, H, U> as LaidOut>⟧.stands self.old list → NoneBelow self.old.log.tree.start list
+        ensures whole { (list : List Operation) → ⟦<Db<F, C, I, H, U, N> as LaidOut>⟧.stands self.old list → NoneBelow self.old.log.tree.start list
             → IfSome result (λ r. IfErr r (λ e. (n : ℕ) → e ≢ Error.Journal (JournalError.ItemPruned n))) }
-        ensures left { IsLeft C.Store ⟦<Db<F, C, I, H, U> as LaidOut>⟧.layout.hashing self.old self.new }
+        ensures left { IsLeft C.Store ⟦<Db<F, C, I, H, U, N> as LaidOut>⟧.layout.hashing self.old self.new }
     {
         scan.next(alloc, &self.index, &mut self.log)
     }
@@ -116,18 +120,19 @@ impl<
     I: qm_index::Unordered<Value = Location<F>>,
     H: Hasher,
     U: Steps<F, I>,
-> RangeScan<'_, F, C, I, H, U> {
+    N: Chunks,
+> RangeScan<'_, F, C, I, H, U, N> {
     /// The next live key of the range with its value, or nothing behind the last. A refused read, or want of memory, leaves
     /// all that was left, and the next call reads the same bucket again. Each call reads two buckets at most, each bucket
     /// once where no read is refused.
     pub fn next(&mut self) -> Option<Result<(U::Key, U::Value), Error>>
         requires { U.form.ordered ≡ true }
-        ensures value { (list : List Operation) → ⟦<Db<F, C, I, H, U> as LaidOut>⟧.stands (lent_to self.old).now list
+        ensures value { (list : List Operation) → ⟦<Db<F, C, I, H, U, N> as LaidOut>⟧.stands (lent_to self.old).now list
             → IsStep (pair_view U.Key.bytes U.Value.bytes) (pairs_left I.index_key self.old list) (pairs_left I.index_key self.new list) result }
         ensures error { IfSome result (λ r. IfErr r (IsReadError C.Store (lent_to self.old).now.log (lent_to self.new).now.log)) }
-        ensures whole { (list : List Operation) → ⟦<Db<F, C, I, H, U> as LaidOut>⟧.stands (lent_to self.old).now list → NoneBelow (lent_to self.old).now.log.tree.start list
+        ensures whole { (list : List Operation) → ⟦<Db<F, C, I, H, U, N> as LaidOut>⟧.stands (lent_to self.old).now list → NoneBelow (lent_to self.old).now.log.tree.start list
             → IfSome result (λ r. IfErr r (λ e. (n : ℕ) → e ≢ Error.Journal (JournalError.ItemPruned n))) }
-        ensures left { IsLeft C.Store ⟦<Db<F, C, I, H, U> as LaidOut>⟧.layout.hashing (lent_to self.old).now (lent_to self.new).now }
+        ensures left { IsLeft C.Store ⟦<Db<F, C, I, H, U, N> as LaidOut>⟧.layout.hashing (lent_to self.old).now (lent_to self.new).now }
         ensures same { (lent_to self.new).ghost_name ≡ (lent_to self.old).ghost_name }
     {
         self.db.scan_next(self.alloc, &mut self.scan)
@@ -140,16 +145,17 @@ impl<
     I: qm_index::Unordered<Value = Location<F>>,
     H: Hasher,
     U: Steps<F, I>,
-> KeyScan<'_, F, C, I, H, U> {
+    N: Chunks,
+> KeyScan<'_, F, C, I, H, U, N> {
     /// The next live key of the range, or nothing behind the last. It reads as `RangeScan::next` does.
     pub fn next(&mut self) -> Option<Result<U::Key, Error>>
         requires { U.form.ordered ≡ true }
-        ensures value { (list : List Operation) → ⟦<Db<F, C, I, H, U> as LaidOut>⟧.stands (lent_to_keys self.old).now list
+        ensures value { (list : List Operation) → ⟦<Db<F, C, I, H, U, N> as LaidOut>⟧.stands (lent_to_keys self.old).now list
             → IsStep U.Key.bytes (keys_left I.index_key self.old list) (keys_left I.index_key self.new list) result }
         ensures error { IfSome result (λ r. IfErr r (IsReadError C.Store (lent_to_keys self.old).now.log (lent_to_keys self.new).now.log)) }
-        ensures whole { (list : List Operation) → ⟦<Db<F, C, I, H, U> as LaidOut>⟧.stands (lent_to_keys self.old).now list → NoneBelow (lent_to_keys self.old).now.log.tree.start list
+        ensures whole { (list : List Operation) → ⟦<Db<F, C, I, H, U, N> as LaidOut>⟧.stands (lent_to_keys self.old).now list → NoneBelow (lent_to_keys self.old).now.log.tree.start list
             → IfSome result (λ r. IfErr r (λ e. (n : ℕ) → e ≢ Error.Journal (JournalError.ItemPruned n))) }
-        ensures left { IsLeft C.Store ⟦<Db<F, C, I, H, U> as LaidOut>⟧.layout.hashing (lent_to_keys self.old).now (lent_to_keys self.new).now }
+        ensures left { IsLeft C.Store ⟦<Db<F, C, I, H, U, N> as LaidOut>⟧.layout.hashing (lent_to_keys self.old).now (lent_to_keys self.new).now }
         ensures same { (lent_to_keys self.new).ghost_name ≡ (lent_to_keys self.old).ghost_name }
     {
         match self.pairs.next() {

@@ -18,7 +18,7 @@ ghost use Rattle.qm_build.specs.Apart.{links_apart};
 use crate::links::forms_ring;
 use crate::opened::{Opened, open_at};
 use qm_base::{Corrupt, Digest, Error, Hasher, JournalError, Location};
-use qm_bits::Chunk64;
+use qm_bits::Chunks;
 use qm_index::Factory;
 use qm_merkle::Family;
 use qm_open::Selected;
@@ -56,6 +56,7 @@ fn check_links<F: Family, C: Store, H: Hasher, U: Update>(
 /// What is made of the list that ends with the selected commit, where head, items and links of the store are right. So many
 /// chunks of its bits are pruned. A refusal gives back the store.
 pub fn open_checked<
+    N: Chunks,
     F: Family,
     C: Store + Drop,
     I: Factory<Value = Location<F>> + Drop,
@@ -70,19 +71,19 @@ pub fn open_checked<
     kept_keys: NonZeroUsize,
     selected: Selected,
     chunks: usize,
-) -> Result<Opened<Chunk64, F, C, I, H, U>, Refusal<X, C>>
+) -> Result<Opened<N, F, C, I, H, U>, Refusal<X, C>>
     requires start { C.start store ≤ selected.floor }
-    requires pruned { chunks * 512 ≤ selected.floor }
+    requires pruned { chunks * (8 * N.LEN) ≤ selected.floor }
     requires floor { selected.floor < selected.size }
     requires end { selected.size ≤ C.end store }
     ensures stands { (list : List Operation) → length list ≡ selected.size → All (IsOf U.form) list → IsGood list → selected.floor ≡ lives.floor list → IfSome (C.told store) (λ held.
         take (selected.size - C.start store) held.items ≡ drop (C.start store) (map (spelling U.form) list) → IsHead F.shape H.Digest.bytes H.hash (C.start store) (digests_from H.hash F.shape 0 (map (spelling U.form) list)) held.head
-        → IfOk result (λ o. IsOpened C.Store F.shape H.Digest.bytes H.hash U.form I.index_key 64 o.log (I.entries o.index) o.live o.activity (H.Digest.bytes o.root) (option_map U.Value.bytes o.metadata) list)) }
+        → IfOk result (λ o. IsOpened C.Store F.shape H.Digest.bytes H.hash U.form I.index_key N.LEN o.log (I.entries o.index) o.live o.activity (H.Digest.bytes o.root) (option_map U.Value.bytes o.metadata) list)) }
     ensures size { IfOk result (λ o. o.log.tree.leaves ≡ selected.size) }
     ensures kept { IfOk result (λ o. IsKept C.Store store o.log.store) }
     ensures later { IfOk result (λ o. C.faults store ≤ C.faults o.log.store) }
     ensures pruned { IfOk result (λ o. o.activity.pruned ≡ chunks) }
-    ensures bits { IfOk result (λ o. (bit_count 64 o.activity ≡ selected.size) × (o.live ≤ selected.size)) }
+    ensures bits { IfOk result (λ o. (bit_count N.LEN o.activity ≡ selected.size) × (o.live ≤ selected.size)) }
     ensures accepted { IfSome (C.told store) (λ s. OnOk result (content_refusal (any_layout U.form F.shape H.Digest.SIZE) (any_found U.form s) (Some (selected_view selected)) ≡ None)) }
     ensures refused { IfSome (C.told store) (λ s. IfErr result (λ r. IsDue r.error (content_refusal (any_layout U.form F.shape H.Digest.SIZE) (any_found U.form s) (Some (selected_view selected))))) }
     ensures back { IfErr result (λ r. (s : C) × (r.given ≡ Given.Store s) × IsKept C.Store store s × IsCause (C.faults store) (C.faults s) (r.error ≡ Error.Journal JournalError.Store)) }

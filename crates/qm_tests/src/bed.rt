@@ -5,6 +5,7 @@ use qm_any::batch::MerkleizedBatch;
 use qm_any::db::Db;
 use qm_any::{Config, init_with};
 use qm_base::{ByteString, Error, Hasher, Location};
+use qm_bits::Chunk64;
 use qm_index::Factory;
 use qm_merkle::Family;
 use qm_operations::Update;
@@ -47,6 +48,7 @@ pub(crate) type Database<B> = Db<
     <B as Bed>::Index,
     <B as Bed>::Hasher,
     <B as Bed>::Pair,
+    Chunk64,
 >;
 
 pub(crate) type Batch<B> = MerkleizedBatch<

@@ -19,4 +19,4 @@ returns-in-Ok-clause-index g c = λ list tip lead indexed.
 pub returns-in-Ok-clause-active : goal.returns-in-Ok-clause-active
 returns-in-Ok-clause-active g c = λ list tip lead ended size from.
     c.in-Ok.ensures.active list tip lead ended (ap (λ b. b.bounds.tip.size) c.batch-inside.view_is ∙ ap (λ b. b.bounds.tip.size) c.batch.view_is ∙ size)
-    (subst (λ b. all_bits 64 b.activity ≡ bits list) (sym c.beside.view_is) from)
+    (subst (λ b. all_bits g.N.Chunks.LEN b.activity ≡ bits list) (sym c.beside.view_is) from)

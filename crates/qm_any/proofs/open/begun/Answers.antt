@@ -29,7 +29,7 @@ returns-in-Ok-append_batch g c =
           let empty = subst (λ l. IsLog g.C.Store shape bytes hash l []) (sym same) c.requires.log in
           let grows = subst (λ l. Becomes (g.C.Store.told l.store) (g.C.Store.told log.store) (appended (map (λ v. v.items) c.args.items.now))) same c.in-Ok-append_batch.ensures.grown.told in
           grown-told (g.C.Store.told c.args.log.store) (g.C.Store.told log.store) _ _ grows (λ told.
-          fresh-stands g.C.Store (layout_of g.H.Digest.Digest.bytes g.H.Hasher g.F.Family g.U.Update g.I.Unordered) c.of_parts.result log (record { size = 1; root = bytes c.in-Ok.root })
+          fresh-stands g.C.Store (layout_of g.N.Chunks.LEN g.H.Digest.Digest.bytes g.H.Hasher g.F.Family g.U.Update g.I.Unordered) c.of_parts.result log (record { size = 1; root = bytes c.in-Ok.root })
           (c.of_parts.ensures ∙ same-three (λ entries activity floor. record { entries = entries; activity = activity; log = log; commitment = record { size = 1; root = bytes c.in-Ok.root }; floor = floor; live = 0; metadata = None }) c.new-index.ensures c.in-Ok-first_bit.ensures c.new-in-Ok-append_batch.ensures)
           (ap (λ r. record { size = 1; root = r }) rooted) told
           (subst (IsLog g.C.Store shape bytes hash log) c.requires.items (c.in-Ok-append_batch.ensures.stands [] empty)));

@@ -11,8 +11,11 @@ use Rattle.qm_any.specs.Restoring.{selected_size, taken, LeavesOpening}
 use Rattle.qm_any.proofs.Taking.{taken-some, leaves-some, leaves-whole, turns-weaker, turns-kept, unchanged-behind}
 use Rattle.qm_build.proofs.Checking.{each-known, known-at}
 use Rattle.qm_open.specs.Selecting.{selected_view}
-use Rattle.qm_any.proofs.Restoring.{accepted-at, told-floor, selects-same, threshold-seen, so-pruned, none-pruned}
+use Rattle.qm_any.proofs.Restoring.{accepted-at, told-floor, few-seen, selects-same, threshold-seen, so-pruned, none-pruned}
 use Rattle.qm_any.proofs.restore.init_with.Goals as goal
+
+pub select_commit-requires : goal.select_commit-requires
+select_commit-requires g c = record { few = few-seen g.N.Chunks.LEN g.met.N.Chunks.power g.met.N.Chunks.most c.args.pruned c.pruned_bits.result c.pruned_bits.ensures c.requires.few }
 
 pub returns-in-Ok-Some-clause-pruned : goal.returns-in-Ok-Some-clause-pruned
 returns-in-Ok-Some-clause-pruned g c = ok-then c.open_list.result c.open_list.ensures.pruned (λ db is. so-pruned c.args.pruned db.activity.pruned c.chunks_below-chunks.result is c.chunks_below-chunks.ensures.told)
@@ -20,7 +23,7 @@ returns-in-Ok-Some-clause-pruned g c = ok-then c.open_list.result c.open_list.en
 pub returns-in-Ok-None-clause-pruned : goal.returns-in-Ok-None-clause-pruned
 returns-in-Ok-None-clause-pruned g c =
     let empty = rw (c.in-Ok-None.field-0-is, c.pruned_bits.ensures) at c.in-Ok-None.ensures.empty in
-    ok-then c.begin.result c.begin.ensures.pruned (λ db is. none-pruned c.args.pruned db.activity.pruned is (empty refl).2)
+    ok-then c.begin.result c.begin.ensures.pruned (λ db is. none-pruned g.N.Chunks.LEN c.args.pruned db.activity.pruned is (empty refl).2)
 
 pub returns-in-Ok-Some-clause-stands : goal.returns-in-Ok-Some-clause-stands
 returns-in-Ok-Some-clause-stands g c =
@@ -42,7 +45,7 @@ returns-in-Ok-Some-clause-stands g c =
 pub returns-in-Ok-Some-clause-accepted : goal.returns-in-Ok-Some-clause-accepted
 returns-in-Ok-Some-clause-accepted g c =
     let told = g.C.Store.told c.args.store in
-    let seen = threshold-seen g.F.Family.shape c.args.pruned c.requires.threshold in
+    let seen = threshold-seen g.N.Chunks.LEN g.F.Family.shape c.args.pruned c.requires.threshold in
     let accepted = accepted-at g.U.Update.form told c.args.max_size g.F.Family.shape g.H.Digest.Digest.SIZE _ _ _ _ c.pruned_bits.ensures c.in-Ok-Some.field-0-is seen c.in-Ok-Some.ensures.accepted in
     each-known told (λ s is.
     subst (λ r. OnOk c.open_list.result (r ≡ None)) (sym (known-at _ told s is accepted))
@@ -51,7 +54,7 @@ returns-in-Ok-Some-clause-accepted g c =
 pub returns-in-Ok-Some-clause-refused : goal.returns-in-Ok-Some-clause-refused
 returns-in-Ok-Some-clause-refused g c =
     let told = g.C.Store.told c.args.store in
-    let seen = threshold-seen g.F.Family.shape c.args.pruned c.requires.threshold in
+    let seen = threshold-seen g.N.Chunks.LEN g.F.Family.shape c.args.pruned c.requires.threshold in
     let accepted = accepted-at g.U.Update.form told c.args.max_size g.F.Family.shape g.H.Digest.Digest.SIZE _ _ _ _ c.pruned_bits.ensures c.in-Ok-Some.field-0-is seen c.in-Ok-Some.ensures.accepted in
     each-known told (λ s is.
     subst (λ due. IfErr c.open_list.result (λ r. IsDue r.error due)) (sym (known-at _ told s is accepted))
@@ -60,7 +63,7 @@ returns-in-Ok-Some-clause-refused g c =
 pub returns-in-Ok-None-clause-accepted : goal.returns-in-Ok-None-clause-accepted
 returns-in-Ok-None-clause-accepted g c =
     let told = g.C.Store.told c.args.store in
-    let seen = threshold-seen g.F.Family.shape c.args.pruned c.requires.threshold in
+    let seen = threshold-seen g.N.Chunks.LEN g.F.Family.shape c.args.pruned c.requires.threshold in
     let accepted = accepted-at g.U.Update.form told c.args.max_size g.F.Family.shape g.H.Digest.Digest.SIZE _ _ _ _ c.pruned_bits.ensures c.in-Ok-None.field-0-is seen c.in-Ok-None.ensures.accepted in
     each-known told (λ s is.
     subst (λ r. OnOk c.begin.result (r ≡ None)) (sym (known-at _ told s is accepted))
@@ -69,7 +72,7 @@ returns-in-Ok-None-clause-accepted g c =
 pub returns-in-Ok-None-clause-refused : goal.returns-in-Ok-None-clause-refused
 returns-in-Ok-None-clause-refused g c =
     let told = g.C.Store.told c.args.store in
-    let seen = threshold-seen g.F.Family.shape c.args.pruned c.requires.threshold in
+    let seen = threshold-seen g.N.Chunks.LEN g.F.Family.shape c.args.pruned c.requires.threshold in
     let accepted = accepted-at g.U.Update.form told c.args.max_size g.F.Family.shape g.H.Digest.Digest.SIZE _ _ _ _ c.pruned_bits.ensures c.in-Ok-None.field-0-is seen c.in-Ok-None.ensures.accepted in
     each-known told (λ s is.
     subst (λ due. IfErr c.begin.result (λ r. IsDue r.error due)) (sym (known-at _ told s is accepted))
@@ -77,7 +80,7 @@ returns-in-Ok-None-clause-refused g c =
 
 pub returns-in-Err-clause-refused : goal.returns-in-Err-clause-refused
 returns-in-Err-clause-refused g c =
-    let seen = threshold-seen g.F.Family.shape c.args.pruned c.requires.threshold in
+    let seen = threshold-seen g.N.Chunks.LEN g.F.Family.shape c.args.pruned c.requires.threshold in
     (rw c.pruned_bits.ensures at c.in-Err.ensures.refused) g.F.Family.shape g.H.Digest.Digest.SIZE seen
 
 pub returns-in-Ok-Some-clause-became : goal.returns-in-Ok-Some-clause-became
@@ -138,7 +141,7 @@ returns-in-Ok-Some-clause-unopened g c =
     let told = g.C.Store.told c.args.store in
     let middle = c.select_commit.new.store in
     let kept = c.select_commit.ensures.kept in
-    let seen = threshold-seen g.F.Family.shape c.args.pruned c.requires.threshold in
+    let seen = threshold-seen g.N.Chunks.LEN g.F.Family.shape c.args.pruned c.requires.threshold in
     let accepted = accepted-at g.U.Update.form told c.args.max_size g.F.Family.shape g.H.Digest.Digest.SIZE _ _ _ _ c.pruned_bits.ensures c.in-Ok-Some.field-0-is seen c.in-Ok-Some.ensures.accepted in
     err-then c.open_list.result c.open_list.ensures.unopened (λ r unopened.
     each-known told (λ s is some.
@@ -150,7 +153,7 @@ returns-in-Ok-None-clause-unopened g c =
     let told = g.C.Store.told c.args.store in
     let middle = c.select_commit.new.store in
     let kept = c.select_commit.ensures.kept in
-    let seen = threshold-seen g.F.Family.shape c.args.pruned c.requires.threshold in
+    let seen = threshold-seen g.N.Chunks.LEN g.F.Family.shape c.args.pruned c.requires.threshold in
     let accepted = accepted-at g.U.Update.form told c.args.max_size g.F.Family.shape g.H.Digest.Digest.SIZE _ _ _ _ c.pruned_bits.ensures c.in-Ok-None.field-0-is seen c.in-Ok-None.ensures.accepted in
     err-then c.begin.result c.begin.ensures.unopened (λ r unopened.
     each-known told (λ s is some.

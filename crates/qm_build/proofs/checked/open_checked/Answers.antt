@@ -38,7 +38,7 @@ returns-in-Ok g c = record {
   stands = λ list long of good low.
       let told = g.C.Store.told c.args.store in
       each-known told (λ held is items head.
-      opened-read g.C.Store g.F.Family.shape g.H.Digest.Digest.bytes g.H.Hasher.hash g.U.Update.form g.I.Unordered.index_key 64 c.in_ok-opened.opened.log c.check_links.new.log _ _ _ _ _ list c.check_links.ensures.read
+      opened-read g.C.Store g.F.Family.shape g.H.Digest.Digest.bytes g.H.Hasher.hash g.U.Update.form g.I.Unordered.index_key g.N.Chunks.LEN c.in_ok-opened.opened.log c.check_links.new.log _ _ _ _ _ list c.check_links.ensures.read
       (known-at _ told held is (c.in_ok-opened.ensures.stands list long of good low) items head));
   size = ap (λ t. t.leaves) c.check_links.ensures.read.tree ∙ c.in_ok-opened.ensures.size;
   kept = kept-then g.C.Store c.args.store c.in_ok-opened.opened.log.store c.check_links.new.log.store c.in_ok-opened.ensures.kept c.check_links.ensures.read.kept;

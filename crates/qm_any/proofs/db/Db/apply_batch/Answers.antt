@@ -27,7 +27,7 @@ returns-in-Ok g c =
           let items = map (λ v. v.items) c.in-Ok.lacking.items.items in
           let changes = map (λ d. changes_view g.U.Key.ByteString.bytes g.U.Value.ByteString.bytes d.value) c.in-Ok.lacking.diffs.now in
           ok-five c.moved.result c.moved.ensures.log c.moved.ensures.index c.moved.ensures.active c.moved.ensures.rest c.moved.ensures.grown (λ next log index active rest grown.
-          applied g.C.Store (layout_of g.H.Digest.Digest.bytes g.H.Hasher g.F.Family g.U.Update g.I.Unordered) c.args.self next c.args.batch.now list chain tip n items changes is made on
+          applied g.C.Store (layout_of g.N.Chunks.LEN g.H.Digest.Digest.bytes g.H.Hasher g.F.Family g.U.Update g.I.Unordered) c.args.self next c.args.batch.now list chain tip n items changes is made on
           (ap (λ db. db.commitment.size) c.self.view_is) c.in-Ok.ensures.items c.in-Ok.ensures.diffs log index active
           (rest.0, rest.1, rest.2, rest.3 ∙ c.in-Ok.ensures.metadata) grown);
       fits =
@@ -36,7 +36,7 @@ returns-in-Ok g c =
       grown = λ chain tip made.
           let n = c.self.inside.commitment.size in
           let items = map (λ v. v.items) c.in-Ok.lacking.items.items in
-          let behind = lacked-spelled g.C.Store (layout_of g.H.Digest.Digest.bytes g.H.Hasher g.F.Family g.U.Update g.I.Unordered) c.args.batch.now chain tip n c.args.self.commitment.size items made
+          let behind = lacked-spelled g.C.Store (layout_of g.N.Chunks.LEN g.H.Digest.Digest.bytes g.H.Hasher g.F.Family g.U.Update g.I.Unordered) c.args.batch.now chain tip n c.args.self.commitment.size items made
           (ap (λ db. db.commitment.size) c.self.view_is) c.in-Ok.ensures.among c.in-Ok.ensures.items in
           ok-then c.moved.result c.moved.ensures.grown (λ next grown. subst (Appended g.C.Store c.args.self.log.store next.log.store) behind grown);
       start =
@@ -54,7 +54,7 @@ returns-in-Ok g c =
       part = λ chain tip made.
           let n = c.self.inside.commitment.size in
           let items = map (λ v. v.items) c.in-Ok.lacking.items.items in
-          let behind = lacked-spelled g.C.Store (layout_of g.H.Digest.Digest.bytes g.H.Hasher g.F.Family g.U.Update g.I.Unordered) c.args.batch.now chain tip n c.args.self.commitment.size items made
+          let behind = lacked-spelled g.C.Store (layout_of g.N.Chunks.LEN g.H.Digest.Digest.bytes g.H.Hasher g.F.Family g.U.Update g.I.Unordered) c.args.batch.now chain tip n c.args.self.commitment.size items made
           (ap (λ db. db.commitment.size) c.self.view_is) c.in-Ok.ensures.among c.in-Ok.ensures.items in
           let bounds = c.args.batch.now.bounds in
           let fits : is_at c.args.self.commitment bounds.db bounds.ancestors ≡ true = subst (λ k. is_at k bounds.db bounds.ancestors ≡ true) (ap (λ db. db.commitment) c.self.view_is) c.in-Ok.ensures.fits in

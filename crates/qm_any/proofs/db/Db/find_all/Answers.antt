@@ -20,7 +20,7 @@ returns-in_err-found g c =
             rw (exit.1, exit.2) (left-error g.C.Store (hashing_of g.H.Digest.Digest.bytes g.H.Hasher g.F.Family g.U.Update) c.args.self.now c.loop-key.self c.find.new.self _ c.loop-key.invariant.left c.in_err-found.ensures.reads.error);
         whole = λ list is none.
             let left = c.loop-key.invariant.left in
-            let mid = left-database g.C.Store (layout_of g.H.Digest.Digest.bytes g.H.Hasher g.F.Family g.U.Update g.I.Unordered) c.args.self.now c.loop-key.self list left is in
+            let mid = left-database g.C.Store (layout_of g.N.Chunks.LEN g.H.Digest.Digest.bytes g.H.Hasher g.F.Family g.U.Update g.I.Unordered) c.args.self.now c.loop-key.self list left is in
             rw (exit.1, exit.2) (c.in_err-found.ensures.reads.whole list mid (subst (λ t. NoneBelow t list) (sym (left.read).start) none));
         left = left-then g.C.Store (hashing_of g.H.Digest.Digest.bytes g.H.Hasher g.F.Family g.U.Update) c.args.self.now c.loop-key.self c.find.new.self c.loop-key.invariant.left c.find.ensures.reads.left;
       };
@@ -34,7 +34,7 @@ loop-key-preserved g c =
       left = left-then g.C.Store (hashing_of g.H.Digest.Digest.bytes g.H.Hasher g.F.Family g.U.Update) c.args.self.now c.loop-key.self c.find.new.self left c.find.ensures.reads.left;
       keys = keys-more key c.loop-key.reads.items c.push.new.self.items _ c.loop-key.yielded c.in-Some.key c.in_ok-push.ensures.items c.loop-key.invariant.keys refl;
       reads = λ list base stands from.
-          let mid = left-database g.C.Store (layout_of g.H.Digest.Digest.bytes g.H.Hasher g.F.Family g.U.Update g.I.Unordered) c.args.self.now c.loop-key.self list left stands in
+          let mid = left-database g.C.Store (layout_of g.N.Chunks.LEN g.H.Digest.Digest.bytes g.H.Hasher g.F.Family g.U.Update g.I.Unordered) c.args.self.now c.loop-key.self list left stands in
           reads-more g.U.Update.view key base c.loop-key.reads.items c.push.new.self.items _ c.in_ok-push.ensures.items (c.in_ok-found.ensures.value list base mid from) (c.loop-key.invariant.reads list base stands from);
     }
 

@@ -13,6 +13,6 @@ invariant-loop-key g l =
     record {
       left : IsLeft g.C.Store (hashing_of g.H.Digest.Digest.bytes g.H.Hasher g.F.Family g.U.Update) l.initial.self l.self;
       keys : keys_of key l.reads.items ≡ map key l.yielded;
-      reads : (list base : List Operation) → IsDatabase g.C.Store (layout_of g.H.Digest.Digest.bytes g.H.Hasher g.F.Family g.U.Update g.I.Unordered) l.initial.self list → LeadOver (map (λ l. l.value) l.steps) list base
+      reads : (list base : List Operation) → IsDatabase g.C.Store (layout_of g.N.Chunks.LEN g.H.Digest.Digest.bytes g.H.Hasher g.F.Family g.U.Update g.I.Unordered) l.initial.self list → LeadOver (map (λ l. l.value) l.steps) list base
           → AreReads g.U.Update.view key l.reads.items base;
     }

@@ -43,7 +43,7 @@ returns-in-Ok g c =
           takes list tip lead (subst (λ db. IsIndexed g.I.Unordered.index_key db.entries list) c.apart-log.ensures.whole indexed));
       active =
           ok-then c.indexed.result c.indexed.ensures.active (λ next takes. λ list tip lead ended size from.
-          takes list tip lead ended size (subst (λ db. all_bits 64 db.activity ≡ bits list) c.apart-log.ensures.whole from));
+          takes list tip lead ended size (subst (λ db. all_bits g.N.Chunks.LEN db.activity ≡ bits list) c.apart-log.ensures.whole from));
       rest = c.indexed.ensures.rest;
       grown =
           ok-then c.indexed.result c.indexed.ensures.log (λ next is.

@@ -9,17 +9,17 @@ use Rattle.qm_any.proofs.db.Db.plan.Goals as goal
 
 pub returns-clause-plan : goal.returns-clause-plan
 returns-clause-plan g c = λ list known is from ring reads.
-    let at = subst (λ db. IsDatabase g.C.Store (record { hashing = hashing_with g.H.Digest.Digest.bytes g.H.Hasher.hash g.F.Family.shape g.U.Update.form; index_key = g.I.Unordered.index_key }) db list) (sym c.self.view_is) is in
+    let at = subst (λ db. IsDatabase g.C.Store (record { hashing = hashing_with g.H.Digest.Digest.bytes g.H.Hasher.hash g.F.Family.shape g.U.Update.form; chunk = g.N.Chunks.LEN; index_key = g.I.Unordered.index_key }) db list) (sym c.self.view_is) is in
     told-here _ (g.C.Store.told c.self.inside.log.store) at.told (c.staged.ensures.plan list known at.lent at.active from at.ring ring reads)
 
 pub returns-clause-next : goal.returns-clause-next
 returns-clause-next g c = λ list known is from ring reads.
-    let at = subst (λ db. IsDatabase g.C.Store (record { hashing = hashing_with g.H.Digest.Digest.bytes g.H.Hasher.hash g.F.Family.shape g.U.Update.form; index_key = g.I.Unordered.index_key }) db list) (sym c.self.view_is) is in
+    let at = subst (λ db. IsDatabase g.C.Store (record { hashing = hashing_with g.H.Digest.Digest.bytes g.H.Hasher.hash g.F.Family.shape g.U.Update.form; chunk = g.N.Chunks.LEN; index_key = g.I.Unordered.index_key }) db list) (sym c.self.view_is) is in
     told-here _ (g.C.Store.told c.self.inside.log.store) at.told (c.staged.ensures.next list known at.lent at.active from at.ring ring reads)
 
 pub returns-clause-whole : goal.returns-clause-whole
 returns-clause-whole g c = λ list is none low.
-    let at = subst (λ db. IsDatabase g.C.Store (record { hashing = hashing_with g.H.Digest.Digest.bytes g.H.Hasher.hash g.F.Family.shape g.U.Update.form; index_key = g.I.Unordered.index_key }) db list) (sym c.self.view_is) is in
+    let at = subst (λ db. IsDatabase g.C.Store (record { hashing = hashing_with g.H.Digest.Digest.bytes g.H.Hasher.hash g.F.Family.shape g.U.Update.form; chunk = g.N.Chunks.LEN; index_key = g.I.Unordered.index_key }) db list) (sym c.self.view_is) is in
     c.staged.ensures.whole list at.lent (subst (λ db. NoneBelow db.log.tree.start list) (sym c.self.view_is) none) (subst (λ db. db.log.tree.start ≤ c.args.base.now.floor) (sym c.self.view_is) low)
 
 pub returns-clause-error : goal.returns-clause-error

@@ -7,10 +7,10 @@ use Rattle.qm_any.proofs.db.Db.previous_over.Goals as goal
 
 pub returns-clause-value : goal.returns-clause-value
 returns-clause-value g c = λ list base stands from ring.
-    let layout = laid_out g.H.Digest.Digest.bytes g.H.Hasher.hash g.F.Family.shape g.U.Update.form g.I.Unordered.index_key in
+    let layout = laid_out g.N.Chunks.LEN g.H.Digest.Digest.bytes g.H.Hasher.hash g.F.Family.shape g.U.Update.form g.I.Unordered.index_key in
     let inside = subst (λ db. IsDatabase g.C.Store layout db list) (sym c.self.view_is) stands in
     told-here _ (g.C.Store.told ((c.self.inside).log).store) inside.told (c.previous_key.ensures.value list base inside.lent from (inside.ring c.requires) ring)
 
 pub returns-clause-reads : goal.returns-clause-reads
 returns-clause-reads g c =
-    lent-reads g.C.Store (laid_out g.H.Digest.Digest.bytes g.H.Hasher.hash g.F.Family.shape g.U.Update.form g.I.Unordered.index_key) c.args.self.now _ c.previous_key.new.log c.previous_key.result c.self.view_is c.previous_key.ensures.read c.previous_key.ensures.error c.previous_key.ensures.whole
+    lent-reads g.C.Store (laid_out g.N.Chunks.LEN g.H.Digest.Digest.bytes g.H.Hasher.hash g.F.Family.shape g.U.Update.form g.I.Unordered.index_key) c.args.self.now _ c.previous_key.new.log c.previous_key.result c.self.view_is c.previous_key.ensures.read c.previous_key.ensures.error c.previous_key.ensures.whole

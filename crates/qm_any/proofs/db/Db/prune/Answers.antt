@@ -4,7 +4,7 @@ use Rattle.qm_build.proofs.Checking.{on-ok}
 use Rattle.qm_model.proofs.Results.{ok-then, err-then}
 use Rattle.qm_model.specs.StoreModel.{settled}
 use Rattle.qm_step.specs.Lent.{NoneBelow}
-use Rattle.qm_any.specs.Layouts.{hashing_of}
+use Rattle.qm_any.specs.Layouts.{layout_of, hashing_of}
 use Rattle.qm_any.specs.Lasting.{HasLeftPruned, HasLeftStable, HasPruned, IsGivenUp}
 use Rattle.qm_any.proofs.Lasting.{all-stable, none-below, pruned-behind, given-behind}
 use Rattle.qm_any.proofs.db.Db.prune.Goals as goal
@@ -23,10 +23,10 @@ returns g c =
           ok-then c.cut.result c.cut.ensures.pruned (λ db cut.
           subst (λ n. NoneBelow n list) (sym cut.start) (none-below c.in_ok-commit.field-0.log.tree.start c.get-4.result list is.good (omega (arith, is.floor, c.if-get-boundary.false)) start));
       pruned =
-          let hashing = hashing_of g.H.Digest.Digest.bytes g.H.Hasher g.F.Family g.U.Update in
+          let layout = layout_of g.N.Chunks.LEN g.H.Digest.Digest.bytes g.H.Hasher g.F.Family g.U.Update g.I.Unordered in
           ok-then c.cut.result c.cut.ensures.pruned (λ db cut.
-          subst (λ to. HasPruned g.C.Store hashing settled to c.args.self db) c.get-4.ensures
-          (pruned-behind g.C.Store hashing settled c.get-4.result c.args.self c.in_ok-commit.field-0 db c.in_ok-commit.ensures.committed cut));
+          subst (λ to. HasPruned g.C.Store layout settled to c.args.self db) c.get-4.ensures
+          (pruned-behind g.C.Store layout settled c.get-4.result c.args.self c.in_ok-commit.field-0 db c.in_ok-commit.ensures.committed cut));
       boundary = λ list is.
           let size : c.args.self.commitment.size ≡ length list = ap (λ k. k.size) is.commitment in
           omega (arith, is.floor, is.good.floor_within, size);

@@ -12,7 +12,7 @@ pub returns-then-to-start : goal.returns-then-to-start
 returns-then-to-start g c =
     record {
       stands = λ list is.
-          let layout = layout_of g.H.Digest.Digest.bytes g.H.Hasher g.F.Family g.U.Update g.I.Unordered in
+          let layout = layout_of g.N.Chunks.LEN g.H.Digest.Digest.bytes g.H.Hasher g.F.Family g.U.Update g.I.Unordered in
           subst (λ db. IsDatabase g.C.Store layout db list) (sym c.over.ensures) (subst (λ db. IsDatabase g.C.Store layout db list) c.apart-log.ensures.whole is);
       pruned =
           let hashing = hashing_of g.H.Digest.Digest.bytes g.H.Hasher g.F.Family g.U.Update in
@@ -25,7 +25,7 @@ pub returns : goal.returns
 returns g c =
     record {
       stands = λ list is.
-          let layout = layout_of g.H.Digest.Digest.bytes g.H.Hasher g.F.Family g.U.Update g.I.Unordered in
+          let layout = layout_of g.N.Chunks.LEN g.H.Digest.Digest.bytes g.H.Hasher g.F.Family g.U.Update g.I.Unordered in
           let beside = c.apart-log.result.1 in
           let old = c.apart-log.result.0 in
           let was = subst (λ db. IsDatabase g.C.Store layout db list) c.apart-log.ensures.whole is in

@@ -23,7 +23,7 @@ returns-in_err-value-clause-reads g c =
     record {
       error = rw (exit.1, exit.2) (left-error g.C.Store hashing c.args.self.now c.loop-key.self c.read_one.new.self _ left c.in_err-value.ensures.reads.error);
       whole = λ list is none.
-          let mid = left-database g.C.Store (layout_of g.H.Digest.Digest.bytes g.H.Hasher g.F.Family g.U.Update g.I.Unordered) c.args.self.now c.loop-key.self list left is in
+          let mid = left-database g.C.Store (layout_of g.N.Chunks.LEN g.H.Digest.Digest.bytes g.H.Hasher g.F.Family g.U.Update g.I.Unordered) c.args.self.now c.loop-key.self list left is in
           rw (exit.1, exit.2) (c.in_err-value.ensures.reads.whole list mid (subst (λ t. NoneBelow t list) (sym (left.read).start) none));
       left = left-then g.C.Store hashing c.args.self.now c.loop-key.self c.read_one.new.self left c.read_one.ensures.reads.left;
     }
@@ -44,7 +44,7 @@ loop-key-preserved g c =
     record {
       left = left-then g.C.Store (hashing_of g.H.Digest.Digest.bytes g.H.Hasher g.F.Family g.U.Update) c.args.self.now c.loop-key.self c.read_one.new.self c.loop-key.invariant.left c.read_one.ensures.reads.left;
       values = λ list base stands from.
-          let mid = left-database g.C.Store (layout_of g.H.Digest.Digest.bytes g.H.Hasher g.F.Family g.U.Update g.I.Unordered) c.args.self.now c.loop-key.self list c.loop-key.invariant.left stands in
+          let mid = left-database g.C.Store (layout_of g.N.Chunks.LEN g.H.Digest.Digest.bytes g.H.Hasher g.F.Family g.U.Update g.I.Unordered) c.args.self.now c.loop-key.self list c.loop-key.invariant.left stands in
           mapped-more (λ k. read_through base c.args.writes.now (key k)) (option_map value) c.args.keys.now c.loop-key.key-index c.key-item.result
           c.loop-key.values.items c.push.new.self.items c.in_ok-value.value c.loop-key-test.true c.key-item.is c.in_ok-push.ensures.items
           (c.in_ok-value.ensures.value list base mid from) (c.loop-key.invariant.values list base stands from);

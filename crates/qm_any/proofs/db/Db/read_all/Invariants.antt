@@ -14,6 +14,6 @@ invariant-loop-key g l =
     let value = g.U.Value.ByteString.bytes in
     record {
       left : IsLeft g.C.Store (hashing_of g.H.Digest.Digest.bytes g.H.Hasher g.F.Family g.U.Update) l.initial.self l.self;
-      values : (list base : List Operation) → IsDatabase g.C.Store (layout_of g.H.Digest.Digest.bytes g.H.Hasher g.F.Family g.U.Update g.I.Unordered) l.initial.self list → LeadOver (map (λ l. l.value) l.steps) list base
+      values : (list base : List Operation) → IsDatabase g.C.Store (layout_of g.N.Chunks.LEN g.H.Digest.Digest.bytes g.H.Hasher g.F.Family g.U.Update g.I.Unordered) l.initial.self list → LeadOver (map (λ l. l.value) l.steps) list base
           → map (option_map value) l.values.items ≡ map (λ k. read_through base l.writes (key k)) (take l.key-index l.keys);
     }

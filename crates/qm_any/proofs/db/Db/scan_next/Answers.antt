@@ -6,6 +6,6 @@ use Rattle.qm_any.proofs.db.Db.scan_next.Goals as goal
 
 pub returns-clause-value : goal.returns-clause-value
 returns-clause-value g c = λ list stands.
-    let layout = laid_out g.H.Digest.Digest.bytes g.H.Hasher.hash g.F.Family.shape g.U.Update.form g.I.Unordered.index_key in
+    let layout = laid_out g.N.Chunks.LEN g.H.Digest.Digest.bytes g.H.Hasher.hash g.F.Family.shape g.U.Update.form g.I.Unordered.index_key in
     let inside = subst (λ db. IsDatabase g.C.Store layout db list) (sym c.self.view_is) stands in
     told-here _ (g.C.Store.told ((c.self.inside).log).store) inside.told (c.next.ensures.value list inside.lent)

@@ -11,7 +11,7 @@ use Rattle.qm_any.proofs.db.Db.sync.Goals as goal
 
 pub returns-clause-stands : goal.returns-clause-stands
 returns-clause-stands g c = λ list is.
-    let layout = layout_of g.H.Digest.Digest.bytes g.H.Hasher g.F.Family g.U.Update g.I.Unordered in
+    let layout = layout_of g.N.Chunks.LEN g.H.Digest.Digest.bytes g.H.Hasher g.F.Family g.U.Update g.I.Unordered in
     let beside = c.apart-log.result.1 in
     let old = c.apart-log.result.0 in
     let was = subst (λ db. IsDatabase g.C.Store layout db list) c.apart-log.ensures.whole is in

@@ -190,7 +190,7 @@ returns g c =
           let base = chain.base in
           let begun = subst (λ m. IsMade hashing m above base) (sym parent) (staged.begun).parent in
           let kept = (staged.begun).kept ∙ ap (λ k. kept_by k above base) (sym (c.parts-keep.ensures.keep ∙ ap (λ b. b.keep) batch)) in
-          let stands = left-database g.C.Store (record { hashing = hashing; index_key = g.I.Unordered.index_key }) c.args.db.now c.plan.new.self list c.in_ok-plan.ensures.left is in
+          let stands = left-database g.C.Store (record { hashing = hashing; chunk = g.N.Chunks.LEN; index_key = g.I.Unordered.index_key }) c.args.db.now c.plan.new.self list c.in_ok-plan.ensures.left is in
           let among = child-on c.parts-keep.result.0.now c.parts-keep.result.1 chain above c.parts-keep.ensures.few begun kept list on in
           let before = subst (λ t. IsTree hashing t base (bases_of above)) (sym c.tree.ensures.value) begun.tree in
           let tree = subst (λ ops. IsKeptTree bytes hash shape c.in_ok-tree.tree (spellings hashing (base ++ ops)) (lists_since c.in_ok-child.child.boundary.size (map (spellings hashing) (base ∷ bases_of above)))) given
