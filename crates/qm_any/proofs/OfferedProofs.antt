@@ -235,7 +235,7 @@ first-of at xs ys e lacked = ⊎_elim
 none-pruned : (holds : ℕ → Bool) (ps : List ℕ) → find (λ p. not (holds p)) ps ≡ None → first_pruned holds ps ≡ None
 none-pruned holds ps none = ap (option_map (λ p. Merkle (ElementPruned p))) none
 
-module _ {D : Type 0} (bytes : D → Bytes) (hash : Bytes → Bytes) (shape : Shape) (births : Births) (family : IsFamily shape births) (peaked : HasPeaks shape) {C : Type 0} (members : store.Ghosts C) (form : Form) (index_key : Bytes → ℕ) (db : Database C D) (list : List Operation) (is : IsDatabase members (record { hashing = hashing_with bytes hash shape form; index_key = index_key }) db list) where
+module _ {D : Type 0} (bytes : D → Bytes) (hash : Bytes → Bytes) (shape : Shape) (births : Births) (family : IsFamily shape births) (peaked : HasPeaks shape) {C : Type 0} (members : store.Ghosts C) (form : Form) (chunk : ℕ) (index_key : Bytes → ℕ) (db : Database C D) (list : List Operation) (is : IsDatabase members (record { hashing = hashing_with bytes hash shape form; chunk = chunk; index_key = index_key }) db list) where
   abbrev leaves : List Bytes
   leaves = digests_from hash shape 0 (map (spelling form) list)
 

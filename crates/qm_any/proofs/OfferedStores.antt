@@ -108,9 +108,9 @@ pub left-pruned : (o new : Option Stored) (start : ℕ) (IsHead : Bytes → Type
     → Turns o new (LeavesPruning start IsHead to)
 left-pruned o new start IsHead to head past heads is = turned-each o new _ _ (λ s t left. inr (past, head, heads, left)) is
 
-module _ (shape : Shape) (births : Births) (family : IsFamily shape births) (peaked : HasPeaks shape) {C : Type 0} (members : store.Ghosts C) (form : Form) (index_key : Bytes → ℕ) (db : Database C Sha256Digest) (to : ℕ) where
+module _ (shape : Shape) (births : Births) (family : IsFamily shape births) (peaked : HasPeaks shape) {C : Type 0} (members : store.Ghosts C) (form : Form) (chunk : ℕ) (index_key : Bytes → ℕ) (db : Database C Sha256Digest) (to : ℕ) where
   -- a head over the log's items is that of its list
-  pub heads-of : (head : Bytes) → IsHeadAt members (hashing shape form) to db.log head → (list : List Operation) → IsDatabase members (record { hashing = hashing shape form; index_key = index_key }) db list → to ≤ floor list → length list ≤ 2 ^ 62 → head ≡ head_at (scheme shape form) list to
+  pub heads-of : (head : Bytes) → IsHeadAt members (hashing shape form) to db.log head → (list : List Operation) → IsDatabase members (record { hashing = hashing shape form; chunk = chunk; index_key = index_key }) db list → to ≤ floor list → length list ≤ 2 ^ 62 → head ≡ head_at (scheme shape form) list to
   heads-of head heads list is low few =
       let within : to ≤ length list = omega (arith, low, is.good.floor_within) in
       head-is shape births family peaked form list to (omega (arith, within, few)) within head (heads (map (spelling form) list) is.lent.logged)

@@ -21,6 +21,7 @@ use crate::batch::{MerkleizedBatch, UnmerkleizedBatch};
 use crate::db::Db;
 use crate::staged::Staged;
 use qm_base::{Digest, Hasher, Location, Sha256};
+use qm_bits::Chunks;
 use qm_index::{Factory, FourCap};
 use qm_merkle::Family;
 use qm_offer::{BatchSizes, Common, Engine, Meaning, Numbers};
@@ -35,7 +36,8 @@ impl<
     I: qm_index::Unordered<Value = Location<F>> + Drop,
     H: Hasher + Drop,
     U: Update,
-> Meaning<C> for Db<F, C, I, H, U> {
+    N: Chunks,
+> Meaning<C> for Db<F, C, I, H, U, N> {
     type Batch = UnmerkleizedBatch<F, H::Digest, U>;
 
     type Staged = Staged<F, H::Digest, U>;
@@ -44,7 +46,7 @@ impl<
 
     ghost inside = { λ db. db.log.store };
 
-    ghost stands = { λ db list. IsDatabase C.Store (layout_of H.Digest.bytes H.Hasher F.Family U.Update I.Unordered) db list };
+    ghost stands = { λ db list. IsDatabase C.Store (layout_of N.LEN H.Digest.bytes H.Hasher F.Family U.Update I.Unordered) db list };
 
     ghost numbered = { λ db n. ⊤ };
 
@@ -73,7 +75,8 @@ impl<
     I: qm_index::Unordered<Value = Location<F>> + Drop,
     H: Hasher + Drop,
     U: Update,
-> Common<C> for Db<F, C, I, H, U> {
+    N: Chunks,
+> Common<C> for Db<F, C, I, H, U, N> {
     type Family = F;
 
     type Key = U::Key;
@@ -118,4 +121,5 @@ impl<
     C: Store + Drop,
     I: Factory<Value = Location<F>, Translator = FourCap> + Drop,
     U: Steps<F, I>,
-> Engine<C> for Db<F, C, I, Sha256, U> {}
+    N: Chunks,
+> Engine<C> for Db<F, C, I, Sha256, U, N> {}

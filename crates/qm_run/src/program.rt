@@ -17,6 +17,7 @@ use crate::kind::{Kind, Link, Pair};
 use qm_any::Config;
 use qm_any::db::Db;
 use qm_base::{ByteKey, ByteValue, Gate, Location, Sha256};
+use qm_bits::Chunk64;
 use qm_engine::{Answered, Ending, answer_lines};
 use qm_index::{Factory, FourCap, ordered, unordered};
 use qm_lines::{InputError, LIMIT, Sink, SinkError, Source, read_all, write_all};
@@ -151,7 +152,7 @@ fn serve<
         answered,
         ending,
         store,
-    } = answer_lines::<Db<mmr::Family, C, I, Sha256, U>, C, G>(
+    } = answer_lines::<Db<mmr::Family, C, I, Sha256, U, Chunk64>, C, G>(
         alloc,
         store,
         opening(),

@@ -3,6 +3,7 @@
 use crate::batch::MerkleizedBatch;
 use crate::db::Db;
 use qm_base::{Error, Hasher, Location, twin_option};
+use qm_bits::Chunks;
 use qm_chain::Policy;
 use qm_merkle::Family;
 use qm_offer::Batching;
@@ -16,7 +17,8 @@ impl<
     I: qm_index::Unordered<Value = Location<F>> + Drop,
     H: Hasher + Drop,
     U: Steps<F, I>,
-> Batching<C> for Db<F, C, I, H, U> {
+    N: Chunks,
+> Batching<C> for Db<F, C, I, H, U, N> {
     fn batch(&self, alloc: Global) -> Result<Self::Batch, AllocError> {
         self.new_batch(alloc)
     }

@@ -3,6 +3,7 @@
 use crate::db::Db;
 use crate::restore::{Config, init};
 use qm_base::{Location, Sha256};
+use qm_bits::Chunks;
 use qm_index::{Factory, FourCap};
 use qm_merkle::Family;
 use qm_offer::Durable;
@@ -15,7 +16,8 @@ impl<
     C: Store + Drop,
     I: Factory<Value = Location<F>, Translator = FourCap> + Drop,
     U: Update,
-> Durable<C> for Db<F, C, I, Sha256, U> {
+    N: Chunks,
+> Durable<C> for Db<F, C, I, Sha256, U, N> {
     type Config = Config<FourCap, ()>;
 
     fn open(

@@ -4,6 +4,7 @@ use crate::db::Db;
 use crate::offer::listed::span_from;
 use crate::offer::ranges::{keys_of, pairs_of};
 use qm_base::{Error, Hasher, Location, Span};
+use qm_bits::Chunks;
 use qm_merkle::Family;
 use qm_offer::Neighbours;
 use qm_step::kind::Steps;
@@ -17,7 +18,8 @@ impl<
     I: qm_index::Unordered<Value = Location<F>> + Drop,
     H: Hasher + Drop,
     U: Steps<F, I>,
-> Neighbours<C> for Db<F, C, I, H, U> {
+    N: Chunks,
+> Neighbours<C> for Db<F, C, I, H, U, N> {
     fn next(&mut self, alloc: Global, key: &U::Key) -> Result<Option<U::Key>, Error> {
         if !U::is_ordered() {
             return Ok(None);

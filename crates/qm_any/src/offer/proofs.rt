@@ -3,6 +3,7 @@
 use crate::db::Db;
 use crate::offer::listed::listed;
 use qm_base::{Error, Hasher, Listed, Location};
+use qm_bits::Chunks;
 use qm_merkle::Family;
 use qm_offer::Proving;
 use qm_operations::Update;
@@ -17,7 +18,8 @@ impl<
     I: qm_index::Unordered<Value = Location<F>> + Drop,
     H: Hasher + Drop,
     U: Update,
-> Proving<C> for Db<F, C, I, H, U> {
+    N: Chunks,
+> Proving<C> for Db<F, C, I, H, U, N> {
     fn proof(
         &self,
         alloc: Global,

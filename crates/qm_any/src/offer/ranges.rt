@@ -10,6 +10,7 @@ ghost use Rattle.qm_batch.specs.Scans.{left_of};
 
 use crate::db::{Db, LaidOut};
 use qm_base::{ByteString, Error, Hasher, JournalError, Location};
+use qm_bits::Chunks;
 use qm_batch::Scan;
 use qm_merkle::Family;
 use qm_operations::Update;
@@ -42,18 +43,19 @@ fn collected<
     I: qm_index::Unordered<Value = Location<F>>,
     H: Hasher,
     U: Steps<F, I>,
+    N: Chunks,
 >(
     alloc: Global,
-    db: &mut Db<F, C, I, H, U>,
+    db: &mut Db<F, C, I, H, U, N>,
     scan: &mut Scan<U>,
     most: u64,
 ) -> Result<Vec<(U::Key, U::Value)>, Error>
     requires { U.form.ordered ≡ true }
-    ensures pairs { (list : List Operation) → IsDatabase C.Store ⟦<Db<F, C, I, H, U> as LaidOut>⟧.layout db.old list → length (left_of I.index_key scan.old list) ≤ most
+    ensures pairs { (list : List Operation) → IsDatabase C.Store ⟦<Db<F, C, I, H, U, N> as LaidOut>⟧.layout db.old list → length (left_of I.index_key scan.old list) ≤ most
         → IfOk result (λ pairs. map (pair_view U.Key.bytes U.Value.bytes) pairs.items ≡ left_of I.index_key scan.old list) }
     ensures error { IfErr result (IsReadError C.Store db.old.log db.new.log) }
-    ensures whole { (list : List Operation) → IsDatabase C.Store ⟦<Db<F, C, I, H, U> as LaidOut>⟧.layout db.old list → NoneBelow db.old.log.tree.start list → IfErr result (λ e. (n : ℕ) → e ≢ Error.Journal (JournalError.ItemPruned n)) }
-    ensures left { IsLeft C.Store ⟦<Db<F, C, I, H, U> as LaidOut>⟧.layout.hashing db.old db.new }
+    ensures whole { (list : List Operation) → IsDatabase C.Store ⟦<Db<F, C, I, H, U, N> as LaidOut>⟧.layout db.old list → NoneBelow db.old.log.tree.start list → IfErr result (λ e. (n : ℕ) → e ≢ Error.Journal (JournalError.ItemPruned n)) }
+    ensures left { IsLeft C.Store ⟦<Db<F, C, I, H, U, N> as LaidOut>⟧.layout.hashing db.old db.new }
 {
     let mut pairs = Vec::new(alloc);
     for _ in 0..most {
@@ -72,18 +74,19 @@ pub(crate) fn pairs_of<
     I: qm_index::Unordered<Value = Location<F>>,
     H: Hasher,
     U: Steps<F, I>,
+    N: Chunks,
 >(
     alloc: Global,
-    db: &mut Db<F, C, I, H, U>,
+    db: &mut Db<F, C, I, H, U, N>,
     low: &Bound<U::Key>,
     high: &Bound<U::Key>,
 ) -> Result<Vec<(U::Key, U::Value)>, Error>
     requires { U.form.ordered ≡ true }
-    ensures pairs { (list : List Operation) → IsDatabase C.Store ⟦<Db<F, C, I, H, U> as LaidOut>⟧.layout db.old list
+    ensures pairs { (list : List Operation) → IsDatabase C.Store ⟦<Db<F, C, I, H, U, N> as LaidOut>⟧.layout db.old list
         → IfOk result (λ pairs. map (pair_view U.Key.bytes U.Value.bytes) pairs.items ≡ pairs_in (limit_of U.Key.bytes low.now) (limit_of U.Key.bytes high.now) list) }
     ensures error { IfErr result (IsReadError C.Store db.old.log db.new.log) }
-    ensures whole { (list : List Operation) → IsDatabase C.Store ⟦<Db<F, C, I, H, U> as LaidOut>⟧.layout db.old list → NoneBelow db.old.log.tree.start list → IfErr result (λ e. (n : ℕ) → e ≢ Error.Journal (JournalError.ItemPruned n)) }
-    ensures left { IsLeft C.Store ⟦<Db<F, C, I, H, U> as LaidOut>⟧.layout.hashing db.old db.new }
+    ensures whole { (list : List Operation) → IsDatabase C.Store ⟦<Db<F, C, I, H, U, N> as LaidOut>⟧.layout db.old list → NoneBelow db.old.log.tree.start list → IfErr result (λ e. (n : ℕ) → e ≢ Error.Journal (JournalError.ItemPruned n)) }
+    ensures left { IsLeft C.Store ⟦<Db<F, C, I, H, U, N> as LaidOut>⟧.layout.hashing db.old db.new }
 {
     let live = db.active_keys();
     let low = twin_bound(alloc, low)?;
@@ -113,18 +116,19 @@ pub(crate) fn keys_of<
     I: qm_index::Unordered<Value = Location<F>>,
     H: Hasher,
     U: Steps<F, I>,
+    N: Chunks,
 >(
     alloc: Global,
-    db: &mut Db<F, C, I, H, U>,
+    db: &mut Db<F, C, I, H, U, N>,
     low: &Bound<U::Key>,
     high: &Bound<U::Key>,
 ) -> Result<Vec<U::Key>, Error>
     requires { U.form.ordered ≡ true }
-    ensures keys { (list : List Operation) → IsDatabase C.Store ⟦<Db<F, C, I, H, U> as LaidOut>⟧.layout db.old list
+    ensures keys { (list : List Operation) → IsDatabase C.Store ⟦<Db<F, C, I, H, U, N> as LaidOut>⟧.layout db.old list
         → IfOk result (λ keys. map U.Key.bytes keys.items ≡ keys_in (limit_of U.Key.bytes low.now) (limit_of U.Key.bytes high.now) list) }
     ensures error { IfErr result (IsReadError C.Store db.old.log db.new.log) }
-    ensures whole { (list : List Operation) → IsDatabase C.Store ⟦<Db<F, C, I, H, U> as LaidOut>⟧.layout db.old list → NoneBelow db.old.log.tree.start list → IfErr result (λ e. (n : ℕ) → e ≢ Error.Journal (JournalError.ItemPruned n)) }
-    ensures left { IsLeft C.Store ⟦<Db<F, C, I, H, U> as LaidOut>⟧.layout.hashing db.old db.new }
+    ensures whole { (list : List Operation) → IsDatabase C.Store ⟦<Db<F, C, I, H, U, N> as LaidOut>⟧.layout db.old list → NoneBelow db.old.log.tree.start list → IfErr result (λ e. (n : ℕ) → e ≢ Error.Journal (JournalError.ItemPruned n)) }
+    ensures left { IsLeft C.Store ⟦<Db<F, C, I, H, U, N> as LaidOut>⟧.layout.hashing db.old db.new }
 {
     let pairs = pairs_of(alloc, db, low, high)?;
     Ok(firsts(alloc, pairs)?)

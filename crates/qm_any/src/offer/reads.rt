@@ -3,6 +3,7 @@
 use crate::db::Db;
 use crate::offer::listed::listed;
 use qm_base::{Error, Hasher, Listed, Location};
+use qm_bits::Chunks;
 use qm_merkle::Family;
 use qm_offer::{Reading, Roots};
 use qm_operations::Update;
@@ -15,7 +16,8 @@ impl<
     I: qm_index::Unordered<Value = Location<F>> + Drop,
     H: Hasher + Drop,
     U: Update,
-> Reading<C> for Db<F, C, I, H, U> {
+    N: Chunks,
+> Reading<C> for Db<F, C, I, H, U, N> {
     fn batch_root(batch: &Self::Merkleized) -> Roots<H::Digest> {
         let root = batch.root();
         Roots {

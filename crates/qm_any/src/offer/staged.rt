@@ -3,6 +3,7 @@
 use crate::db::Db;
 use crate::offer::listed::twin_keys;
 use qm_base::{Error, Hasher, Location, Resolution, twin_option};
+use qm_bits::Chunks;
 use qm_chain::Policy;
 use qm_merkle::Family;
 use qm_offer::Staging;
@@ -17,7 +18,8 @@ impl<
     I: qm_index::Unordered<Value = Location<F>> + Drop,
     H: Hasher + Drop,
     U: Steps<F, I>,
-> Staging<C> for Db<F, C, I, H, U> {
+    N: Chunks,
+> Staging<C> for Db<F, C, I, H, U, N> {
     fn stage(
         &mut self,
         alloc: Global,

@@ -19,33 +19,33 @@ returns-in_err-next-in-Some g c =
     record {
       pairs = λ list stands few. IfOk-from_err c.from_residual.result _ c.from_residual.ensures.0;
       error =
-          let layout = laid_out g.H.Digest.Digest.bytes g.H.Hasher.hash g.F.Family.shape g.U.Update.form g.I.Unordered.index_key in
+          let layout = laid_out g.N.Chunks.LEN g.H.Digest.Digest.bytes g.H.Hasher.hash g.F.Family.shape g.U.Update.form g.I.Unordered.index_key in
           rw (exit.1, exit.2) (left-error g.C.Store layout.hashing c.args.db.now c.loop.db c.scan_next.new.self _ c.loop.invariant.left
           (subst (λ r. IfErr r (IsReadError g.C.Store c.loop.db.log c.scan_next.new.self.log)) c.in_err-next-in-Some.was c.in-Some.ensures.error));
       whole = λ list stands none.
-          let layout = laid_out g.H.Digest.Digest.bytes g.H.Hasher.hash g.F.Family.shape g.U.Update.form g.I.Unordered.index_key in
+          let layout = laid_out g.N.Chunks.LEN g.H.Digest.Digest.bytes g.H.Hasher.hash g.F.Family.shape g.U.Update.form g.I.Unordered.index_key in
           let mid = left-database g.C.Store layout c.args.db.now c.loop.db list c.loop.invariant.left stands in
           let still = subst (λ t. NoneBelow t list) (sym (c.loop.invariant.left).read.start) none in
           rw (exit.1, exit.2) (subst (λ r. IfErr r (λ e. (n : ℕ) → e ≢ Journal (ItemPruned n))) c.in_err-next-in-Some.was (c.in-Some.ensures.whole list mid still));
-      left = left-then g.C.Store (laid_out g.H.Digest.Digest.bytes g.H.Hasher.hash g.F.Family.shape g.U.Update.form g.I.Unordered.index_key).hashing c.args.db.now c.loop.db c.scan_next.new.self c.loop.invariant.left c.scan_next.ensures.left;
+      left = left-then g.C.Store (laid_out g.N.Chunks.LEN g.H.Digest.Digest.bytes g.H.Hasher.hash g.F.Family.shape g.U.Update.form g.I.Unordered.index_key).hashing c.args.db.now c.loop.db c.scan_next.new.self c.loop.invariant.left c.scan_next.ensures.left;
     }
 
 pub returns-in-None : goal.returns-in-None
 returns-in-None g c =
     record {
       pairs = λ list stands few.
-          let layout = laid_out g.H.Digest.Digest.bytes g.H.Hasher.hash g.F.Family.shape g.U.Update.form g.I.Unordered.index_key in
+          let layout = laid_out g.N.Chunks.LEN g.H.Digest.Digest.bytes g.H.Hasher.hash g.F.Family.shape g.U.Update.form g.I.Unordered.index_key in
           let given = map (pair_view g.U.Key.ByteString.bytes g.U.Value.ByteString.bytes) c.loop.pairs.items in
           let mid = left-database g.C.Store layout c.args.db.now c.loop.db list c.loop.invariant.left stands in
           sym (c.loop.invariant.value list stands ∙ ap (λ xs. given ++ xs) (c.in-None.ensures.value list mid).0 ∙ append-nil given);
       error = tt;
       whole = λ list stands none. tt;
-      left = left-then g.C.Store (laid_out g.H.Digest.Digest.bytes g.H.Hasher.hash g.F.Family.shape g.U.Update.form g.I.Unordered.index_key).hashing c.args.db.now c.loop.db c.scan_next.new.self c.loop.invariant.left c.scan_next.ensures.left;
+      left = left-then g.C.Store (laid_out g.N.Chunks.LEN g.H.Digest.Digest.bytes g.H.Hasher.hash g.F.Family.shape g.U.Update.form g.I.Unordered.index_key).hashing c.args.db.now c.loop.db c.scan_next.new.self c.loop.invariant.left c.scan_next.ensures.left;
     }
 
 pub loop-preserved : goal.loop-preserved
 loop-preserved g c =
-    let layout = laid_out g.H.Digest.Digest.bytes g.H.Hasher.hash g.F.Family.shape g.U.Update.form g.I.Unordered.index_key in
+    let layout = laid_out g.N.Chunks.LEN g.H.Digest.Digest.bytes g.H.Hasher.hash g.F.Family.shape g.U.Update.form g.I.Unordered.index_key in
     let view = pair_view g.U.Key.ByteString.bytes g.U.Value.ByteString.bytes in
     let pair = c.in_ok-next-in-Some.field-0 in
     record {
@@ -70,5 +70,5 @@ returns-in_err-push-in-Some g c =
           rw (exit.1, exit.2) (inl refl);
       whole = λ list stands none.
           rw (exit.1, exit.2) (λ n pruned. cc);
-      left = left-then g.C.Store (laid_out g.H.Digest.Digest.bytes g.H.Hasher.hash g.F.Family.shape g.U.Update.form g.I.Unordered.index_key).hashing c.args.db.now c.loop.db c.scan_next.new.self c.loop.invariant.left c.scan_next.ensures.left;
+      left = left-then g.C.Store (laid_out g.N.Chunks.LEN g.H.Digest.Digest.bytes g.H.Hasher.hash g.F.Family.shape g.U.Update.form g.I.Unordered.index_key).hashing c.args.db.now c.loop.db c.scan_next.new.self c.loop.invariant.left c.scan_next.ensures.left;
     }

@@ -8,7 +8,7 @@ use Rattle.qm_any.proofs.offer.ranges.collected.Given as goal
 
 abbrev pub invariant-loop : goal.invariant-loop
 invariant-loop g l =
-    let layout = laid_out g.H.Digest.Digest.bytes g.H.Hasher.hash g.F.Family.shape g.U.Update.form g.I.Unordered.index_key in
+    let layout = laid_out g.N.Chunks.LEN g.H.Digest.Digest.bytes g.H.Hasher.hash g.F.Family.shape g.U.Update.form g.I.Unordered.index_key in
     record {
       left : IsLeft g.C.Store layout.hashing l.initial.db l.db;
       count : length l.pairs.items ≡ l.counter;

@@ -15,12 +15,12 @@ returns g c =
     let r = c.apply_batch.result in
     let said = c.apply_batch.ensures in
     let batch = c.args.batch.now.value in
-    let is_database = IsDatabase g.C.Store (layout_of g.H.Digest.Digest.bytes g.H.Hasher g.F.Family g.U.Update g.I.Unordered) db in
+    let is_database = IsDatabase g.C.Store (layout_of g.N.Chunks.LEN g.H.Digest.Digest.bytes g.H.Hasher g.F.Family g.U.Update g.I.Unordered) db in
     let same = sym c.deref.ensures in
     record {
       fit = ok-then r said.fits (λ next on list chain tip is made.
       sym (at-made hashing list chain tip db.commitment c.deref.result.now is.commitment (subst (λ b. IsMade hashing b chain tip) same made)) ∙ on);
-      applied = ok-tips r is_database (IsMade hashing batch) (λ next list chain tip. IsDatabase g.C.Store (layout_of g.H.Digest.Digest.bytes g.H.Hasher g.F.Family g.U.Update g.I.Unordered) next tip)
+      applied = ok-tips r is_database (IsMade hashing batch) (λ next list chain tip. IsDatabase g.C.Store (layout_of g.N.Chunks.LEN g.H.Digest.Digest.bytes g.H.Hasher g.F.Family g.U.Update g.I.Unordered) next tip)
           (λ list chain tip is made on. said.stands list chain tip is (subst (λ b. IsMade hashing b chain tip) same made) on);
       numbered = ok-then r said.fits (λ next on n is. tt);
       grown = ok-tips r is_database (IsMade hashing batch) (λ next list chain tip. Appended g.C.Store db.log.store next.log.store (map (spelling g.U.Update.form) (drop (length list) tip)))

@@ -16,7 +16,7 @@ returns g c =
     let told = g.C.Store.told c.args.store in
     record {
       opened = opened-list g.F.Family.shape g.F.Family.births g.F.Family.numbered g.F.Family.peaked form told c.args.max_size
-          (λ list. IfOk r (λ db. IsDatabase g.C.Store (record { hashing = hashing g.F.Family.shape form; index_key = g.I.Unordered.index_key }) db list)) said.stands said.fresh;
+          (λ list. IfOk r (λ db. IsDatabase g.C.Store (record { hashing = hashing g.F.Family.shape form; chunk = g.N.Chunks.LEN; index_key = g.I.Unordered.index_key }) db list)) said.stands said.fresh;
       numbered = ok-then r said.became (λ db became. tt);
       offered = said.accepted;
       became = ok-then r said.became (λ db became. became-taken g.F.Family.shape g.F.Family.births g.F.Family.numbered g.F.Family.peaked form told (g.C.Store.told db.log.store) c.args.max_size became);

@@ -19,7 +19,7 @@ returns-in-Ok g c = record {
       let form = g.U.Update.form in
       let shape = g.F.Family.shape in
       let index_key = g.I.Unordered.index_key in
-      let is_database = IsDatabase g.C.Store (record { hashing = hashing shape form; index_key = index_key }) old in
+      let is_database = IsDatabase g.C.Store (record { hashing = hashing shape form; chunk = g.N.Chunks.LEN; index_key = index_key }) old in
       let start = g.C.Store.start old.log.store in
       let made = c.in-Ok.ensures.pruned in
       let same = c.new.ensures in
@@ -31,7 +31,7 @@ returns-in-Ok g c = record {
         start = c.bounds-in-Ok.ensures.first ∙ made.start ∙ ap₂ max (sym before) same;
         head = made.head;
         heads = λ past list is few. subst (λ to. made.head ≡ head_at (scheme shape form) list to) same
-            (heads-of g.F.Family.shape g.F.Family.births g.F.Family.numbered g.F.Family.peaked g.C.Store form index_key old c.new.result made.head (made.heads (omega (arith, past, before, same))) list is (low list is) few);
+            (heads-of g.F.Family.shape g.F.Family.births g.F.Family.numbered g.F.Family.peaked g.C.Store form g.N.Chunks.LEN index_key old c.new.result made.head (made.heads (omega (arith, past, before, same))) list is (low list is) few);
         told = subst (λ to. Becomes (g.C.Store.told old.log.store) (g.C.Store.told c.in-Ok.db.log.store) (pruned_from start to made.head)) same
             (pruned-same (g.C.Store.told old.log.store) (g.C.Store.told c.in-Ok.db.log.store) old.log.tree.start start c.new.result made.head (sym before) made.told);
         later = made.later;
@@ -47,7 +47,7 @@ returns-in-Err g c = record {
       let form = g.U.Update.form in
       let shape = g.F.Family.shape in
       let index_key = g.I.Unordered.index_key in
-      let is_database = IsDatabase g.C.Store (record { hashing = hashing shape form; index_key = index_key }) old in
+      let is_database = IsDatabase g.C.Store (record { hashing = hashing shape form; chunk = g.N.Chunks.LEN; index_key = index_key }) old in
       let start = g.C.Store.start old.log.store in
       let same = c.new.ensures in
       let before = c.bounds.ensures.first in
@@ -69,7 +69,7 @@ returns-in-Err g c = record {
               subst (λ to. Turns (g.C.Store.told old.log.store) (g.C.Store.told left.store) (LeavesPruning start IsHead to)) same
               (left-pruned (g.C.Store.told old.log.store) (g.C.Store.told left.store) start IsHead c.new.result cut.head (omega (arith, cut.past, before))
               (λ list is few. subst (λ to. cut.head ≡ head_at (scheme shape form) list to) same
-              (heads-of g.F.Family.shape g.F.Family.births g.F.Family.numbered g.F.Family.peaked g.C.Store form index_key old c.new.result cut.head cut.heads list is (omega (arith, c.prune.ensures.boundary list is, within)) few))
+              (heads-of g.F.Family.shape g.F.Family.births g.F.Family.numbered g.F.Family.peaked g.C.Store form g.N.Chunks.LEN index_key old c.new.result cut.head cut.heads list is (omega (arith, c.prune.ensures.boundary list is, within)) few))
               cut.told))
               left.left;
           never = untold c.in-Err.refused.error left.never;

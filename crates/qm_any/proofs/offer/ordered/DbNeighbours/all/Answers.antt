@@ -22,10 +22,10 @@ returns-then-not-is_ordered g c = record {
 pub returns : goal.returns
 returns g c = record {
   whole =
-      ok-then c.get_all.result (ok-each (IsDatabase g.C.Store (layout_of g.H.Digest.Digest.bytes g.H.Hasher g.F.Family g.U.Update g.I.Unordered) c.args.self.now) (λ list p. option_map (whole_view g.U.Key.ByteString.bytes g.U.Value.ByteString.bytes) p ≡ option_map {U = Bytes × Option Bytes} (λ e. (e.value, e.next)) (live_of (live list) (g.U.Key.ByteString.bytes c.args.key.now))) c.get_all.result c.get_all.ensures.value)
+      ok-then c.get_all.result (ok-each (IsDatabase g.C.Store (layout_of g.N.Chunks.LEN g.H.Digest.Digest.bytes g.H.Hasher g.F.Family g.U.Update g.I.Unordered) c.args.self.now) (λ list p. option_map (whole_view g.U.Key.ByteString.bytes g.U.Value.ByteString.bytes) p ≡ option_map {U = Bytes × Option Bytes} (λ e. (e.value, e.next)) (live_of (live list) (g.U.Key.ByteString.bytes c.args.key.now))) c.get_all.result c.get_all.ensures.value)
       (λ p given ordered. given);
   reads = record {
-    same = λ list is. left-database g.C.Store (layout_of g.H.Digest.Digest.bytes g.H.Hasher g.F.Family g.U.Update g.I.Unordered) c.args.self.now c.get_all.new.self list c.get_all.ensures.reads.left is;
+    same = λ list is. left-database g.C.Store (layout_of g.N.Chunks.LEN g.H.Digest.Digest.bytes g.H.Hasher g.F.Family g.U.Update g.I.Unordered) c.args.self.now c.get_all.new.self list c.get_all.ensures.reads.left is;
     numbered = λ n is. tt;
     store = left-store g.C.Store (hashing_of g.H.Digest.Digest.bytes g.H.Hasher g.F.Family g.U.Update) c.args.self.now c.get_all.new.self c.get_all.ensures.reads.left;
     faults = record {
@@ -34,5 +34,5 @@ returns g c = record {
     };
   };
   never = err-then c.get_all.result c.get_all.ensures.reads.error (λ e why. log-kept g.C.Store c.args.self.now.log c.get_all.new.self.log e why);
-  refused = read-untold g.C.Store (layout_of g.H.Digest.Digest.bytes g.H.Hasher g.F.Family g.U.Update g.I.Unordered) c.args.self.now c.get_all.new.self.log c.get_all.result c.get_all.ensures.reads.error c.get_all.ensures.reads.whole;
+  refused = read-untold g.C.Store (layout_of g.N.Chunks.LEN g.H.Digest.Digest.bytes g.H.Hasher g.F.Family g.U.Update g.I.Unordered) c.args.self.now c.get_all.new.self.log c.get_all.result c.get_all.ensures.reads.error c.get_all.ensures.reads.whole;
 }

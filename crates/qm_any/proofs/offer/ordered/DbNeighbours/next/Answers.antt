@@ -21,10 +21,10 @@ returns-then-not-is_ordered g c = record {
 pub returns : goal.returns
 returns g c = record {
   above =
-      ok-then c.get_next_key.result (ok-each (IsDatabase g.C.Store (layout_of g.H.Digest.Digest.bytes g.H.Hasher g.F.Family g.U.Update g.I.Unordered) c.args.self.now) (λ list k. option_map g.U.Key.ByteString.bytes k ≡ key_above (live_keys list) (g.U.Key.ByteString.bytes c.args.key.now)) c.get_next_key.result c.get_next_key.ensures.value)
+      ok-then c.get_next_key.result (ok-each (IsDatabase g.C.Store (layout_of g.N.Chunks.LEN g.H.Digest.Digest.bytes g.H.Hasher g.F.Family g.U.Update g.I.Unordered) c.args.self.now) (λ list k. option_map g.U.Key.ByteString.bytes k ≡ key_above (live_keys list) (g.U.Key.ByteString.bytes c.args.key.now)) c.get_next_key.result c.get_next_key.ensures.value)
       (λ k given ordered. given);
   reads = record {
-    same = λ list is. left-database g.C.Store (layout_of g.H.Digest.Digest.bytes g.H.Hasher g.F.Family g.U.Update g.I.Unordered) c.args.self.now c.get_next_key.new.self list c.get_next_key.ensures.reads.left is;
+    same = λ list is. left-database g.C.Store (layout_of g.N.Chunks.LEN g.H.Digest.Digest.bytes g.H.Hasher g.F.Family g.U.Update g.I.Unordered) c.args.self.now c.get_next_key.new.self list c.get_next_key.ensures.reads.left is;
     numbered = λ n is. tt;
     store = left-store g.C.Store (hashing_of g.H.Digest.Digest.bytes g.H.Hasher g.F.Family g.U.Update) c.args.self.now c.get_next_key.new.self c.get_next_key.ensures.reads.left;
     faults = record {
@@ -33,5 +33,5 @@ returns g c = record {
     };
   };
   never = err-then c.get_next_key.result c.get_next_key.ensures.reads.error (λ e why. log-kept g.C.Store c.args.self.now.log c.get_next_key.new.self.log e why);
-  refused = read-untold g.C.Store (layout_of g.H.Digest.Digest.bytes g.H.Hasher g.F.Family g.U.Update g.I.Unordered) c.args.self.now c.get_next_key.new.self.log c.get_next_key.result c.get_next_key.ensures.reads.error c.get_next_key.ensures.reads.whole;
+  refused = read-untold g.C.Store (layout_of g.N.Chunks.LEN g.H.Digest.Digest.bytes g.H.Hasher g.F.Family g.U.Update g.I.Unordered) c.args.self.now c.get_next_key.new.self.log c.get_next_key.result c.get_next_key.ensures.reads.error c.get_next_key.ensures.reads.whole;
 }

@@ -27,16 +27,16 @@ returns g c = record {
       (λ key can ordered list chain tip is batch. sym (knows-readable (hashing_of g.H.Digest.Digest.bytes g.H.Hasher g.F.Family g.U.Update) list chain tip c.args.self.now.commitment c.deref.result.now.bounds is.commitment (subst (λ b. IsMade (hashing_of g.H.Digest.Digest.bytes g.H.Hasher g.F.Family g.U.Update) b chain tip) (sym c.deref.ensures) batch).bounds) ∙ can);
   below =
       ok-then c.get_prev_key.result
-      (made-reads c.get_prev_key.result (IsDatabase g.C.Store (layout_of g.H.Digest.Digest.bytes g.H.Hasher g.F.Family g.U.Update g.I.Unordered) c.args.self.now) (IsMade (hashing_of g.H.Digest.Digest.bytes g.H.Hasher g.F.Family g.U.Update) c.args.batch.now.value) (λ k tip. option_map g.U.Key.ByteString.bytes k ≡ key_below (live_keys tip) (g.U.Key.ByteString.bytes c.args.key.now))
+      (made-reads c.get_prev_key.result (IsDatabase g.C.Store (layout_of g.N.Chunks.LEN g.H.Digest.Digest.bytes g.H.Hasher g.F.Family g.U.Update g.I.Unordered) c.args.self.now) (IsMade (hashing_of g.H.Digest.Digest.bytes g.H.Hasher g.F.Family g.U.Update) c.args.batch.now.value) (λ k tip. option_map g.U.Key.ByteString.bytes k ≡ key_below (live_keys tip) (g.U.Key.ByteString.bytes c.args.key.now))
       (λ list chain tip is batch known. c.get_prev_key.ensures.value list chain tip is (subst (λ b. IsMade (hashing_of g.H.Digest.Digest.bytes g.H.Hasher g.F.Family g.U.Update) b chain tip) (sym c.deref.ensures) batch) known))
       (λ k given ordered. given);
   failure =
-      err-both c.get_prev_key.result c.get_prev_key.ensures.reads.error (kept-items g.C.Store (layout_of g.H.Digest.Digest.bytes g.H.Hasher g.F.Family g.U.Update g.I.Unordered) c.args.self.now c.get_prev_key.result c.get_prev_key.ensures.reads.whole)
+      err-both c.get_prev_key.result c.get_prev_key.ensures.reads.error (kept-items g.C.Store (layout_of g.N.Chunks.LEN g.H.Digest.Digest.bytes g.H.Hasher g.F.Family g.U.Update g.I.Unordered) c.args.self.now c.get_prev_key.result c.get_prev_key.ensures.reads.whole)
       (λ e why kept list chain tip is batch.
       read-failure g.C.Store c.args.self.now.log c.get_prev_key.new.db.log (knows c.deref.result.now.bounds c.args.self.now.commitment) e _ list chain tip
       (knows-readable (hashing_of g.H.Digest.Digest.bytes g.H.Hasher g.F.Family g.U.Update) list chain tip c.args.self.now.commitment c.deref.result.now.bounds is.commitment (subst (λ b. IsMade (hashing_of g.H.Digest.Digest.bytes g.H.Hasher g.F.Family g.U.Update) b chain tip) (sym c.deref.ensures) batch).bounds) (kept list is) why);
   reads = record {
-    same = λ list is. left-database g.C.Store (layout_of g.H.Digest.Digest.bytes g.H.Hasher g.F.Family g.U.Update g.I.Unordered) c.args.self.now c.get_prev_key.new.db list c.get_prev_key.ensures.reads.left is;
+    same = λ list is. left-database g.C.Store (layout_of g.N.Chunks.LEN g.H.Digest.Digest.bytes g.H.Hasher g.F.Family g.U.Update g.I.Unordered) c.args.self.now c.get_prev_key.new.db list c.get_prev_key.ensures.reads.left is;
     numbered = λ n is. tt;
     store = left-store g.C.Store (hashing_of g.H.Digest.Digest.bytes g.H.Hasher g.F.Family g.U.Update) c.args.self.now c.get_prev_key.new.db c.get_prev_key.ensures.reads.left;
     faults = record {

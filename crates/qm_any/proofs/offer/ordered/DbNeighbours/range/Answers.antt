@@ -21,11 +21,11 @@ returns-then-not-is_ordered g c = record {
 pub returns : goal.returns
 returns g c = record {
   pairs =
-      ok-then c.pairs_of.result (ok-each (IsDatabase g.C.Store (layout_of g.H.Digest.Digest.bytes g.H.Hasher g.F.Family g.U.Update g.I.Unordered) c.args.self.now)
+      ok-then c.pairs_of.result (ok-each (IsDatabase g.C.Store (layout_of g.N.Chunks.LEN g.H.Digest.Digest.bytes g.H.Hasher g.F.Family g.U.Update g.I.Unordered) c.args.self.now)
       (λ list found. map (pair_view g.U.Key.ByteString.bytes g.U.Value.ByteString.bytes) found.items ≡ pairs_in (limit_of g.U.Key.ByteString.bytes c.args.low.now) (limit_of g.U.Key.ByteString.bytes c.args.high.now) list) c.pairs_of.result c.pairs_of.ensures.pairs)
       (λ found given ordered list is. given list is);
   reads = record {
-    same = λ list is. left-database g.C.Store (layout_of g.H.Digest.Digest.bytes g.H.Hasher g.F.Family g.U.Update g.I.Unordered) c.args.self.now c.pairs_of.new.db list c.pairs_of.ensures.left is;
+    same = λ list is. left-database g.C.Store (layout_of g.N.Chunks.LEN g.H.Digest.Digest.bytes g.H.Hasher g.F.Family g.U.Update g.I.Unordered) c.args.self.now c.pairs_of.new.db list c.pairs_of.ensures.left is;
     numbered = λ n is. tt;
     store = left-store g.C.Store (hashing_of g.H.Digest.Digest.bytes g.H.Hasher g.F.Family g.U.Update) c.args.self.now c.pairs_of.new.db c.pairs_of.ensures.left;
     faults = record {
@@ -34,5 +34,5 @@ returns g c = record {
     };
   };
   never = err-then c.pairs_of.result c.pairs_of.ensures.error (λ e why. log-kept g.C.Store c.args.self.now.log c.pairs_of.new.db.log e why);
-  refused = read-untold g.C.Store (layout_of g.H.Digest.Digest.bytes g.H.Hasher g.F.Family g.U.Update g.I.Unordered) c.args.self.now c.pairs_of.new.db.log c.pairs_of.result c.pairs_of.ensures.error c.pairs_of.ensures.whole;
+  refused = read-untold g.C.Store (layout_of g.N.Chunks.LEN g.H.Digest.Digest.bytes g.H.Hasher g.F.Family g.U.Update g.I.Unordered) c.args.self.now c.pairs_of.new.db.log c.pairs_of.result c.pairs_of.ensures.error c.pairs_of.ensures.whole;
 }

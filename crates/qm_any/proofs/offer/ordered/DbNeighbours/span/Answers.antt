@@ -20,7 +20,7 @@ returns-in-Ok g c = record {
   span =
       λ ordered list is. same-located (option_map (span_view g.U.Key.ByteString.bytes g.U.Value.ByteString.bytes) c.span_from.result) (span_of list (g.U.Key.ByteString.bytes c.args.key.now)) (c.span_from.ensures ordered ∙ c.in-Ok.ensures.value list is);
   reads = record {
-    same = λ list is. left-database g.C.Store (layout_of g.H.Digest.Digest.bytes g.H.Hasher g.F.Family g.U.Update g.I.Unordered) c.args.self.now c.get_span.new.self list c.get_span.ensures.reads.left is;
+    same = λ list is. left-database g.C.Store (layout_of g.N.Chunks.LEN g.H.Digest.Digest.bytes g.H.Hasher g.F.Family g.U.Update g.I.Unordered) c.args.self.now c.get_span.new.self list c.get_span.ensures.reads.left is;
     numbered = λ n is. tt;
     store = left-store g.C.Store (hashing_of g.H.Digest.Digest.bytes g.H.Hasher g.F.Family g.U.Update) c.args.self.now c.get_span.new.self c.get_span.ensures.reads.left;
     faults = record { later = (c.get_span.ensures.reads.left).read.keeps.later; failed = λ fault. absurd (cc fault) };
@@ -33,11 +33,11 @@ pub returns-in-Err : goal.returns-in-Err
 returns-in-Err g c = record {
   span = tt;
   reads = record {
-    same = λ list is. left-database g.C.Store (layout_of g.H.Digest.Digest.bytes g.H.Hasher g.F.Family g.U.Update g.I.Unordered) c.args.self.now c.get_span.new.self list c.get_span.ensures.reads.left is;
+    same = λ list is. left-database g.C.Store (layout_of g.N.Chunks.LEN g.H.Digest.Digest.bytes g.H.Hasher g.F.Family g.U.Update g.I.Unordered) c.args.self.now c.get_span.new.self list c.get_span.ensures.reads.left is;
     numbered = λ n is. tt;
     store = left-store g.C.Store (hashing_of g.H.Digest.Digest.bytes g.H.Hasher g.F.Family g.U.Update) c.args.self.now c.get_span.new.self c.get_span.ensures.reads.left;
     faults = record { later = (c.get_span.ensures.reads.left).read.keeps.later; failed = λ fault. log-rose g.C.Store c.args.self.now.log c.get_span.new.self.log c.in-Err.error c.in-Err.ensures.reads.error (cc fault) };
   };
   never = log-kept g.C.Store c.args.self.now.log c.get_span.new.self.log c.in-Err.error c.in-Err.ensures.reads.error;
-  refused = λ list is tells. log-untold g.C.Store c.args.self.now.log c.get_span.new.self.log c.in-Err.error (c.in-Err.ensures.reads.whole list is (none-below g.C.Store (layout_of g.H.Digest.Digest.bytes g.H.Hasher g.F.Family g.U.Update g.I.Unordered) c.args.self.now list is tells)) c.in-Err.ensures.reads.error;
+  refused = λ list is tells. log-untold g.C.Store c.args.self.now.log c.get_span.new.self.log c.in-Err.error (c.in-Err.ensures.reads.whole list is (none-below g.C.Store (layout_of g.N.Chunks.LEN g.H.Digest.Digest.bytes g.H.Hasher g.F.Family g.U.Update g.I.Unordered) c.args.self.now list is tells)) c.in-Err.ensures.reads.error;
 }

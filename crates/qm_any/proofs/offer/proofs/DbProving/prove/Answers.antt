@@ -21,7 +21,7 @@ pub returns-in_err-proof-clause-reads : goal.returns-in_err-proof-clause-reads
 returns-in_err-proof-clause-reads g c =
     let exit = err_from_is_err_and c.from_residual.result c.from_residual.ensures.1 in
     record {
-      same = λ list is. left-database g.C.Store (layout_of g.H.Digest.Digest.bytes g.H.Hasher g.F.Family g.U.Update g.I.Unordered) c.args.self.now c.historical_proof.new.self list c.historical_proof.ensures.left is;
+      same = λ list is. left-database g.C.Store (layout_of g.N.Chunks.LEN g.H.Digest.Digest.bytes g.H.Hasher g.F.Family g.U.Update g.I.Unordered) c.args.self.now c.historical_proof.new.self list c.historical_proof.ensures.left is;
       numbered = λ n is. tt;
       store = left-store g.C.Store (hashing_of g.H.Digest.Digest.bytes g.H.Hasher g.F.Family g.U.Update) c.args.self.now c.historical_proof.new.self c.historical_proof.ensures.left;
       faults = record { later = (c.historical_proof.ensures.left).read.keeps.later; failed = λ fault. c.in_err-proof.ensures.cause (err-exit c.from_residual.result exit.0 _ _ exit.1 exit.2 fault) };
@@ -31,7 +31,7 @@ pub returns-in_err-operations-clause-reads : goal.returns-in_err-operations-clau
 returns-in_err-operations-clause-reads g c =
     let exit = err_from_is_err_and c.from_residual-in_err-operations.result c.from_residual-in_err-operations.ensures.1 in
     record {
-      same = λ list is. left-database g.C.Store (layout_of g.H.Digest.Digest.bytes g.H.Hasher g.F.Family g.U.Update g.I.Unordered) c.args.self.now c.historical_proof.new.self list c.historical_proof.ensures.left is;
+      same = λ list is. left-database g.C.Store (layout_of g.N.Chunks.LEN g.H.Digest.Digest.bytes g.H.Hasher g.F.Family g.U.Update g.I.Unordered) c.args.self.now c.historical_proof.new.self list c.historical_proof.ensures.left is;
       numbered = λ n is. tt;
       store = left-store g.C.Store (hashing_of g.H.Digest.Digest.bytes g.H.Hasher g.F.Family g.U.Update) c.args.self.now c.historical_proof.new.self c.historical_proof.ensures.left;
       faults = record { later = (c.historical_proof.ensures.left).read.keeps.later; failed = λ fault. absurd (memory-exit c.from_residual-in_err-operations.result exit.0 exit.1 exit.2 fault) };
@@ -39,7 +39,7 @@ returns-in_err-operations-clause-reads g c =
 
 pub returns-clause-reads : goal.returns-clause-reads
 returns-clause-reads g c = record {
-  same = λ list is. left-database g.C.Store (layout_of g.H.Digest.Digest.bytes g.H.Hasher g.F.Family g.U.Update g.I.Unordered) c.args.self.now c.historical_proof.new.self list c.historical_proof.ensures.left is;
+  same = λ list is. left-database g.C.Store (layout_of g.N.Chunks.LEN g.H.Digest.Digest.bytes g.H.Hasher g.F.Family g.U.Update g.I.Unordered) c.args.self.now c.historical_proof.new.self list c.historical_proof.ensures.left is;
   numbered = λ n is. tt;
   store = left-store g.C.Store (hashing_of g.H.Digest.Digest.bytes g.H.Hasher g.F.Family g.U.Update) c.args.self.now c.historical_proof.new.self c.historical_proof.ensures.left;
   faults = record { later = (c.historical_proof.ensures.left).read.keeps.later; failed = λ fault. absurd (cc fault) };

@@ -16,13 +16,13 @@ returns-clause-readable g c =
 pub returns-clause-values : goal.returns-clause-values
 returns-clause-values g c =
     let hashing = hashing_of g.H.Digest.Digest.bytes g.H.Hasher g.F.Family g.U.Update in
-    made-reads c.get_many.result (IsDatabase g.C.Store (layout_of g.H.Digest.Digest.bytes g.H.Hasher g.F.Family g.U.Update g.I.Unordered) c.args.self.now) (IsMade hashing c.args.batch.now.value) (λ v tip. map (option_map g.U.Value.ByteString.bytes) v.items ≡ map (λ k. value_of tip (g.U.Key.ByteString.bytes k)) c.args.keys.now)
+    made-reads c.get_many.result (IsDatabase g.C.Store (layout_of g.N.Chunks.LEN g.H.Digest.Digest.bytes g.H.Hasher g.F.Family g.U.Update g.I.Unordered) c.args.self.now) (IsMade hashing c.args.batch.now.value) (λ v tip. map (option_map g.U.Value.ByteString.bytes) v.items ≡ map (λ k. value_of tip (g.U.Key.ByteString.bytes k)) c.args.keys.now)
     (λ list chain tip is batch known. c.get_many.ensures.values list chain tip is (subst (λ b. IsMade hashing b chain tip) (sym c.deref.ensures) batch) known)
 
 pub returns-clause-failure : goal.returns-clause-failure
 returns-clause-failure g c =
     let hashing = hashing_of g.H.Digest.Digest.bytes g.H.Hasher g.F.Family g.U.Update in
-    err-both c.get_many.result c.get_many.ensures.reads.error (kept-items g.C.Store (layout_of g.H.Digest.Digest.bytes g.H.Hasher g.F.Family g.U.Update g.I.Unordered) c.args.self.now c.get_many.result c.get_many.ensures.reads.whole)
+    err-both c.get_many.result c.get_many.ensures.reads.error (kept-items g.C.Store (layout_of g.N.Chunks.LEN g.H.Digest.Digest.bytes g.H.Hasher g.F.Family g.U.Update g.I.Unordered) c.args.self.now c.get_many.result c.get_many.ensures.reads.whole)
     (λ e why kept list chain tip is batch.
     read-failure g.C.Store c.args.self.now.log c.get_many.new.db.log (knows c.deref.result.now.bounds c.args.self.now.commitment) e _ list chain tip
     (knows-readable hashing list chain tip c.args.self.now.commitment c.deref.result.now.bounds is.commitment ((subst (λ b. IsMade hashing b chain tip) (sym c.deref.ensures) batch).bounds)) (kept list is) why)

@@ -14,11 +14,11 @@ returns-clause-readable g c =
 
 pub returns-clause-values : goal.returns-clause-values
 returns-clause-values g c =
-    begun-reads (hashing_of g.H.Digest.Digest.bytes g.H.Hasher g.F.Family g.U.Update) c.get_many.result (IsDatabase g.C.Store (layout_of g.H.Digest.Digest.bytes g.H.Hasher g.F.Family g.U.Update g.I.Unordered) c.args.self.now) c.args.batch.now (λ v base ws. map (option_map g.U.Value.ByteString.bytes) v.items ≡ map (λ k. read_through base ws (g.U.Key.ByteString.bytes k)) c.args.keys.now) c.get_many.ensures.values
+    begun-reads (hashing_of g.H.Digest.Digest.bytes g.H.Hasher g.F.Family g.U.Update) c.get_many.result (IsDatabase g.C.Store (layout_of g.N.Chunks.LEN g.H.Digest.Digest.bytes g.H.Hasher g.F.Family g.U.Update g.I.Unordered) c.args.self.now) c.args.batch.now (λ v base ws. map (option_map g.U.Value.ByteString.bytes) v.items ≡ map (λ k. read_through base ws (g.U.Key.ByteString.bytes k)) c.args.keys.now) c.get_many.ensures.values
 
 pub returns-clause-failure : goal.returns-clause-failure
 returns-clause-failure g c =
-    err-both c.get_many.result c.get_many.ensures.reads.error (kept-items g.C.Store (layout_of g.H.Digest.Digest.bytes g.H.Hasher g.F.Family g.U.Update g.I.Unordered) c.args.self.now c.get_many.result c.get_many.ensures.reads.whole)
+    err-both c.get_many.result c.get_many.ensures.reads.error (kept-items g.C.Store (layout_of g.N.Chunks.LEN g.H.Digest.Digest.bytes g.H.Hasher g.F.Family g.U.Update g.I.Unordered) c.args.self.now c.get_many.result c.get_many.ensures.reads.whole)
     (λ e why kept list chain above ws is batch.
     read-failure g.C.Store c.args.self.now.log c.get_many.new.db.log (knows c.args.batch.now.parent.bounds c.args.self.now.commitment) e _ list above chain.base
     (knows-readable (hashing_of g.H.Digest.Digest.bytes g.H.Hasher g.F.Family g.U.Update) list above chain.base c.args.self.now.commitment c.args.batch.now.parent.bounds is.commitment batch.0.parent.bounds) (kept list is) why)

@@ -30,7 +30,7 @@ returns-in_err-metadata g c =
 pub returns : goal.returns
 returns g c =
     let hashing = hashing_of g.H.Digest.Digest.bytes g.H.Hasher g.F.Family g.U.Update in
-    let layout = layout_of g.H.Digest.Digest.bytes g.H.Hasher g.F.Family g.U.Update g.I.Unordered in
+    let layout = layout_of g.N.Chunks.LEN g.H.Digest.Digest.bytes g.H.Hasher g.F.Family g.U.Update g.I.Unordered in
     let old = c.args.self.now in
     let new = c.merkleize.new.db in
     let r = c.merkleize.result in

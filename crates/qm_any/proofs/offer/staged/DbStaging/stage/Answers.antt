@@ -22,7 +22,7 @@ returns-in-Err g c = record {
 pub returns-in-Ok : goal.returns-in-Ok
 returns-in-Ok g c =
     let hashing = hashing_of g.H.Digest.Digest.bytes g.H.Hasher g.F.Family g.U.Update in
-    let layout = layout_of g.H.Digest.Digest.bytes g.H.Hasher g.F.Family g.U.Update g.I.Unordered in
+    let layout = layout_of g.N.Chunks.LEN g.H.Digest.Digest.bytes g.H.Hasher g.F.Family g.U.Update g.I.Unordered in
     let old = c.args.self.now in
     let new = c.stage.new.db in
     let r = c.stage.result in
