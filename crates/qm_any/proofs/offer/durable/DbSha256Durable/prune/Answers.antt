@@ -9,7 +9,7 @@ use Rattle.qm_base.specs.declared.error.Error.TheVariants as errors
 use Rattle.qm_any.specs.Databases.{IsDatabase}
 use Rattle.qm_any.specs.Lasting.{boundary_of, HasLeftPruned, HasLeftStable}
 use Rattle.qm_any.proofs.OfferedHeads.{hashing, scheme}
-use Rattle.qm_any.proofs.OfferedStores.{untold, heads-of, left-pruned, left-stable, pruned-same}
+use Rattle.qm_any.proofs.OfferedStores.{leaves-now, untold, heads-of, left-pruned, left-stable, pruned-same}
 use Rattle.qm_any.proofs.offer.durable.DbSha256Durable.prune.Goals as goal
 
 pub returns-in-Ok : goal.returns-in-Ok
@@ -64,7 +64,7 @@ returns-in-Err g c = record {
           store = left.store;
           given = left.given;
           told = ⊎_elim
-              (λ (kept : HasLeftStable g.C.Store old.log.store left.store). left-stable (g.C.Store.told old.log.store) (g.C.Store.told left.store) start IsHead c.args.to kept.told)
+              (λ (kept : HasLeftStable g.C.Store old.log.store left.store). left-stable (g.C.Store.told old.log.store) (g.C.Store.told left.store) start IsHead c.args.to (leaves-now _ _ _ kept.told))
               (λ (cut : HasLeftPruned g.C.Store (hashing shape form) settled c.new.result old.log left.store).
               subst (λ to. Turns (g.C.Store.told old.log.store) (g.C.Store.told left.store) (LeavesPruning start IsHead to)) same
               (left-pruned (g.C.Store.told old.log.store) (g.C.Store.told left.store) start IsHead c.new.result cut.head (omega (arith, cut.past, before))
