@@ -27,7 +27,7 @@ use Rattle.qm_step.specs.Lent.{NoneBelow}
 use Rattle.qm_any.specs.Layouts.{Hashing, Layout}
 use Rattle.qm_any.specs.Databases.{Database, Beside, IsDatabase, over}
 use Rattle.qm_model.proofs.Stores.{leaves-now}
-use Rattle.qm_any.specs.Lasting.{bits_from, cut_to, given_up, over_log, HasLasted, HasLeftPruned, HasPruned, IsGivenUp, IsHeadAt}
+use Rattle.qm_any.specs.Lasting.{bits_from, cut_to, given_up, over_log, HasLasted, HasLeftPruned, HasPruned, HasPrunedLog, IsGivenUp, IsHeadAt}
 
 -- what holds where both do
 pub ok-two : {X E : Type 0} {P Q R : X → Type 0} (r : Result X E) → IfOk r P → IfOk r Q → ((x : X) → P x → Q x → R x) → IfOk r R
@@ -186,10 +186,6 @@ module _ {C D : Type 0} (members : store.Ghosts C) where
   pub cut-is : (v b : Beside) (a : Bitmap) (to : ℕ) (log : Log C D) (db : Database C D) → db ≡ over (record v { activity = a }) log → a ≡ bits_from to v.activity → v ≡ b → db ≡ over (cut to b) log
   cut-is v b a to log db is same view = is ∙ ap (λ a. over (record v { activity = a }) log) same ∙ ap (λ v. over (cut to v) log) view
 
-  pub cut-log-is : (v b : Beside) (a : Bitmap) (to : ℕ) (done : Result (Log C D) (LogRefusal (Log C D) C)) (r : Result (Database C D) (Refusal (Database C D) C)) → r ≡ over_log (record v { activity = a }) done → a ≡ bits_from to v.activity → v ≡ b
-      → r ≡ over_log (cut to b) done
-  cut-log-is v b a to done r is same view = is ∙ ap (λ a. over_log (record v { activity = a }) done) same ∙ ap (λ v. over_log (cut to v) done) view
-
   -- a database without what stands below a location up to its floor stands for the list that it stood for
   pub cut-stands : (layout : Layout D) (to : ℕ) (beside : Beside) (old new : Log C D) (list : List Operation) → to ≤ floor list → (IsSome (members.told old.store) → IsSome (members.told new.store))
       → IsLog members layout.hashing.shape layout.hashing.bytes layout.hashing.hash new (map (spelling layout.hashing.form) list)
@@ -208,8 +204,8 @@ module _ {C D : Type 0} (members : store.Ghosts C) where
         ring = moved.ring;
       }
 
-  pub has-kept : (hashing : Hashing D) (to : ℕ) (self : Database C D) (beside : Beside) (old : Log C D) → self ≡ over beside old → to ≤ old.tree.start → HasPruned members hashing (λ s. s) to self (over (cut to beside) old)
-  has-kept hashing to self beside old whole low = subst (λ db. HasPruned members hashing (λ s. s) to db (over (cut to beside) old)) (sym whole) (record {
+  pub has-kept : (hashing : Hashing D) (to : ℕ) (self : Database C D) (beside : Beside) (old : Log C D) → self ≡ over beside old → to ≤ old.tree.start → HasPrunedLog members hashing to self (over beside old)
+  has-kept hashing to self beside old whole low = subst (λ db. HasPrunedLog members hashing to db (over beside old)) (sym whole) (record {
     rest = refl;
     start = sym (max-eq_left low);
     size = refl;
@@ -221,8 +217,8 @@ module _ {C D : Type 0} (members : store.Ghosts C) where
 
   pub has-pruned : (hashing : Hashing D) (to : ℕ) (self : Database C D) (beside : Beside) (old new : Log C D) (head : Bytes) → self ≡ over beside old → old.tree.start < to → new.tree.start ≡ to → new.tree.leaves ≡ old.tree.leaves
       → Becomes (members.told old.store) (members.told new.store) (pruned to head) → IsHeadAt members hashing to old head → members.faults old.store ≤ members.faults new.store
-      → HasPruned members hashing (λ s. s) to self (over (cut to beside) new)
-  has-pruned hashing to self beside old new head whole less first size told heads later = subst (λ db. HasPruned members hashing (λ s. s) to db (over (cut to beside) new)) (sym whole) (record {
+      → HasPrunedLog members hashing to self (over beside new)
+  has-pruned hashing to self beside old new head whole less first size told heads later = subst (λ db. HasPrunedLog members hashing to db (over beside new)) (sym whole) (record {
     rest = refl;
     start = first ∙ sym (max-eq_right (omega (arith, less)));
     size = size;
@@ -231,6 +227,13 @@ module _ {C D : Type 0} (members : store.Ghosts C) where
     told = become old.tree.start to head (members.told old.store) (members.told new.store) less told;
     later = later;
   })
+
+  -- a prune of the log of a database whose bits were dropped is one of the database
+  pub bits-first : (hashing : Hashing D) (to : ℕ) (self middle db : Database C D) → middle ≡ record self { activity = bits_from to self.activity } → HasPrunedLog members hashing to middle db → HasPruned members hashing (λ s. s) to self db
+  bits-first hashing to self middle db is cut = by (subst (λ m. HasPrunedLog members hashing to m db) is cut)
+    where
+      by : HasPrunedLog members hashing to (record self { activity = bits_from to self.activity }) db → HasPruned members hashing (λ s. s) to self db
+      by cut = record { rest = cut.rest; start = cut.start; size = cut.size; head = cut.head; heads = cut.heads; told = cut.told; later = cut.later }
 
   -- a prune of what became of a database is one of the database
   pub pruned-behind : (hashing : Hashing D) (f : Stored → Stored) (to : ℕ) (self middle db : Database C D) → HasLasted members hashing f self middle → HasPruned members hashing (λ s. s) to middle db → HasPruned members hashing f to self db

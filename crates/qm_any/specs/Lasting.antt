@@ -84,6 +84,16 @@ module _ {C D : Type 0} (members : store.Ghosts C) where
     pub told : Becomes (members.told old.log.store) (members.told new.log.store) (λ s. cut_to old.log.tree.start to head (f s))
     pub later : members.faults old.log.store ≤ members.faults new.log.store
 
+  -- the same where its bits were left, and nothing came before
+  pub record HasPrunedLog (hashing : Hashing D) (to : ℕ) (old new : Database C D) : Type 0 where
+    pub rest : new ≡ record old { log = new.log }
+    pub start : new.log.tree.start ≡ max old.log.tree.start to
+    pub size : new.log.tree.leaves ≡ old.log.tree.leaves
+    pub head : Bytes
+    pub heads : old.log.tree.start < to → IsHeadAt hashing to old.log head
+    pub told : Becomes (members.told old.log.store) (members.told new.log.store) (cut_to old.log.tree.start to head)
+    pub later : members.faults old.log.store ≤ members.faults new.log.store
+
   -- a store was made this, and then a prune to a location behind its start failed
   pub record HasLeftPruned (hashing : Hashing D) (f : Stored → Stored) (to : ℕ) (log : Log C D) (new : C) : Type 0 where
     pub past : log.tree.start < to

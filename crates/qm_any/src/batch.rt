@@ -13,7 +13,7 @@ ghost use Rattle.qm_proofs.specs.Proofs.{proof_view, first_lacked, needed_positi
 ghost use Rattle.qm_chain.specs.Bounds.{commitment_view, is_at, knows};
 ghost use Rattle.qm_step.specs.Bases.{base_view};
 ghost use Rattle.qm_step.specs.Views.{changes_view, keys_of, write_view, AreReads};
-ghost use Rattle.qm_any.specs.Databases.{AreAgreed, IsDatabase, IsBegun, IsMade, base_of, bases, child_boundary, child_made, child_tips, operations_in, unapplied};
+ghost use Rattle.qm_any.specs.Databases.{AreAgreed, IsBegun, IsMade, base_of, bases, child_boundary, child_made, child_tips, operations_in, unapplied};
 ghost use Rattle.qm_store.specs.Log.{IsLacked};
 ghost use Rattle.qm_store.specs.KeptTrees.{held_at};
 ghost use Rattle.qm_any.specs.Tips.{IsPlaced, IsUnplaced};
@@ -151,7 +151,8 @@ impl<F: Family, D: Digest, U: Update> UnmerkleizedBatch<F, D, U> {
         key: &U::Key,
         db: &mut Db<F, C, I, H, U>,
     ) -> Result<Option<U::Value>, Error>
-        ensures value { AtBegun C.Store ⟦<Db<F, C, I, H, U> as LaidOut>⟧.layout db.old self.now (λ chain above. IfOk result (λ v. option_map U.Value.bytes v ≡ read_through chain.base self.now.writes (U.Key.bytes key.now))) }
+        ensures value { AtBegun C.Store ⟦<Db<F, C, I, H, U> as LaidOut>⟧.layout db.old self.now (λ chain above.
+            IfOk result (λ v. option_map U.Value.bytes v ≡ read_through chain.base self.now.writes (U.Key.bytes key.now))) }
         ensures reads { ReadsThrough C.Store ⟦<Db<F, C, I, H, U> as LaidOut>⟧.layout db.old db.new result self.now.parent.bounds }
     {
         self.parent.known(db.commitment())?;
@@ -165,7 +166,8 @@ impl<F: Family, D: Digest, U: Update> UnmerkleizedBatch<F, D, U> {
         keys: &[U::Key],
         db: &mut Db<F, C, I, H, U>,
     ) -> Result<Vec<Option<U::Value>>, Error>
-        ensures values { AtBegun C.Store ⟦<Db<F, C, I, H, U> as LaidOut>⟧.layout db.old self.now (λ chain above. IfOk result (λ v. map (option_map U.Value.bytes) v.items ≡ map (λ k. read_through chain.base self.now.writes (U.Key.bytes k)) keys.now)) }
+        ensures values { AtBegun C.Store ⟦<Db<F, C, I, H, U> as LaidOut>⟧.layout db.old self.now (λ chain above.
+            IfOk result (λ v. map (option_map U.Value.bytes) v.items ≡ map (λ k. read_through chain.base self.now.writes (U.Key.bytes k)) keys.now)) }
         ensures reads { ReadsThrough C.Store ⟦<Db<F, C, I, H, U> as LaidOut>⟧.layout db.old db.new result self.now.parent.bounds }
     {
         self.parent.known(db.commitment())?;
@@ -185,7 +187,8 @@ impl<F: Family, D: Digest, U: Update> UnmerkleizedBatch<F, D, U> {
     ) -> Result<(Vec<Read<F, U>>, Vec<Option<U::Value>>), Error>
         ensures keys { IfOk result (λ r. keys_of U.Key.bytes r.0.items ≡ map U.Key.bytes keys.items) }
         ensures found { AtBegun C.Store ⟦<Db<F, C, I, H, U> as LaidOut>⟧.layout db.old self.now (λ chain above. IfOk result (λ r. AreReads U.view U.Key.bytes r.0.items chain.base)) }
-        ensures values { AtBegun C.Store ⟦<Db<F, C, I, H, U> as LaidOut>⟧.layout db.old self.now (λ chain above. IfOk result (λ r. map (option_map U.Value.bytes) r.1.items ≡ map (λ k. read_through chain.base self.now.writes (U.Key.bytes k)) keys.items)) }
+        ensures values { AtBegun C.Store ⟦<Db<F, C, I, H, U> as LaidOut>⟧.layout db.old self.now (λ chain above.
+            IfOk result (λ r. map (option_map U.Value.bytes) r.1.items ≡ map (λ k. read_through chain.base self.now.writes (U.Key.bytes k)) keys.items)) }
         ensures reads { ReadsThrough C.Store ⟦<Db<F, C, I, H, U> as LaidOut>⟧.layout db.old db.new result self.now.parent.bounds }
     {
         self.parent.known(db.commitment())?;
@@ -225,7 +228,8 @@ impl<F: Family, D: Digest, U: Update> MerkleizedBatch<F, D, U> {
     /// Where the batch's own operations begin, and these.
     pub fn operations(&self) -> (Location<F>, &[qm_operations::Operation<F, U>])
         ensures base { result.0 ≡ self.now.bounds.base.size }
-        ensures own { (hashing : Hashing D) (chain : Chain) (tip : List Operation) → IsMade hashing self.now chain tip → operation_views U.view U.Key.bytes U.Value.bytes result.1.now ≡ own_operations chain tip }
+        ensures own { (hashing : Hashing D) (chain : Chain) (tip : List Operation) → IsMade hashing self.now chain tip
+            → operation_views U.view U.Key.bytes U.Value.bytes result.1.now ≡ own_operations chain tip }
         ensures count { result.0 + length result.1.now ≡ self.now.bounds.tip.size }
     {
         (
@@ -261,7 +265,8 @@ impl<F: Family, D: Digest, U: Update> MerkleizedBatch<F, D, U> {
         n: usize,
     ) -> Result<UnmerkleizedBatch<F, D, U>, AllocError>
         ensures value { IfOk result (λ b. b ≡ record { parent = batch.now.value; keep = suc (min n (length batch.now.value.bounds.ancestors)); writes = [] }) }
-        ensures begun { (hashing : Hashing D) (chain : Chain) (tip : List Operation) → IsMade hashing batch.now.value chain tip → IfOk result (λ b. IsBegun hashing b (child_of (Some n) chain tip) chain) }
+        ensures begun { (hashing : Hashing D) (chain : Chain) (tip : List Operation) → IsMade hashing batch.now.value chain tip
+            → IfOk result (λ b. IsBegun hashing b (child_of (Some n) chain tip) chain) }
     {
         let keep = n.min(batch.bounds.ancestors.len()) + 1;
         let parent = batch.clone()?;
@@ -291,7 +296,8 @@ impl<F: Family, D: Digest, U: Update> MerkleizedBatch<F, D, U> {
         keys: &[U::Key],
         db: &mut Db<F, C, I, H, U>,
     ) -> Result<Vec<Option<U::Value>>, Error>
-        ensures values { AtMade C.Store ⟦<Db<F, C, I, H, U> as LaidOut>⟧.layout db.old self.now (λ chain tip. IfOk result (λ v. map (option_map U.Value.bytes) v.items ≡ map (λ k. lives.value_of tip (U.Key.bytes k)) keys.now)) }
+        ensures values { AtMade C.Store ⟦<Db<F, C, I, H, U> as LaidOut>⟧.layout db.old self.now (λ chain tip.
+            IfOk result (λ v. map (option_map U.Value.bytes) v.items ≡ map (λ k. lives.value_of tip (U.Key.bytes k)) keys.now)) }
         ensures reads { ReadsThrough C.Store ⟦<Db<F, C, I, H, U> as LaidOut>⟧.layout db.old db.new result self.now.bounds }
     {
         self.known(db.commitment())?;
@@ -305,7 +311,8 @@ impl<F: Family, D: Digest, U: Update> MerkleizedBatch<F, D, U> {
         alloc: Global,
         db: &Db<F, C, I, H, U>,
     ) -> Result<Proof<D>, Error>
-        ensures proof { (list : List Operation) (chain : Chain) (tip : List Operation) → IsDatabase C.Store ⟦<Db<F, C, I, H, U> as LaidOut>⟧.layout db.now list → IsMade ⟦<Db<F, C, I, H, U> as LaidOut>⟧.layout.hashing self.now chain tip → IsKnown list chain tip
+        ensures proof { (list : List Operation) (chain : Chain) (tip : List Operation) → ⟦<Db<F, C, I, H, U> as LaidOut>⟧.stands db.now list
+            → IsMade ⟦<Db<F, C, I, H, U> as LaidOut>⟧.layout.hashing self.now chain tip → IsKnown list chain tip
             → IfOk result (λ p. proof_view D.bytes p ≡ ops_proof H.hash F.shape U.form tip (length chain.base) (length tip)) }
         ensures readable { OnOk result (knows self.now.bounds db.now.commitment ≡ true) }
         ensures stale { IfErr result (λ e. e ≡ Error.StaleRead → knows self.now.bounds db.now.commitment ≡ false) }
@@ -313,7 +320,8 @@ impl<F: Family, D: Digest, U: Update> MerkleizedBatch<F, D, U> {
         ensures order { IfErr result (λ e. e ≢ Error.Memory → e ≢ Error.StaleRead → knows self.now.bounds db.now.commitment ≡ true) }
         ensures held { OnOk result (first_lacked (held_at F.shape self.now.tree db.now.log.tree) (needed_positions F.shape self.now.bounds.tip.size self.now.bounds.base.size self.now.bounds.tip.size) ≡ None) }
         ensures lacked { IfErr result (λ e. e ≢ Error.StaleRead → IsLacked (held_at F.shape self.now.tree db.now.log.tree) (needed_positions F.shape self.now.bounds.tip.size self.now.bounds.base.size self.now.bounds.tip.size) e) }
-        ensures whole { C.start db.now.log.store ≡ 0 → (list : List Operation) (chain : Chain) (tip : List Operation) → IsDatabase C.Store ⟦<Db<F, C, I, H, U> as LaidOut>⟧.layout db.now list → IsMade ⟦<Db<F, C, I, H, U> as LaidOut>⟧.layout.hashing self.now chain tip → IsKnown list chain tip
+        ensures whole { C.start db.now.log.store ≡ 0 → (list : List Operation) (chain : Chain) (tip : List Operation) → ⟦<Db<F, C, I, H, U> as LaidOut>⟧.stands db.now list
+            → IsMade ⟦<Db<F, C, I, H, U> as LaidOut>⟧.layout.hashing self.now chain tip → IsKnown list chain tip
             → IfErr result (λ e. e ≡ Error.Memory) }
     {
         self.known(db.commitment())?;
@@ -330,7 +338,8 @@ impl<F: Family, D: Digest, U: Update> MerkleizedBatch<F, D, U> {
         I: qm_index::Unordered<Value = Location<F>>,
         H: Hasher<Digest = D>,
     >(&self, alloc: Global, db: &Db<F, C, I, H, U>) -> Result<Vec<D>, Error>
-        ensures pins { (list : List Operation) (chain : Chain) (tip : List Operation) → IsDatabase C.Store ⟦<Db<F, C, I, H, U> as LaidOut>⟧.layout db.now list → IsMade ⟦<Db<F, C, I, H, U> as LaidOut>⟧.layout.hashing self.now chain tip → IsKnown list chain tip
+        ensures pins { (list : List Operation) (chain : Chain) (tip : List Operation) → ⟦<Db<F, C, I, H, U> as LaidOut>⟧.stands db.now list
+            → IsMade ⟦<Db<F, C, I, H, U> as LaidOut>⟧.layout.hashing self.now chain tip → IsKnown list chain tip
             → IfOk result (λ pins. map D.bytes pins.items ≡ pins_at H.hash F.shape U.form tip (length chain.base)) }
         ensures readable { OnOk result (knows self.now.bounds db.now.commitment ≡ true) }
         ensures stale { IfErr result (λ e. e ≡ Error.StaleRead → knows self.now.bounds db.now.commitment ≡ false) }
@@ -338,7 +347,8 @@ impl<F: Family, D: Digest, U: Update> MerkleizedBatch<F, D, U> {
         ensures order { IfErr result (λ e. e ≢ Error.Memory → e ≢ Error.StaleRead → knows self.now.bounds db.now.commitment ≡ true) }
         ensures held { OnOk result (first_lacked (held_at F.shape self.now.tree db.now.log.tree) (trees.peak_positions F.shape self.now.bounds.base.size) ≡ None) }
         ensures lacked { IfErr result (λ e. e ≢ Error.StaleRead → IsLacked (held_at F.shape self.now.tree db.now.log.tree) (trees.peak_positions F.shape self.now.bounds.base.size) e) }
-        ensures whole { C.start db.now.log.store ≡ 0 → (list : List Operation) (chain : Chain) (tip : List Operation) → IsDatabase C.Store ⟦<Db<F, C, I, H, U> as LaidOut>⟧.layout db.now list → IsMade ⟦<Db<F, C, I, H, U> as LaidOut>⟧.layout.hashing self.now chain tip → IsKnown list chain tip
+        ensures whole { C.start db.now.log.store ≡ 0 → (list : List Operation) (chain : Chain) (tip : List Operation) → ⟦<Db<F, C, I, H, U> as LaidOut>⟧.stands db.now list
+            → IsMade ⟦<Db<F, C, I, H, U> as LaidOut>⟧.layout.hashing self.now chain tip → IsKnown list chain tip
             → IfErr result (λ e. e ≡ Error.Memory) }
     {
         self.known(db.commitment())?;

@@ -24,7 +24,7 @@ ghost use Rattle.qm_index.specs.Indexed.{IsIndexed};
 ghost use Rattle.qm_store.specs.Reads.{IsReadError};
 ghost use Rattle.qm_step.specs.Lent.{NoneBelow};
 ghost use Rattle.qm_step.specs.Views.{changes_view, keys_of, read_view, wanted_view, AreReads, IsPlan, stepped, left_after};
-ghost use Rattle.qm_any.specs.Databases.{Database, over, IsBegun, IsDatabase, IsLeft, IsMade, IsTree, at_rest, read_under};
+ghost use Rattle.qm_any.specs.Databases.{Database, over, IsBegun, IsLeft, IsMade, IsTree, at_rest, read_under};
 ghost use Rattle.qm_store.specs.Given.{Appended, AppendedPart, store_given, store_after};
 ghost use Rattle.qm_store.specs.KeptTrees.{IsKeptTree};
 ghost use Rattle.qm_operations.specs.Views.{operation_views};
@@ -39,6 +39,7 @@ use qm_base::{
 use qm_batch::{Base, Plan, Read, Wanted, Writes, apply_diffs, read_key, staged};
 use qm_bits::{Chunk64, Prunable};
 use qm_chain::{Diff, Policy};
+use qm_merkle::mem::Mem;
 use qm_merkle::{Family, Position};
 use qm_operations::{Update, ValueEncoding};
 use qm_overlay::apply_bits;
@@ -284,10 +285,12 @@ impl<F: Family, C: Store, I: qm_index::Unordered<Value = Location<F>>, H: Hasher
     where
         I: Drop,
         H: Drop,
-        ensures stands { (list : List Operation) (chain : Chain) (tip : List Operation) → ⟦<Self as LaidOut>⟧.stands self list → IsMade ⟦<Self as LaidOut>⟧.layout.hashing batch.now chain tip → IsOnChain list chain
+        ensures stands { (list : List Operation) (chain : Chain) (tip : List Operation) → ⟦<Self as LaidOut>⟧.stands self list
+            → IsMade ⟦<Self as LaidOut>⟧.layout.hashing batch.now chain tip → IsOnChain list chain
             → IfOk result (λ next. ⟦<Self as LaidOut>⟧.stands next tip) }
         ensures fits { OnOk result (is_at self.commitment batch.now.bounds.db batch.now.bounds.ancestors ≡ true) }
-        ensures grown { (chain : Chain) (tip : List Operation) → IsMade ⟦<Self as LaidOut>⟧.layout.hashing batch.now chain tip → IfOk result (λ next. Appended C.Store self.log.store next.log.store (map (spelling U.form) (drop self.commitment.size tip))) }
+        ensures grown { (chain : Chain) (tip : List Operation) → IsMade ⟦<Self as LaidOut>⟧.layout.hashing batch.now chain tip
+            → IfOk result (λ next. Appended C.Store self.log.store next.log.store (map (spelling U.form) (drop self.commitment.size tip))) }
         ensures start { C.start (store_after (λ db. db.log.store) result) ≡ C.start self.log.store }
         ensures beside { beside_items (C.told (store_after (λ db. db.log.store) result)) ≡ beside_items (C.told self.log.store) }
         ensures later { IfOk result (λ next. C.faults self.log.store ≤ C.faults next.log.store) }
@@ -356,11 +359,25 @@ impl<F: Family, C: Store, I: qm_index::Unordered<Value = Location<F>>, H: Hasher
         alloc: Global,
         keys: &[U::Key],
     ) -> Result<Vec<Option<U::Value>>, Error>
-        ensures values { AtList C.Store ⟦<Self as LaidOut>⟧.layout self.old (λ list. IfOk result (λ v. map (option_map U.Value.bytes) v.items ≡ map (λ k. lives.value_of list (U.Key.bytes k)) keys.now)) }
+        ensures values { AtList C.Store ⟦<Self as LaidOut>⟧.layout self.old (λ list.
+            IfOk result (λ v. map (option_map U.Value.bytes) v.items ≡ map (λ k. lives.value_of list (U.Key.bytes k)) keys.now)) }
         ensures reads { Reads C.Store ⟦<Self as LaidOut>⟧.layout self.old self.new result }
     {
         let writes = Writes::new(alloc);
         self.read_all(alloc, &Vec::new(alloc), &writes, keys)
+    }
+
+    /// The live update of a key, if there is one, with its location. It takes as many reads of the log as `get`.
+    pub fn get_with_loc(
+        &mut self,
+        alloc: Global,
+        key: &U::Key,
+    ) -> Result<Option<(Location<F>, U)>, Error>
+        ensures value { AtList C.Store ⟦<Self as LaidOut>⟧.layout self.old (λ list.
+            IfOk result (λ found. option_map (read_view U.view) found ≡ update_of list (U.Key.bytes key.now))) }
+        ensures reads { Reads C.Store ⟦<Self as LaidOut>⟧.layout self.old self.new result }
+    {
+        self.find(alloc, &Vec::new(alloc), key)
     }
 
     // The value of a key: that of its last write or, where it has none, the one on the base list of a batch of these steps.
@@ -454,9 +471,11 @@ impl<F: Family, C: Store, I: qm_index::Unordered<Value = Location<F>>, H: Hasher
         ensures leaves { IfOk result (λ grown. grown.0.leaves ≡ tree.now.leaves + length operations.now) }
         ensures taken { IfOk result (λ grown. IsSpelled U.form (operation_views U.view U.Key.bytes U.Value.bytes operations.now) grown.0.leaves) }
         ensures stops { IfOk result (λ grown. stops grown.0.leaves grown.0.layers ≡ grown.0.leaves ∷ stops_since boundary (stops tree.now.leaves tree.now.layers)) }
-        ensures tree { (list base : List Operation) (older : List (List Operation)) → ⟦<Self as LaidOut>⟧.stands self.old list → IsTree ⟦<Self as LaidOut>⟧.layout.hashing tree.now base older → Contains (base ∷ older) list
+        ensures tree { (list base : List Operation) (older : List (List Operation)) → ⟦<Self as LaidOut>⟧.stands self.old list
+            → IsTree ⟦<Self as LaidOut>⟧.layout.hashing tree.now base older → Contains (base ∷ older) list
             → IfOk result (λ grown. IsKeptTree H.Digest.bytes H.hash F.shape grown.0 (map (spelling U.form) (base ++ operation_views U.view U.Key.bytes U.Value.bytes operations.now)) (lists_since boundary (map (map (spelling U.form)) (base ∷ older)))) }
-        ensures root { (list base : List Operation) (older : List (List Operation)) → ⟦<Self as LaidOut>⟧.stands self.old list → IsTree ⟦<Self as LaidOut>⟧.layout.hashing tree.now base older → Contains (base ∷ older) list
+        ensures root { (list base : List Operation) (older : List (List Operation)) → ⟦<Self as LaidOut>⟧.stands self.old list
+            → IsTree ⟦<Self as LaidOut>⟧.layout.hashing tree.now base older → Contains (base ∷ older) list
             → floor ≡ lives.floor (base ++ operation_views U.view U.Key.bytes U.Value.bytes operations.now) → IfOk result (λ grown. H.Digest.bytes grown.1 ≡ ops_root H.hash F.shape U.form (base ++ operation_views U.view U.Key.bytes U.Value.bytes operations.now)) }
         ensures refused { IfErr result (λ e. (e ≡ Error.Memory) ⊎ IsTooLong (map (spelling U.form) (operation_views U.view U.Key.bytes U.Value.bytes operations.now)) (tree.now.leaves + length operations.now) e) }
         ensures same { self.new ≡ self.old }
@@ -541,6 +560,13 @@ impl<F: Family, C: Store, I: qm_index::Unordered<Value = Location<F>>, H: Hasher
         ensures size { result.now.size ≡ self.now.commitment.size }
     {
         &self.commitment
+    }
+
+    /// The tree over the list.
+    pub fn tree(&self) -> &Mem<F, H::Digest>
+        ensures { result.now ≡ self.now.log.tree }
+    {
+        self.log.tree()
     }
 
     /// The store.

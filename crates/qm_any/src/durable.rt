@@ -6,8 +6,7 @@ ghost use Rattle.qm_model.specs.Operations.{Operation};
 ghost use Rattle.qm_model.specs.StoreModel.{end_of, settled, with_metadata, IsImage, IsOldOrNew, ReadsAs};
 ghost use Rattle.qm_store.specs.Log.{HasLeft};
 ghost use Rattle.qm_step.specs.Lent.{NoneBelow};
-ghost use Rattle.qm_any.specs.Databases.{IsDatabase};
-ghost use Rattle.qm_any.specs.Lasting.{boundary_of, over_log, HasLasted, HasLeftPruned, HasLeftDestroyed, HasLeftStable, HasPruned, IsDestroyed, IsGivenUp};
+ghost use Rattle.qm_any.specs.Lasting.{bits_from, boundary_of, over_log, HasLasted, HasLeftPruned, HasLeftDestroyed, HasLeftStable, HasPruned, HasPrunedLog, IsDestroyed, IsGivenUp};
 
 use crate::db::{Beside, Db, LaidOut};
 use qm_base::{Error, Hasher, Location};
@@ -27,7 +26,7 @@ impl<
     /// Makes the operations stable: from then on a crash leaves them all. It takes one call of the store and no memory. A
     /// refusal gives back the store.
     pub fn commit(self) -> Result<Self, Refusal<Self, C>>
-        ensures stands { (list : List Operation) → IsDatabase C.Store ⟦<Self as LaidOut>⟧.layout self list → IfOk result (λ db. IsDatabase C.Store ⟦<Self as LaidOut>⟧.layout db list) }
+        ensures stands { (list : List Operation) → ⟦<Self as LaidOut>⟧.stands self list → IfOk result (λ db. ⟦<Self as LaidOut>⟧.stands db list) }
         ensures committed { IfOk result (HasLasted C.Store ⟦<Self as LaidOut>⟧.layout.hashing settled self) }
         ensures refused { IfErr result (IsGivenUp C.Store (HasLeftStable C.Store) self.log.store) }
     {
@@ -37,7 +36,7 @@ impl<
 
     /// Makes all that the store holds stable. It takes one call of the store and no memory. A refusal gives back the store.
     pub fn sync(self) -> Result<Self, Refusal<Self, C>>
-        ensures stands { (list : List Operation) → IsDatabase C.Store ⟦<Self as LaidOut>⟧.layout self list → IfOk result (λ db. IsDatabase C.Store ⟦<Self as LaidOut>⟧.layout db list) }
+        ensures stands { (list : List Operation) → ⟦<Self as LaidOut>⟧.stands self list → IfOk result (λ db. ⟦<Self as LaidOut>⟧.stands db list) }
         ensures synced { IfOk result (HasLasted C.Store ⟦<Self as LaidOut>⟧.layout.hashing settled self) }
         ensures refused { IfErr result (IsGivenUp C.Store (HasLeftStable C.Store) self.log.store) }
     {
@@ -47,7 +46,7 @@ impl<
 
     /// Replaces the metadata that the store has under a name. A refusal gives back the store.
     pub fn put_meta(self, name: &str, entries: &[MetaEntry]) -> Result<Self, Refusal<Self, C>>
-        ensures stands { (list : List Operation) → IsDatabase C.Store ⟦<Self as LaidOut>⟧.layout self list → IfOk result (λ db. IsDatabase C.Store ⟦<Self as LaidOut>⟧.layout db list) }
+        ensures stands { (list : List Operation) → ⟦<Self as LaidOut>⟧.stands self list → IfOk result (λ db. ⟦<Self as LaidOut>⟧.stands db list) }
         ensures put { IfOk result (HasLasted C.Store ⟦<Self as LaidOut>⟧.layout.hashing (with_metadata name.now entries.now) self) }
         ensures refused { IfErr result (IsGivenUp C.Store (HasLeft C.Store (λ s. ReadsAs s.stable (IsOldOrNew (with_metadata name.now entries.now) s))) self.log.store) }
     {
@@ -60,10 +59,10 @@ impl<
     /// pruned. The database comes back as it was where the location is past its boundary; every other refusal gives back the
     /// store.
     pub fn prune(self, alloc: Global, loc: Location<F>) -> Result<Self, Refusal<Self, C>>
-        ensures stands { (list : List Operation) → IsDatabase C.Store ⟦<Self as LaidOut>⟧.layout self list → IfOk result (λ db. IsDatabase C.Store ⟦<Self as LaidOut>⟧.layout db list) }
-        ensures whole { (list : List Operation) → IsDatabase C.Store ⟦<Self as LaidOut>⟧.layout self list → NoneBelow self.log.tree.start list → IfOk result (λ db. NoneBelow db.log.tree.start list) }
+        ensures stands { (list : List Operation) → ⟦<Self as LaidOut>⟧.stands self list → IfOk result (λ db. ⟦<Self as LaidOut>⟧.stands db list) }
+        ensures whole { (list : List Operation) → ⟦<Self as LaidOut>⟧.stands self list → NoneBelow self.log.tree.start list → IfOk result (λ db. NoneBelow db.log.tree.start list) }
         ensures pruned { IfOk result (HasPruned C.Store ⟦<Self as LaidOut>⟧.layout.hashing settled loc self) }
-        ensures boundary { (list : List Operation) → IsDatabase C.Store ⟦<Self as LaidOut>⟧.layout self list → boundary_of self ≡ lives.floor list }
+        ensures boundary { (list : List Operation) → ⟦<Self as LaidOut>⟧.stands self list → boundary_of self ≡ lives.floor list }
         ensures fits { OnOk result (loc ≤ boundary_of self) }
         ensures beyond { IfErr result (λ r. boundary_of self < loc → (r.given ≡ Given.Database self) × (r.error ≡ Error.PruneBeyondMinRequired loc (boundary_of self))) }
         ensures refused { IfErr result (λ r. loc ≤ boundary_of self → IsGivenUp C.Store (λ old new. HasLeftStable C.Store old new ⊎ HasLeftPruned C.Store ⟦<Self as LaidOut>⟧.layout.hashing settled loc self.log new) self.log.store r) }
@@ -83,12 +82,35 @@ impl<
     fn cut(self, alloc: Global, to: u64) -> Result<Self, Refusal<Self, C>>
         requires size { to ≤ self.commitment.size }
         requires stable { IfSome (C.told self.log.store) (λ s. s.stable ≡ end_of s) }
-        ensures stands { (list : List Operation) → to ≤ lives.floor list → IsDatabase C.Store ⟦<Self as LaidOut>⟧.layout self list → IfOk result (λ db. IsDatabase C.Store ⟦<Self as LaidOut>⟧.layout db list) }
+        ensures stands { (list : List Operation) → to ≤ lives.floor list → ⟦<Self as LaidOut>⟧.stands self list → IfOk result (λ db. ⟦<Self as LaidOut>⟧.stands db list) }
         ensures pruned { IfOk result (HasPruned C.Store ⟦<Self as LaidOut>⟧.layout.hashing (λ s. s) to self) }
         ensures refused { IfErr result (IsGivenUp C.Store (λ _. HasLeftPruned C.Store ⟦<Self as LaidOut>⟧.layout.hashing (λ s. s) to self.log) self.log.store) }
     {
+        self.prune_bits(to).prune_log(alloc, to)
+    }
+
+    /// The database without the bits of the chunks that end at a location or before it; all else of it stays. It takes no
+    /// memory.
+    pub fn prune_bits(self, to: u64) -> Self
+        requires size { to ≤ self.commitment.size }
+        ensures stands { (list : List Operation) → to ≤ lives.floor list → ⟦<Self as LaidOut>⟧.stands self list → ⟦<Self as LaidOut>⟧.stands result list }
+        ensures pruned { result ≡ record self { activity = bits_from to self.activity } }
+    {
         let (log, mut beside) = self.apart();
         beside.activity.prune_to_bit(to);
+        beside.over(log)
+    }
+
+    /// The database whose store has nothing before a location but the digests of the peaks there, where all of it is stable:
+    /// the bits stay, and a store that starts there or after it is not pruned. A refusal gives back the store.
+    pub fn prune_log(self, alloc: Global, to: u64) -> Result<Self, Refusal<Self, C>>
+        requires size { to ≤ self.commitment.size }
+        requires stable { IfSome (C.told self.log.store) (λ s. s.stable ≡ end_of s) }
+        ensures stands { (list : List Operation) → ⟦<Self as LaidOut>⟧.stands self list → IfOk result (λ db. ⟦<Self as LaidOut>⟧.stands db list) }
+        ensures pruned { IfOk result (HasPrunedLog C.Store ⟦<Self as LaidOut>⟧.layout.hashing to self) }
+        ensures refused { IfErr result (IsGivenUp C.Store (λ _. HasLeftPruned C.Store ⟦<Self as LaidOut>⟧.layout.hashing (λ s. s) to self.log) self.log.store) }
+    {
+        let (log, beside) = self.apart();
         let (start, _) = log.bounds();
         if to <= start {
             return Ok(beside.over(log));

@@ -9,7 +9,7 @@ ghost use Rattle.qm_model.specs.StoreModel.{appended, settled, HasAppended, Turn
 ghost use Rattle.qm_open.specs.Selecting.{any_layout, any_found, content_refusal};
 ghost use Rattle.qm_store.specs.Log.{IsKept, IsLog};
 ghost use Rattle.qm_store.specs.Refusals.{refusal_of, IsDue};
-ghost use Rattle.qm_any.specs.Databases.{Database, IsDatabase};
+ghost use Rattle.qm_any.specs.Databases.{Database};
 ghost use Rattle.qm_store.specs.Given.{Appended, AppendedPart, store_given, IsUnchanged};
 
 use crate::db::{Db, LaidOut};
@@ -40,7 +40,7 @@ pub(crate) fn begin<
 ) -> Result<Db<F, C, I, H, U>, Refusal<Db<F, C, I, H, U>, C>>
     requires start { C.start store ≡ 0 }
     requires empty { C.end store ≡ 0 }
-    ensures stands { IfSome (C.told store) (λ _. IfOk result (λ db. IsDatabase C.Store ⟦<Db<F, C, I, H, U> as LaidOut>⟧.layout db fresh)) }
+    ensures stands { IfSome (C.told store) (λ _. IfOk result (λ db. ⟦<Db<F, C, I, H, U> as LaidOut>⟧.stands db fresh)) }
     ensures became { IfOk result (λ db. Becomes (C.told store) (C.told db.log.store) (λ s. settled (appended (map (spelling U.form) fresh) s))) }
     ensures left { IfErr result (λ r. Turns (C.told store) (C.told (store_given (λ db. db.log.store) r.given)) (HasAppended (map (spelling U.form) fresh))) }
     ensures unopened { IfErr result (λ r. IfSome (C.told store) (λ s. IsSome (content_refusal (any_layout U.form F.shape H.Digest.SIZE) (any_found U.form s) None) → IsUnchanged C.Store store (store_given (λ db. db.log.store) r.given))) }
@@ -93,7 +93,7 @@ fn begun<F: Family, C: Store, I: Factory<Value = Location<F>>, H: Hasher + Drop,
     requires end { C.end log.store ≡ 0 }
     requires items { map (λ v. v.items) items.now ≡ map (spelling U.form) fresh }
     requires count { length items.now ≡ 1 }
-    ensures stands { IfSome (C.told log.store) (λ _. IfOk result (λ db. IsDatabase C.Store ⟦<Db<F, C, I, H, U> as LaidOut>⟧.layout db fresh)) }
+    ensures stands { IfSome (C.told log.store) (λ _. IfOk result (λ db. ⟦<Db<F, C, I, H, U> as LaidOut>⟧.stands db fresh)) }
     ensures pruned { IfOk result (λ db. db.activity.pruned ≡ 0) }
     ensures grown { IfOk result (λ db. Appended C.Store log.store db.log.store (map (spelling U.form) fresh)) }
     ensures later { IfOk result (λ db. C.faults log.store ≤ C.faults db.log.store) }

@@ -10,7 +10,6 @@ ghost use Rattle.qm_step.specs.Changes.{next_in};
 ghost use Rattle.qm_step.specs.Layers.{LeadOver};
 ghost use Rattle.qm_step.specs.Rings.{holder_of};
 ghost use Rattle.qm_step.specs.Views.{read_view};
-ghost use Rattle.qm_any.specs.Databases.{IsDatabase};
 ghost use Rattle.qm_any.specs.Reading.{Reads, ReadsThrough, AtList, AtMade};
 
 use crate::batch::MerkleizedBatch;
@@ -53,7 +52,7 @@ impl<
         key: &U::Key,
     ) -> Result<Option<(U::Value, U::Key)>, Error>
         requires { U.form.ordered ≡ true }
-        ensures value { (list : List Operation) → IsDatabase C.Store ⟦<Self as LaidOut>⟧.layout self.old list
+        ensures value { (list : List Operation) → ⟦<Self as LaidOut>⟧.stands self.old list
             → IfOk result (λ found. option_map {U = Bytes × Option Bytes} (λ p. (U.Value.bytes p.0, Some (U.Key.bytes p.1))) found ≡ option_map {U = Bytes × Option Bytes} (λ e. (e.value, e.next)) (live_of (live list) (U.Key.bytes key.now))) }
         ensures reads { Reads C.Store ⟦<Self as LaidOut>⟧.layout self.old self.new result }
     {
@@ -88,7 +87,7 @@ impl<
         key: &U::Key,
     ) -> Result<Option<U::Key>, Error>
         requires { U.form.ordered ≡ true }
-        ensures value { (list base : List Operation) → IsDatabase C.Store ⟦<Self as LaidOut>⟧.layout self.old list → LeadOver (map (λ l. l.value) steps.now) list base → IsRing base
+        ensures value { (list base : List Operation) → ⟦<Self as LaidOut>⟧.stands self.old list → LeadOver (map (λ l. l.value) steps.now) list base → IsRing base
             → IfOk result (λ found. option_map U.Key.bytes found ≡ key_above (live_keys base) (U.Key.bytes key.now)) }
         ensures reads { Reads C.Store ⟦<Self as LaidOut>⟧.layout self.old self.new result }
     {
@@ -103,7 +102,7 @@ impl<
         key: &U::Key,
     ) -> Result<Option<U::Key>, Error>
         requires { U.form.ordered ≡ true }
-        ensures value { (list base : List Operation) → IsDatabase C.Store ⟦<Self as LaidOut>⟧.layout self.old list → LeadOver (map (λ l. l.value) steps.now) list base → IsRing base
+        ensures value { (list base : List Operation) → ⟦<Self as LaidOut>⟧.stands self.old list → LeadOver (map (λ l. l.value) steps.now) list base → IsRing base
             → IfOk result (λ found. option_map U.Key.bytes found ≡ key_below (live_keys base) (U.Key.bytes key.now)) }
         ensures reads { Reads C.Store ⟦<Self as LaidOut>⟧.layout self.old self.new result }
     {
@@ -127,7 +126,8 @@ impl<F: Family, D: Digest, U: Update> MerkleizedBatch<F, D, U> {
     where
         U: Steps<F, I>,
         requires { U.form.ordered ≡ true }
-        ensures value { AtMade C.Store ⟦<Db<F, C, I, H, U> as LaidOut>⟧.layout db.old self.now (λ chain tip. IfOk result (λ found. option_map U.Key.bytes found ≡ key_above (live_keys tip) (U.Key.bytes key.now))) }
+        ensures value { AtMade C.Store ⟦<Db<F, C, I, H, U> as LaidOut>⟧.layout db.old self.now (λ chain tip.
+            IfOk result (λ found. option_map U.Key.bytes found ≡ key_above (live_keys tip) (U.Key.bytes key.now))) }
         ensures reads { ReadsThrough C.Store ⟦<Db<F, C, I, H, U> as LaidOut>⟧.layout db.old db.new result self.now.bounds }
     {
         self.known(db.commitment())?;
@@ -149,7 +149,8 @@ impl<F: Family, D: Digest, U: Update> MerkleizedBatch<F, D, U> {
     where
         U: Steps<F, I>,
         requires { U.form.ordered ≡ true }
-        ensures value { AtMade C.Store ⟦<Db<F, C, I, H, U> as LaidOut>⟧.layout db.old self.now (λ chain tip. IfOk result (λ found. option_map U.Key.bytes found ≡ key_below (live_keys tip) (U.Key.bytes key.now))) }
+        ensures value { AtMade C.Store ⟦<Db<F, C, I, H, U> as LaidOut>⟧.layout db.old self.now (λ chain tip.
+            IfOk result (λ found. option_map U.Key.bytes found ≡ key_below (live_keys tip) (U.Key.bytes key.now))) }
         ensures reads { ReadsThrough C.Store ⟦<Db<F, C, I, H, U> as LaidOut>⟧.layout db.old db.new result self.now.bounds }
     {
         self.known(db.commitment())?;

@@ -18,7 +18,6 @@ ghost use Rattle.qm_build.specs.Reads.{items_within, IsRead, IsReadError};
 ghost use Rattle.qm_step.specs.Kinds.{HasRing};
 ghost use Rattle.qm_open.specs.Selecting.{any_layout, any_found, bits_of, content_refusal, found_of, layout_of, selected_view};
 ghost use Rattle.qm_store.specs.Refusals.{refusal_of, IsDue};
-ghost use Rattle.qm_any.specs.Databases.{IsDatabase};
 ghost use Rattle.qm_any.specs.Restoring.{pruned_view, selected_size, taken, HasList, LeavesOpening};
 
 use crate::db::{Db, LaidOut};
@@ -62,7 +61,7 @@ fn settled<
     requires live { opened.live ≤ selected.size }
     requires stable { IfSome (C.told opened.log.store) (λ s. s.stable ≤ end_of s) }
     ensures stands { (list : List Operation) → IsOpened C.Store F.shape H.Digest.bytes H.hash U.form I.index_key 64 opened.log (I.entries opened.index) opened.live opened.activity (H.Digest.bytes opened.root) (option_map U.Value.bytes opened.metadata) list
-        → IsGood list → HasRing U.form list → selected.floor ≡ lives.floor list → IfSome (C.told opened.log.store) (λ _. IfOk result (λ db. IsDatabase C.Store ⟦<Db<F, C, I, H, U> as LaidOut>⟧.layout db list)) }
+        → IsGood list → HasRing U.form list → selected.floor ≡ lives.floor list → IfSome (C.told opened.log.store) (λ _. IfOk result (λ db. ⟦<Db<F, C, I, H, U> as LaidOut>⟧.stands db list)) }
     ensures became { IfOk result (λ db. Becomes (C.told opened.log.store) (C.told db.log.store) (rewound selected.size)) }
     ensures left { IfErr result (λ r. Turns (C.told opened.log.store) (C.told (store_given (λ db. db.log.store) r.given)) (λ s. ReadsAs (min s.stable selected.size) (RewindLeaves selected.size s))) }
     ensures activity { IfOk result (λ db. db.activity ≡ opened.activity) }
@@ -121,7 +120,7 @@ fn open_list<
     requires end { selected.size ≤ C.end store }
     requires stable { IfSome (C.told store) (λ s. s.stable ≤ end_of s) }
     ensures stands { IfSome (C.told store) (λ s. (list : List Operation) → HasList ⟦<Db<F, C, I, H, U> as LaidOut>⟧.layout.hashing s selected.size list → selected.floor ≡ lives.floor list
-        → IfOk result (λ db. IsDatabase C.Store ⟦<Db<F, C, I, H, U> as LaidOut>⟧.layout db list)) }
+        → IfOk result (λ db. ⟦<Db<F, C, I, H, U> as LaidOut>⟧.stands db list)) }
     ensures became { IfOk result (λ db. Becomes (C.told store) (C.told db.log.store) (λ s. settled (rewound selected.size s))) }
     ensures left { IfErr result (λ r. Turns (C.told store) (C.told (store_given (λ db. db.log.store) r.given)) (λ s. ReadsAs (min s.stable selected.size) (RewindLeaves selected.size s))) }
     ensures unopened { IfErr result (λ r. IfSome (C.told store) (λ s. IsSome (content_refusal (any_layout U.form F.shape H.Digest.SIZE) (any_found U.form s) (Some (selected_view selected))) → IsUnchanged C.Store store (store_given (λ db. db.log.store) r.given))) }
@@ -197,8 +196,8 @@ pub fn init<
 ) -> Result<Db<F, C, I, H, U>, Refusal<Db<F, C, I, H, U>, C>>
     ensures keys { ⟦<Db<F, C, I, H, U> as LaidOut>⟧.layout.index_key ≡ I.Translator.index_key }
     ensures stands { IfSome (C.told store) (λ s. (list : List Operation) → HasList ⟦<Db<F, C, I, H, U> as LaidOut>⟧.layout.hashing s (selected_size ⟦<Db<F, C, I, H, U> as LaidOut>⟧.layout.hashing max_size s) list
-        → IfOk result (λ db. IsDatabase C.Store ⟦<Db<F, C, I, H, U> as LaidOut>⟧.layout db list)) }
-    ensures fresh { IfSome (C.told store) (λ s. selected_size ⟦<Db<F, C, I, H, U> as LaidOut>⟧.layout.hashing max_size s ≡ 0 → IfOk result (λ db. IsDatabase C.Store ⟦<Db<F, C, I, H, U> as LaidOut>⟧.layout db fresh)) }
+        → IfOk result (λ db. ⟦<Db<F, C, I, H, U> as LaidOut>⟧.stands db list)) }
+    ensures fresh { IfSome (C.told store) (λ s. selected_size ⟦<Db<F, C, I, H, U> as LaidOut>⟧.layout.hashing max_size s ≡ 0 → IfOk result (λ db. ⟦<Db<F, C, I, H, U> as LaidOut>⟧.stands db fresh)) }
     ensures accepted { IfSome (C.told store) (λ s. OnOk result (opening_refusal (any_layout U.form F.shape H.Digest.SIZE) (any_found U.form s) max_size ≡ None)) }
     ensures refused { IfSome (C.told store) (λ s. IfErr result (λ r. IsDue r.error (opening_refusal (any_layout U.form F.shape H.Digest.SIZE) (any_found U.form s) max_size))) }
     ensures became { IfOk result (λ db. Turns (C.told store) (C.told db.log.store) (λ s new. new ≡ taken ⟦<Db<F, C, I, H, U> as LaidOut>⟧.layout.hashing (selected_size ⟦<Db<F, C, I, H, U> as LaidOut>⟧.layout.hashing max_size s) s)) }
@@ -234,8 +233,8 @@ pub fn init_with<
     requires threshold { IfSome pruned (λ p. p.1 ≡ pair_absorption_threshold F.shape 9 p.0) }
     ensures keys { ⟦<Db<F, C, I, H, U> as LaidOut>⟧.layout.index_key ≡ I.Translator.index_key }
     ensures stands { IfSome (C.told store) (λ s. (list : List Operation) → HasList ⟦<Db<F, C, I, H, U> as LaidOut>⟧.layout.hashing s (selected_size ⟦<Db<F, C, I, H, U> as LaidOut>⟧.layout.hashing max_size s) list
-        → IfOk result (λ db. IsDatabase C.Store ⟦<Db<F, C, I, H, U> as LaidOut>⟧.layout db list)) }
-    ensures fresh { IfSome (C.told store) (λ s. selected_size ⟦<Db<F, C, I, H, U> as LaidOut>⟧.layout.hashing max_size s ≡ 0 → IfOk result (λ db. IsDatabase C.Store ⟦<Db<F, C, I, H, U> as LaidOut>⟧.layout db fresh)) }
+        → IfOk result (λ db. ⟦<Db<F, C, I, H, U> as LaidOut>⟧.stands db list)) }
+    ensures fresh { IfSome (C.told store) (λ s. selected_size ⟦<Db<F, C, I, H, U> as LaidOut>⟧.layout.hashing max_size s ≡ 0 → IfOk result (λ db. ⟦<Db<F, C, I, H, U> as LaidOut>⟧.stands db fresh)) }
     ensures accepted { IfSome (C.told store) (λ s. OnOk result (opening_refusal (layout_of U.form F.shape H.Digest.SIZE (option_map pruned_view pruned)) (found_of U.form s (option_map pruned_view pruned)) max_size ≡ None)) }
     ensures refused { IfSome (C.told store) (λ s. IfErr result (λ r. IsDue r.error (opening_refusal (layout_of U.form F.shape H.Digest.SIZE (option_map pruned_view pruned)) (found_of U.form s (option_map pruned_view pruned)) max_size))) }
     ensures became { IfOk result (λ db. Turns (C.told store) (C.told db.log.store) (λ s new. new ≡ taken ⟦<Db<F, C, I, H, U> as LaidOut>⟧.layout.hashing (selected_size ⟦<Db<F, C, I, H, U> as LaidOut>⟧.layout.hashing max_size s) s)) }

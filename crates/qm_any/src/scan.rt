@@ -7,7 +7,7 @@ ghost use Rattle.qm_store.specs.Reads.{IsReadError};
 ghost use Rattle.qm_step.specs.Lent.{NoneBelow};
 ghost use Rattle.qm_base.specs.Views.{limit_of, pair_view};
 ghost use Rattle.qm_batch.specs.Scans.{IsStep, left_of};
-ghost use Rattle.qm_any.specs.Databases.{IsDatabase, IsLeft};
+ghost use Rattle.qm_any.specs.Databases.{IsLeft};
 ghost use Rattle.qm_any.specs.Scanned.{keys_left, lent_to, lent_to_keys, pairs_left};
 
 use crate::db::{Db, LaidOut};
@@ -99,9 +99,11 @@ impl<
         scan: &mut Scan<U>,
     ) -> Option<Result<(U::Key, U::Value), Error>>
         requires { U.form.ordered ≡ true }
-        ensures value { (list : List Operation) → IsDatabase C.Store ⟦<Db<F, C, I, H, U> as LaidOut>⟧.layout self.old list → IsStep (pair_view U.Key.bytes U.Value.bytes) (left_of I.index_key scan.old list) (left_of I.index_key scan.new list) result }
+        ensures value { (list : List Operation) → ⟦<Db<F, C, I, H, U> as LaidOut>⟧.stands self.old list
+            → IsStep (pair_view U.Key.bytes U.Value.bytes) (left_of I.index_key scan.old list) (left_of I.index_key scan.new list) result }
         ensures error { IfSome result (λ r. IfErr r (IsReadError C.Store self.old.log self.new.log)) }
-        ensures whole { (list : List Operation) → IsDatabase C.Store ⟦<Db<F, C, I, H, U> as LaidOut>⟧.layout self.old list → NoneBelow self.old.log.tree.start list → IfSome result (λ r. IfErr r (λ e. (n : ℕ) → e ≢ Error.Journal (JournalError.ItemPruned n))) }
+        ensures whole { (list : List Operation) → ⟦<Db<F, C, I, H, U> as LaidOut>⟧.stands self.old list → NoneBelow self.old.log.tree.start list
+            → IfSome result (λ r. IfErr r (λ e. (n : ℕ) → e ≢ Error.Journal (JournalError.ItemPruned n))) }
         ensures left { IsLeft C.Store ⟦<Db<F, C, I, H, U> as LaidOut>⟧.layout.hashing self.old self.new }
     {
         scan.next(alloc, &self.index, &mut self.log)
@@ -120,9 +122,11 @@ impl<
     /// once where no read is refused.
     pub fn next(&mut self) -> Option<Result<(U::Key, U::Value), Error>>
         requires { U.form.ordered ≡ true }
-        ensures value { (list : List Operation) → IsDatabase C.Store ⟦<Db<F, C, I, H, U> as LaidOut>⟧.layout (lent_to self.old).now list → IsStep (pair_view U.Key.bytes U.Value.bytes) (pairs_left I.index_key self.old list) (pairs_left I.index_key self.new list) result }
+        ensures value { (list : List Operation) → ⟦<Db<F, C, I, H, U> as LaidOut>⟧.stands (lent_to self.old).now list
+            → IsStep (pair_view U.Key.bytes U.Value.bytes) (pairs_left I.index_key self.old list) (pairs_left I.index_key self.new list) result }
         ensures error { IfSome result (λ r. IfErr r (IsReadError C.Store (lent_to self.old).now.log (lent_to self.new).now.log)) }
-        ensures whole { (list : List Operation) → IsDatabase C.Store ⟦<Db<F, C, I, H, U> as LaidOut>⟧.layout (lent_to self.old).now list → NoneBelow (lent_to self.old).now.log.tree.start list → IfSome result (λ r. IfErr r (λ e. (n : ℕ) → e ≢ Error.Journal (JournalError.ItemPruned n))) }
+        ensures whole { (list : List Operation) → ⟦<Db<F, C, I, H, U> as LaidOut>⟧.stands (lent_to self.old).now list → NoneBelow (lent_to self.old).now.log.tree.start list
+            → IfSome result (λ r. IfErr r (λ e. (n : ℕ) → e ≢ Error.Journal (JournalError.ItemPruned n))) }
         ensures left { IsLeft C.Store ⟦<Db<F, C, I, H, U> as LaidOut>⟧.layout.hashing (lent_to self.old).now (lent_to self.new).now }
         ensures same { (lent_to self.new).ghost_name ≡ (lent_to self.old).ghost_name }
     {
@@ -140,9 +144,11 @@ impl<
     /// The next live key of the range, or nothing behind the last. It reads as `RangeScan::next` does.
     pub fn next(&mut self) -> Option<Result<U::Key, Error>>
         requires { U.form.ordered ≡ true }
-        ensures value { (list : List Operation) → IsDatabase C.Store ⟦<Db<F, C, I, H, U> as LaidOut>⟧.layout (lent_to_keys self.old).now list → IsStep U.Key.bytes (keys_left I.index_key self.old list) (keys_left I.index_key self.new list) result }
+        ensures value { (list : List Operation) → ⟦<Db<F, C, I, H, U> as LaidOut>⟧.stands (lent_to_keys self.old).now list
+            → IsStep U.Key.bytes (keys_left I.index_key self.old list) (keys_left I.index_key self.new list) result }
         ensures error { IfSome result (λ r. IfErr r (IsReadError C.Store (lent_to_keys self.old).now.log (lent_to_keys self.new).now.log)) }
-        ensures whole { (list : List Operation) → IsDatabase C.Store ⟦<Db<F, C, I, H, U> as LaidOut>⟧.layout (lent_to_keys self.old).now list → NoneBelow (lent_to_keys self.old).now.log.tree.start list → IfSome result (λ r. IfErr r (λ e. (n : ℕ) → e ≢ Error.Journal (JournalError.ItemPruned n))) }
+        ensures whole { (list : List Operation) → ⟦<Db<F, C, I, H, U> as LaidOut>⟧.stands (lent_to_keys self.old).now list → NoneBelow (lent_to_keys self.old).now.log.tree.start list
+            → IfSome result (λ r. IfErr r (λ e. (n : ℕ) → e ≢ Error.Journal (JournalError.ItemPruned n))) }
         ensures left { IsLeft C.Store ⟦<Db<F, C, I, H, U> as LaidOut>⟧.layout.hashing (lent_to_keys self.old).now (lent_to_keys self.new).now }
         ensures same { (lent_to_keys self.new).ghost_name ≡ (lent_to_keys self.old).ghost_name }
     {

@@ -11,7 +11,7 @@ ghost use Rattle.qm_merkle.specs.Batches.{stops};
 ghost use Rattle.qm_store.specs.Reads.{IsReadError};
 ghost use Rattle.qm_step.specs.Lent.{NoneBelow};
 ghost use Rattle.qm_step.specs.Views.{reads_view, stepped, left_after};
-ghost use Rattle.qm_any.specs.Databases.{IsDatabase, IsBegun, IsMade, IsLeft, IsStaged, is_on, staged_keys};
+ghost use Rattle.qm_any.specs.Databases.{IsBegun, IsMade, IsLeft, IsStaged, is_on, staged_keys};
 ghost use Rattle.qm_any.specs.Reasons.{IsMakingError};
 ghost use Rattle.qm_any.specs.Tips.{IsTaken, IsRefused};
 ghost use Rattle.qm_any.specs.Reading.{ReadsThrough, AtBegun};
@@ -60,8 +60,10 @@ impl<F: Family, D: Digest, U: Update> UnmerkleizedBatch<F, D, U> {
         keys: Vec<U::Key>,
         db: &mut Db<F, C, I, H, U>,
     ) -> Result<(Vec<Option<U::Value>>, Staged<F, D, U>), Error>
-        ensures values { AtBegun C.Store ⟦<Db<F, C, I, H, U> as LaidOut>⟧.layout db.old self (λ chain above. IfOk result (λ r. map (option_map U.Value.bytes) r.0.items ≡ map (λ k. read_through chain.base self.writes (U.Key.bytes k)) keys.items)) }
-        ensures staged { AtBegun C.Store ⟦<Db<F, C, I, H, U> as LaidOut>⟧.layout db.old self (λ chain above. IfOk result (λ r. IsStaged ⟦<Db<F, C, I, H, U> as LaidOut>⟧.layout.hashing r.1 chain above)) }
+        ensures values { AtBegun C.Store ⟦<Db<F, C, I, H, U> as LaidOut>⟧.layout db.old self (λ chain above.
+            IfOk result (λ r. map (option_map U.Value.bytes) r.0.items ≡ map (λ k. read_through chain.base self.writes (U.Key.bytes k)) keys.items)) }
+        ensures staged { AtBegun C.Store ⟦<Db<F, C, I, H, U> as LaidOut>⟧.layout db.old self (λ chain above.
+            IfOk result (λ r. IsStaged ⟦<Db<F, C, I, H, U> as LaidOut>⟧.layout.hashing r.1 chain above)) }
         ensures batch { IfOk result (λ r. r.1.batch ≡ self) }
         ensures keys { IfOk result (λ r. staged_keys r.1 ≡ map U.Key.bytes keys.items) }
         ensures reads { ReadsThrough C.Store ⟦<Db<F, C, I, H, U> as LaidOut>⟧.layout db.old db.new result self.parent.bounds }
@@ -97,19 +99,24 @@ impl<F: Family, D: Digest, U: Update> UnmerkleizedBatch<F, D, U> {
     where
         U: Steps<F, I>,
         ensures fits { OnOk result (is_on db.old.commitment self ≡ true) }
-        ensures made { (list : List Operation) (chain above : Chain) → IsDatabase C.Store ⟦<Db<F, C, I, H, U> as LaidOut>⟧.layout db.old list → IsBegun ⟦<Db<F, C, I, H, U> as LaidOut>⟧.layout.hashing self chain above → IsOnChain list chain
+        ensures made { (list : List Operation) (chain above : Chain) → ⟦<Db<F, C, I, H, U> as LaidOut>⟧.stands db.old list
+            → IsBegun ⟦<Db<F, C, I, H, U> as LaidOut>⟧.layout.hashing self chain above → IsOnChain list chain
             → IfOk result (λ b. IsMade ⟦<Db<F, C, I, H, U> as LaidOut>⟧.layout.hashing b.value chain (stepped U.form P.rules chain.base self.writes policy.old (option_map U.Value.bytes metadata))) }
-        ensures taken { (list : List Operation) (chain above : Chain) → IsDatabase C.Store ⟦<Db<F, C, I, H, U> as LaidOut>⟧.layout db.old list → IsBegun ⟦<Db<F, C, I, H, U> as LaidOut>⟧.layout.hashing self chain above → IsOnChain list chain
+        ensures taken { (list : List Operation) (chain above : Chain) → ⟦<Db<F, C, I, H, U> as LaidOut>⟧.stands db.old list
+            → IsBegun ⟦<Db<F, C, I, H, U> as LaidOut>⟧.layout.hashing self chain above → IsOnChain list chain
             → OnOk result (IsTaken U.form chain.base (stepped U.form P.rules chain.base self.writes policy.old (option_map U.Value.bytes metadata))) }
-        ensures refused { (list : List Operation) (chain above : Chain) → IsDatabase C.Store ⟦<Db<F, C, I, H, U> as LaidOut>⟧.layout db.old list → IsBegun ⟦<Db<F, C, I, H, U> as LaidOut>⟧.layout.hashing self chain above → IsOnChain list chain
+        ensures refused { (list : List Operation) (chain above : Chain) → ⟦<Db<F, C, I, H, U> as LaidOut>⟧.stands db.old list
+            → IsBegun ⟦<Db<F, C, I, H, U> as LaidOut>⟧.layout.hashing self chain above → IsOnChain list chain
             → IfErr result (λ e. IsRefused U.form chain.base (stepped U.form P.rules chain.base self.writes policy.old (option_map U.Value.bytes metadata)) e ⊎ IsReadError C.Store db.old.log db.new.log e) }
-        ensures next { (list : List Operation) (chain above : Chain) → IsDatabase C.Store ⟦<Db<F, C, I, H, U> as LaidOut>⟧.layout db.old list → IsBegun ⟦<Db<F, C, I, H, U> as LaidOut>⟧.layout.hashing self chain above → IsOnChain list chain
+        ensures next { (list : List Operation) (chain above : Chain) → ⟦<Db<F, C, I, H, U> as LaidOut>⟧.stands db.old list
+            → IsBegun ⟦<Db<F, C, I, H, U> as LaidOut>⟧.layout.hashing self chain above → IsOnChain list chain
             → OnOk result (policy.new ≡ left_after U.form P.rules chain.base self.writes policy.old) }
         ensures above { IfOk result (λ b. All (λ n. b.value.bounds.db.size ≤ n) (stops b.value.tree.leaves b.value.tree.layers)) }
         ensures stale { IfErr result (λ e. e ≡ Error.StaleBatch → is_on db.old.commitment self ≡ false) }
         ensures order { IfErr result (λ e. e ≢ Error.Memory → e ≢ Error.StaleBatch → is_on db.old.commitment self ≡ true) }
         ensures causes { IfErr result (λ e. (e ≡ Error.StaleBatch) ⊎ IsMakingError C.Store db.old.log db.new.log e) }
-        ensures whole { (list : List Operation) → IsDatabase C.Store ⟦<Db<F, C, I, H, U> as LaidOut>⟧.layout db.old list → NoneBelow db.old.log.tree.start list → db.old.log.tree.start ≤ self.parent.bounds.inactivity_floor
+        ensures whole { (list : List Operation) → ⟦<Db<F, C, I, H, U> as LaidOut>⟧.stands db.old list
+            → NoneBelow db.old.log.tree.start list → db.old.log.tree.start ≤ self.parent.bounds.inactivity_floor
             → IfErr result (λ e. (n : ℕ) → e ≢ Error.Journal (JournalError.ItemPruned n)) }
         ensures cause { IfErr result (λ e. e ≡ Error.Journal JournalError.Store → Rose (C.faults db.old.log.store) (C.faults db.new.log.store)) }
         ensures left { IsLeft C.Store ⟦<Db<F, C, I, H, U> as LaidOut>⟧.layout.hashing db.old db.new }
@@ -147,9 +154,11 @@ impl<F: Family, D: Digest, U: Update> Staged<F, D, U> {
         db: &mut Db<F, C, I, H, U>,
     ) -> Result<(Range<usize>, Vec<Option<U::Value>>, Self), Error>
         ensures range { IfOk result (λ r. (r.0.start ≡ length (staged_keys self)) × (r.0.end ≡ length (staged_keys self) + length keys.items)) }
-        ensures values { (list : List Operation) (chain above : Chain) → IsDatabase C.Store ⟦<Db<F, C, I, H, U> as LaidOut>⟧.layout db.old list → IsStaged ⟦<Db<F, C, I, H, U> as LaidOut>⟧.layout.hashing self chain above → IsKnown list above chain.base
+        ensures values { (list : List Operation) (chain above : Chain) → ⟦<Db<F, C, I, H, U> as LaidOut>⟧.stands db.old list
+            → IsStaged ⟦<Db<F, C, I, H, U> as LaidOut>⟧.layout.hashing self chain above → IsKnown list above chain.base
             → IfOk result (λ r. map (option_map U.Value.bytes) r.1.items ≡ map (λ k. read_through chain.base self.batch.writes (U.Key.bytes k)) keys.items) }
-        ensures staged { (list : List Operation) (chain above : Chain) → IsDatabase C.Store ⟦<Db<F, C, I, H, U> as LaidOut>⟧.layout db.old list → IsStaged ⟦<Db<F, C, I, H, U> as LaidOut>⟧.layout.hashing self chain above → IsKnown list above chain.base
+        ensures staged { (list : List Operation) (chain above : Chain) → ⟦<Db<F, C, I, H, U> as LaidOut>⟧.stands db.old list
+            → IsStaged ⟦<Db<F, C, I, H, U> as LaidOut>⟧.layout.hashing self chain above → IsKnown list above chain.base
             → IfOk result (λ r. IsStaged ⟦<Db<F, C, I, H, U> as LaidOut>⟧.layout.hashing r.2 chain above) }
         ensures batch { IfOk result (λ r. r.2.batch ≡ self.batch) }
         ensures keys { IfOk result (λ r. staged_keys r.2 ≡ staged_keys self ++ map U.Key.bytes keys.items) }
@@ -196,19 +205,24 @@ impl<F: Family, D: Digest, U: Update> Staged<F, D, U> {
         U: Steps<F, I>,
         requires { length slots.now ≡ length (staged_keys self) }
         ensures fits { OnOk result (is_on db.old.commitment self.batch ≡ true) }
-        ensures made { (list : List Operation) (chain above : Chain) → IsDatabase C.Store ⟦<Db<F, C, I, H, U> as LaidOut>⟧.layout db.old list → IsStaged ⟦<Db<F, C, I, H, U> as LaidOut>⟧.layout.hashing self chain above → IsOnChain list chain
+        ensures made { (list : List Operation) (chain above : Chain) → ⟦<Db<F, C, I, H, U> as LaidOut>⟧.stands db.old list
+            → IsStaged ⟦<Db<F, C, I, H, U> as LaidOut>⟧.layout.hashing self chain above → IsOnChain list chain
             → IfOk result (λ b. IsMade ⟦<Db<F, C, I, H, U> as LaidOut>⟧.layout.hashing b.value chain (stepped U.form P.rules chain.base (slotted self.batch.writes (staged_keys self) (slot_views U.Value.bytes slots.now) (write_views U.Key.bytes U.Value.bytes others.now)) policy.old (option_map U.Value.bytes metadata))) }
-        ensures taken { (list : List Operation) (chain above : Chain) → IsDatabase C.Store ⟦<Db<F, C, I, H, U> as LaidOut>⟧.layout db.old list → IsStaged ⟦<Db<F, C, I, H, U> as LaidOut>⟧.layout.hashing self chain above → IsOnChain list chain
+        ensures taken { (list : List Operation) (chain above : Chain) → ⟦<Db<F, C, I, H, U> as LaidOut>⟧.stands db.old list
+            → IsStaged ⟦<Db<F, C, I, H, U> as LaidOut>⟧.layout.hashing self chain above → IsOnChain list chain
             → OnOk result (IsTaken U.form chain.base (stepped U.form P.rules chain.base (slotted self.batch.writes (staged_keys self) (slot_views U.Value.bytes slots.now) (write_views U.Key.bytes U.Value.bytes others.now)) policy.old (option_map U.Value.bytes metadata))) }
-        ensures refused { (list : List Operation) (chain above : Chain) → IsDatabase C.Store ⟦<Db<F, C, I, H, U> as LaidOut>⟧.layout db.old list → IsStaged ⟦<Db<F, C, I, H, U> as LaidOut>⟧.layout.hashing self chain above → IsOnChain list chain
+        ensures refused { (list : List Operation) (chain above : Chain) → ⟦<Db<F, C, I, H, U> as LaidOut>⟧.stands db.old list
+            → IsStaged ⟦<Db<F, C, I, H, U> as LaidOut>⟧.layout.hashing self chain above → IsOnChain list chain
             → IfErr result (λ e. IsRefused U.form chain.base (stepped U.form P.rules chain.base (slotted self.batch.writes (staged_keys self) (slot_views U.Value.bytes slots.now) (write_views U.Key.bytes U.Value.bytes others.now)) policy.old (option_map U.Value.bytes metadata)) e ⊎ IsReadError C.Store db.old.log db.new.log e) }
-        ensures next { (list : List Operation) (chain above : Chain) → IsDatabase C.Store ⟦<Db<F, C, I, H, U> as LaidOut>⟧.layout db.old list → IsStaged ⟦<Db<F, C, I, H, U> as LaidOut>⟧.layout.hashing self chain above → IsOnChain list chain
+        ensures next { (list : List Operation) (chain above : Chain) → ⟦<Db<F, C, I, H, U> as LaidOut>⟧.stands db.old list
+            → IsStaged ⟦<Db<F, C, I, H, U> as LaidOut>⟧.layout.hashing self chain above → IsOnChain list chain
             → OnOk result (policy.new ≡ left_after U.form P.rules chain.base (slotted self.batch.writes (staged_keys self) (slot_views U.Value.bytes slots.now) (write_views U.Key.bytes U.Value.bytes others.now)) policy.old) }
         ensures above { IfOk result (λ b. All (λ n. b.value.bounds.db.size ≤ n) (stops b.value.tree.leaves b.value.tree.layers)) }
         ensures stale { IfErr result (λ e. e ≡ Error.StaleBatch → is_on db.old.commitment self.batch ≡ false) }
         ensures order { IfErr result (λ e. e ≢ Error.Memory → e ≢ Error.StaleBatch → is_on db.old.commitment self.batch ≡ true) }
         ensures causes { IfErr result (λ e. (e ≡ Error.StaleBatch) ⊎ IsMakingError C.Store db.old.log db.new.log e) }
-        ensures whole { (list : List Operation) → IsDatabase C.Store ⟦<Db<F, C, I, H, U> as LaidOut>⟧.layout db.old list → NoneBelow db.old.log.tree.start list → db.old.log.tree.start ≤ self.batch.parent.bounds.inactivity_floor
+        ensures whole { (list : List Operation) → ⟦<Db<F, C, I, H, U> as LaidOut>⟧.stands db.old list
+            → NoneBelow db.old.log.tree.start list → db.old.log.tree.start ≤ self.batch.parent.bounds.inactivity_floor
             → IfErr result (λ e. (n : ℕ) → e ≢ Error.Journal (JournalError.ItemPruned n)) }
         ensures cause { IfErr result (λ e. e ≡ Error.Journal JournalError.Store → Rose (C.faults db.old.log.store) (C.faults db.new.log.store)) }
         ensures left { IsLeft C.Store ⟦<Db<F, C, I, H, U> as LaidOut>⟧.layout.hashing db.old db.new }

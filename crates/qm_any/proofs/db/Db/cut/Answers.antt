@@ -1,58 +1,20 @@
-use Rattle.std.proofs.Common.{map, subst, sym, arith}
-use Rattle.qm_model.specs.Forms.{spelling}
-use Rattle.qm_model.specs.StoreModel.{pruned}
-use Rattle.qm_any.specs.Databases.{IsDatabase}
-use Rattle.qm_any.specs.Layouts.{layout_of, hashing_of}
-use Rattle.qm_any.specs.Lasting.{HasPruned, HasLeftPruned, IsGivenUp}
-use Rattle.qm_model.proofs.Results.{err-then}
-use Rattle.qm_any.proofs.Lasting.{ok-two, ok-three, still-told, ok-over, err-over, cut, cut-is, cut-log-is, cut-stands, has-kept, has-pruned, cut-given-up}
+use Rattle.std.proofs.Common.{subst}
+use Rattle.std.specs.Prelude.{IfErr}
+use Rattle.qm_model.proofs.Results.{ok-then}
+use Rattle.qm_any.specs.Databases.{Database}
+use Rattle.qm_any.specs.Layouts.{hashing_of}
+use Rattle.qm_any.specs.Lasting.{HasLeftPruned, IsGivenUp}
+use Rattle.qm_any.proofs.Lasting.{bits-first}
 use Rattle.qm_any.proofs.db.Db.cut.Goals as goal
-
-pub returns-then-to-start : goal.returns-then-to-start
-returns-then-to-start g c =
-    record {
-      stands = λ list low is.
-          let layout = layout_of g.H.Digest.Digest.bytes g.H.Hasher g.F.Family g.U.Update g.I.Unordered in
-          let beside = c.apart-log.result.1 in
-          let old = c.apart-log.result.0 in
-          let was = subst (λ db. IsDatabase g.C.Store layout db list) c.apart-log.ensures.whole is in
-          subst (λ db. IsDatabase g.C.Store layout db list) (sym (cut-is g.C.Store _ beside c.prune_to_bit.new.self c.args.to old c.over.result c.over.ensures c.prune_to_bit.ensures c.beside.view_is))
-          (cut-stands g.C.Store layout c.args.to beside old old list low (λ told. told) was.lent.logged was);
-      pruned =
-          let hashing = hashing_of g.H.Digest.Digest.bytes g.H.Hasher g.F.Family g.U.Update in
-          let beside = c.apart-log.result.1 in
-          let old = c.apart-log.result.0 in
-          subst (HasPruned g.C.Store hashing (λ s. s) c.args.to c.args.self) (sym (cut-is g.C.Store _ beside c.prune_to_bit.new.self c.args.to old c.over.result c.over.ensures c.prune_to_bit.ensures c.beside.view_is))
-          (has-kept g.C.Store hashing c.args.to c.args.self beside old c.apart-log.ensures.whole (omega (arith, c.if-to-start.true, c.bounds-start.ensures.start)));
-      refused = tt;
-    }
 
 pub returns : goal.returns
 returns g c =
     record {
-      stands = λ list low is.
-          let layout = layout_of g.H.Digest.Digest.bytes g.H.Hasher g.F.Family g.U.Update g.I.Unordered in
-          let beside = c.apart-log.result.1 in
-          let old = c.apart-log.result.0 in
-          let was = subst (λ db. IsDatabase g.C.Store layout db list) c.apart-log.ensures.whole is in
-          ok-over g.C.Store (cut c.args.to beside) c.prune.result c.over-2.result (λ db. IsDatabase g.C.Store layout db list)
-          (cut-log-is g.C.Store _ beside c.prune_to_bit.new.self c.args.to c.prune.result c.over-2.result c.over-2.ensures c.prune_to_bit.ensures c.beside.view_is)
-          (ok-two c.prune.result (c.prune.ensures.stands (map (spelling g.U.Update.form) list) was.lent.logged) c.prune.ensures.pruned
-          (λ log stands cut. cut-stands g.C.Store layout c.args.to beside old log list low (still-told (g.C.Store.told old.store) (g.C.Store.told log.store) (pruned c.args.to cut.0) cut.1) stands was));
+      stands = λ list low is. c.prune_log.ensures.stands list (c.prune_bits.ensures.stands list low is);
       pruned =
-          let hashing = hashing_of g.H.Digest.Digest.bytes g.H.Hasher g.F.Family g.U.Update in
-          let beside = c.apart-log.result.1 in
-          let old = c.apart-log.result.0 in
-          ok-over g.C.Store (cut c.args.to beside) c.prune.result c.over-2.result (HasPruned g.C.Store hashing (λ s. s) c.args.to c.args.self)
-          (cut-log-is g.C.Store _ beside c.prune_to_bit.new.self c.args.to c.prune.result c.over-2.result c.over-2.ensures c.prune_to_bit.ensures c.beside.view_is)
-          (ok-three c.prune.result c.prune.ensures.start c.prune.ensures.size (ok-two {R = λ log. _ × _} c.prune.result c.prune.ensures.pruned c.prune.ensures.later (λ log cut later. (cut, later)))
-          (λ log first size made. has-pruned g.C.Store hashing c.args.to c.args.self beside old log made.0.0 c.apart-log.ensures.whole (omega (arith, c.if-to-start.false, c.bounds-start.ensures.start)) first size made.0.1 made.0.2 made.1));
+          ok-then c.prune_log.result c.prune_log.ensures.pruned
+          (λ db. bits-first g.C.Store (hashing_of g.H.Digest.Digest.bytes g.H.Hasher g.F.Family g.U.Update) c.args.to c.args.self c.prune_bits.result db c.prune_bits.ensures.pruned);
       refused =
           let hashing = hashing_of g.H.Digest.Digest.bytes g.H.Hasher g.F.Family g.U.Update in
-          let beside = c.apart-log.result.1 in
-          let old = c.apart-log.result.0 in
-          err-over g.C.Store (cut c.args.to beside) c.prune.result c.over-2.result (IsGivenUp g.C.Store (λ _. HasLeftPruned g.C.Store hashing (λ s. s) c.args.to c.args.self.log) c.args.self.log.store)
-          (cut-log-is g.C.Store _ beside c.prune_to_bit.new.self c.args.to c.prune.result c.over-2.result c.over-2.ensures c.prune_to_bit.ensures c.beside.view_is)
-          (err-then c.prune.result c.prune.ensures.refused
-          (λ r refused. cut-given-up g.C.Store hashing c.args.to refused.0 c.args.self beside old r c.apart-log.ensures.whole c.requires.stable (omega (arith, c.if-to-start.false, c.bounds-start.ensures.start)) refused.1 refused.2));
+          subst (λ (m : Database _ _). IfErr c.prune_log.result (IsGivenUp g.C.Store (λ _. HasLeftPruned g.C.Store hashing (λ s. s) c.args.to m.log) m.log.store)) c.prune_bits.ensures.pruned c.prune_log.ensures.refused;
     }

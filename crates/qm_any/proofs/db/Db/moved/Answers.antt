@@ -1,4 +1,4 @@
-use Rattle.std.proofs.Common.{arith, ◌≡◌, ◌≤◌, ◌∙◌, ◌∷◌, ◌++◌, ℕ, List, Contains, ap, sym, subst, refl, length, map, inl}
+use Rattle.std.proofs.Common.{arith, ◌≡◌, ◌≤◌, ◌∙◌, ◌∷◌, ◌++◌, ℕ, List, Contains, ap, sym, subst, refl, map, inl}
 use Rattle.qm_model.proofs.Results.{err-then, ok-then}
 use Rattle.qm_model.specs.Bits.{bits}
 use Rattle.qm_model.specs.Causes.{IsCause}
@@ -6,7 +6,6 @@ use Rattle.qm_base.specs.declared.error.Error.TheVariants as errors
 use Rattle.qm_base.specs.declared.error.JournalError.TheVariants as journal
 use Rattle.qm_model.specs.Operations.{Bytes}
 use Rattle.qm_bits.specs.Bitmaps.{all_bits}
-use Rattle.qm_merkle.specs.Batches.{stops}
 use Rattle.qm_store.specs.KeptTrees.{KeptTree, IsKeptTree}
 use Rattle.qm_store.specs.Log.{Log, IsLog}
 use Rattle.qm_store.specs.Log as logs

@@ -6,7 +6,7 @@ use Rattle.qm_store.specs.Log.{IsLog}
 use Rattle.qm_any.specs.Databases.{IsDatabase}
 use Rattle.qm_any.specs.Layouts.{layout_of, hashing_of}
 use Rattle.qm_any.specs.Lasting.{HasLasted, HasLeftStable, IsGivenUp}
-use Rattle.qm_any.proofs.Lasting.{ok-two, still-told, ok-over, err-over, joined, relogged, lasted, given-up}
+use Rattle.qm_any.proofs.Lasting.{ok-two, still-told, ok-over, err-over, relogged, lasted, given-up}
 use Rattle.qm_any.proofs.db.Db.sync.Goals as goal
 
 pub returns-clause-stands : goal.returns-clause-stands
