@@ -8,7 +8,7 @@ use Rattle.std.specs.Prelude.{Result, Ok, Err, IfOk, IfErr}
 use Rattle.qm_model.specs.Forms.{Form, spelling}
 use Rattle.qm_model.specs.Live.{floor}
 use Rattle.qm_model.specs.Operations.{Bytes, Operation, fresh}
-use Rattle.qm_model.specs.StoreModel.{Stored, settled, pruned, IsImage, IsOldOrNew, ReadsAs, Turns, Becomes}
+use Rattle.qm_model.specs.StoreModel.{Stored, settled, pruned, IsImage, IsOldOrNew, ReadsAs, Fails, Leaves, Turns, Becomes}
 use Rattle.qm_model.specs.Opening.{Selected, commit_at, last_commit, below_bound, found, selected, size_of}
 use Rattle.qm_model.specs.Refusals.{commit_floor}
 use Rattle.qm_base.specs.declared.error.Error.{Error}
@@ -32,6 +32,10 @@ turned-each : (o new : Option Stored) (R Q : Stored → Stored → Type 0) → (
 turned-each None new R Q each is = is
 turned-each (Some s) None R Q each is = absurd is
 turned-each (Some s) (Some t) R Q each is = each s t is
+
+-- what a failed call left, without what a crash inside it would have left
+pub leaves-now : (o new : Option Stored) (R : Stored → Stored → Type 0) → Leaves o new R → Turns o new R
+leaves-now o new R left = turned-each o new (Fails R R) R (λ s t failed. failed.now) left
 
 -- a commit that is selected stands at the start or behind it
 abbrev IsPast : ℕ → Option Selected → Type 0

@@ -8,7 +8,10 @@ use qm_operations::{Ordered, Unordered, VariableEncoding};
 use qm_step::kind::Steps;
 
 /// What the updates of a kind of the program's databases say, over this index. They are spelled with their lengths.
-pub(crate) trait Kind<I: qm_index::Unordered<Value = Location<mmr::Family>>>: Steps<mmr::Family, I> {
+pub(crate) trait Kind<I: qm_index::Unordered<Value = Location<mmr::Family>>>: Steps<
+    mmr::Family,
+    I,
+> {
     ghost lengths: { Self.form.sizes ≡ None };
 }
 

@@ -76,7 +76,9 @@ pub(crate) fn listed<F, U: Update>(
 }
 
 /// A live update that was found, as a reply lists it, where it names a next key.
-pub(crate) fn span_from<F, U: Update>(found: Option<(Location<F>, U)>) -> Option<Span<U::Key, U::Value>>
+pub(crate) fn span_from<F, U: Update>(
+    found: Option<(Location<F>, U)>,
+) -> Option<Span<U::Key, U::Value>>
     ensures { U.form.ordered ≡ true → option_map located (option_map (span_view U.Key.bytes U.Value.bytes) result) ≡ option_map (read_view U.view) found }
 {
     let (location, update) = found?;

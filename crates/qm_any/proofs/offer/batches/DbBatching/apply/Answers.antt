@@ -19,7 +19,7 @@ returns g c =
     let same = sym c.deref.ensures in
     record {
       fit = ok-then r said.fits (λ next on list chain tip is made.
-      sym (at-made hashing list chain tip db.commitment c.deref.result.now is.commitment (subst (λ b. IsMade hashing b chain tip) same made)) ∙ on);
+          sym (at-made hashing list chain tip db.commitment c.deref.result.now is.commitment (subst (λ b. IsMade hashing b chain tip) same made)) ∙ on);
       applied = ok-tips r is_database (IsMade hashing batch) (λ next list chain tip. IsDatabase g.C.Store (layout_of g.N.Chunks.LEN g.H.Digest.Digest.bytes g.H.Hasher g.F.Family g.U.Update g.I.Unordered) next tip)
           (λ list chain tip is made on. said.stands list chain tip is (subst (λ b. IsMade hashing b chain tip) same made) on);
       numbered = ok-then r said.fits (λ next on n is. tt);

@@ -15,14 +15,14 @@ returns g c =
     let form = g.U.Update.form in
     let told = g.C.Store.told c.args.store in
     record {
-      opened = opened-list g.F.Family.shape g.F.Family.births g.F.Family.numbered g.F.Family.peaked form told c.args.max_size
+      opened = opened-list g.F.Family.shape g.F.Family.births g.met.F.Family.numbered g.met.F.Family.peaked form told c.args.max_size
           (λ list. IfOk r (λ db. IsDatabase g.C.Store (record { hashing = hashing g.F.Family.shape form; chunk = g.N.Chunks.LEN; index_key = g.I.Unordered.index_key }) db list)) said.stands said.fresh;
       numbered = ok-then r said.became (λ db became. tt);
       offered = said.accepted;
-      became = ok-then r said.became (λ db became. became-taken g.F.Family.shape g.F.Family.births g.F.Family.numbered g.F.Family.peaked form told (g.C.Store.told db.log.store) c.args.max_size became);
+      became = ok-then r said.became (λ db became. became-taken g.F.Family.shape g.F.Family.births g.met.F.Family.numbered g.met.F.Family.peaked form told (g.C.Store.told db.log.store) c.args.max_size became);
       refused = said.refused;
       unopened = said.unopened;
-      left = err-then r said.left (λ e left. left-opening g.F.Family.shape g.F.Family.births g.F.Family.numbered g.F.Family.peaked form told _ c.args.max_size left);
+      left = err-then r said.left (λ e left. left-opening g.F.Family.shape g.F.Family.births g.met.F.Family.numbered g.met.F.Family.peaked form told _ c.args.max_size left);
       start = start-after g.C.Store (λ (x : Database _ _). x.log.store) (g.C.Store.start c.args.store) r said.start (err-then r said.back (λ e back. ap (λ t. g.C.Store.start (store_given (λ (x : Database _ _). x.log.store) t)) back.1 ∙ back.2));
       cause = err-then r said.back (λ e back fault. subst (λ t. Rose (g.C.Store.faults c.args.store) (g.C.Store.faults (store_given (λ (x : Database _ _). x.log.store) t))) (sym back.1) (back.4.failed fault));
       later = later-after g.C.Store (λ (x : Database _ _). x.log.store) c.args.store r said.later

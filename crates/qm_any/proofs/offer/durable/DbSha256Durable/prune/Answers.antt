@@ -9,7 +9,7 @@ use Rattle.qm_base.specs.declared.error.Error.TheVariants as errors
 use Rattle.qm_any.specs.Databases.{IsDatabase}
 use Rattle.qm_any.specs.Lasting.{boundary_of, HasLeftPruned, HasLeftStable}
 use Rattle.qm_any.proofs.OfferedHeads.{hashing, scheme}
-use Rattle.qm_any.proofs.OfferedStores.{untold, heads-of, left-pruned, left-stable, pruned-same}
+use Rattle.qm_any.proofs.OfferedStores.{leaves-now, untold, heads-of, left-pruned, left-stable, pruned-same}
 use Rattle.qm_any.proofs.offer.durable.DbSha256Durable.prune.Goals as goal
 
 pub returns-in-Ok : goal.returns-in-Ok
@@ -31,7 +31,7 @@ returns-in-Ok g c = record {
         start = c.bounds-in-Ok.ensures.first ∙ made.start ∙ ap₂ max (sym before) same;
         head = made.head;
         heads = λ past list is few. subst (λ to. made.head ≡ head_at (scheme shape form) list to) same
-            (heads-of g.F.Family.shape g.F.Family.births g.F.Family.numbered g.F.Family.peaked g.C.Store form g.N.Chunks.LEN index_key old c.new.result made.head (made.heads (omega (arith, past, before, same))) list is (low list is) few);
+            (heads-of g.F.Family.shape g.F.Family.births g.met.F.Family.numbered g.met.F.Family.peaked g.C.Store form g.N.Chunks.LEN index_key old c.new.result made.head (made.heads (omega (arith, past, before, same))) list is (low list is) few);
         told = subst (λ to. Becomes (g.C.Store.told old.log.store) (g.C.Store.told c.in-Ok.db.log.store) (pruned_from start to made.head)) same
             (pruned-same (g.C.Store.told old.log.store) (g.C.Store.told c.in-Ok.db.log.store) old.log.tree.start start c.new.result made.head (sym before) made.told);
         later = made.later;
@@ -64,12 +64,12 @@ returns-in-Err g c = record {
           store = left.store;
           given = left.given;
           told = ⊎_elim
-              (λ (kept : HasLeftStable g.C.Store old.log.store left.store). left-stable (g.C.Store.told old.log.store) (g.C.Store.told left.store) start IsHead c.args.to kept.told)
+              (λ (kept : HasLeftStable g.C.Store old.log.store left.store). left-stable (g.C.Store.told old.log.store) (g.C.Store.told left.store) start IsHead c.args.to (leaves-now _ _ _ kept.told))
               (λ (cut : HasLeftPruned g.C.Store (hashing shape form) settled c.new.result old.log left.store).
               subst (λ to. Turns (g.C.Store.told old.log.store) (g.C.Store.told left.store) (LeavesPruning start IsHead to)) same
               (left-pruned (g.C.Store.told old.log.store) (g.C.Store.told left.store) start IsHead c.new.result cut.head (omega (arith, cut.past, before))
               (λ list is few. subst (λ to. cut.head ≡ head_at (scheme shape form) list to) same
-              (heads-of g.F.Family.shape g.F.Family.births g.F.Family.numbered g.F.Family.peaked g.C.Store form g.N.Chunks.LEN index_key old c.new.result cut.head cut.heads list is (omega (arith, c.prune.ensures.boundary list is, within)) few))
+              (heads-of g.F.Family.shape g.F.Family.births g.met.F.Family.numbered g.met.F.Family.peaked g.C.Store form g.N.Chunks.LEN index_key old c.new.result cut.head cut.heads list is (omega (arith, c.prune.ensures.boundary list is, within)) few))
               cut.told))
               left.left;
           never = untold c.in-Err.refused.error left.never;

@@ -1,5 +1,5 @@
 use Rattle.qm_model.proofs.Results.{err-then, ok-then}
-use Rattle.qm_any.proofs.OfferedStores.{untold}
+use Rattle.qm_any.proofs.OfferedStores.{leaves-now, untold}
 use Rattle.qm_any.proofs.offer.durable.DbSha256Durable.sync.Goals as goal
 
 pub returns : goal.returns
@@ -12,5 +12,5 @@ returns g c =
       start = ok-then r said.synced (λ new lasted. lasted.store.start);
       told = ok-then r said.synced (λ new lasted. lasted.store.told);
       later = ok-then r said.synced (λ new lasted. lasted.later);
-      failed = err-then r said.refused (λ e left. record { store = left.store; given = left.given; told = left.left.told; never = untold e.error left.never; cause = left.cause });
+      failed = err-then r said.refused (λ e left. record { store = left.store; given = left.given; told = leaves-now _ _ _ left.left.told; never = untold e.error left.never; cause = left.cause });
     }

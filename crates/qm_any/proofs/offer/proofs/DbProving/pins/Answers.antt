@@ -18,7 +18,7 @@ returns-clause-offered g c =
     ok-each (IsDatabase g.C.Store (layout_of g.N.Chunks.LEN g.H.Digest.Digest.bytes g.H.Hasher g.F.Family g.U.Update g.I.Unordered) db) (λ list digests. pins_lacked g.F.Family.shape start list c.args.at ≡ None) found
     (λ list is. subst (λ n. IfOk found (λ digests. pins_lacked g.F.Family.shape start list n ≡ None)) c.new.ensures
     (ok-two found (c.pinned_nodes_at.ensures.offered list is) c.pinned_nodes_at.ensures.held
-    (λ digests told held. pins-offered g.H.Digest.Digest.bytes g.H.Hasher.hash g.F.Family.shape g.F.Family.births g.F.Family.numbered g.F.Family.peaked g.C.Store g.U.Update.form g.N.Chunks.LEN g.I.Unordered.index_key db list is c.bounds.ensures.few c.new.result told held)))
+    (λ digests told held. pins-offered g.H.Digest.Digest.bytes g.H.Hasher.hash g.F.Family.shape g.F.Family.births g.met.F.Family.numbered g.met.F.Family.peaked g.C.Store g.U.Update.form g.N.Chunks.LEN g.I.Unordered.index_key db list is c.bounds.ensures.few c.new.result told held)))
 
 pub returns-clause-digests : goal.returns-clause-digests
 returns-clause-digests g c =
@@ -32,4 +32,4 @@ returns-clause-refused g c =
     let found = c.pinned_nodes_at.result in
     err-each (IsDatabase g.C.Store (layout_of g.N.Chunks.LEN g.H.Digest.Digest.bytes g.H.Hasher g.F.Family g.U.Update g.I.Unordered) db) (λ list e. IsDue e (pins_lacked g.F.Family.shape start list c.args.at)) found
     (λ list is. subst (λ n. IfErr found (λ e. IsDue e (pins_lacked g.F.Family.shape start list n))) c.new.ensures
-    (pins-due g.H.Digest.Digest.bytes g.H.Hasher.hash g.F.Family.shape g.F.Family.births g.F.Family.numbered g.F.Family.peaked g.C.Store g.U.Update.form g.N.Chunks.LEN g.I.Unordered.index_key db list is c.bounds.ensures.few c.new.result found c.pinned_nodes_at.ensures.range c.pinned_nodes_at.ensures.cause))
+    (pins-due g.H.Digest.Digest.bytes g.H.Hasher.hash g.F.Family.shape g.F.Family.births g.met.F.Family.numbered g.met.F.Family.peaked g.C.Store g.U.Update.form g.N.Chunks.LEN g.I.Unordered.index_key db list is c.bounds.ensures.few c.new.result found c.pinned_nodes_at.ensures.range c.pinned_nodes_at.ensures.cause))

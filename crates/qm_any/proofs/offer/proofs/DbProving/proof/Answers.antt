@@ -22,7 +22,7 @@ returns-in-Ok-pinned_nodes-clause-proof g c = λ list chain tip is batch known.
     let knowing = subst (λ (b : Made _). knows b.bounds db.commitment ≡ true) c.deref-2.ensures c.in-Ok.ensures.readable in
     let held = subst (λ (b : Made _). first_lacked (held_at g.F.Family.shape b.tree db.log.tree) (needed_positions g.F.Family.shape b.bounds.tip.size b.bounds.base.size b.bounds.tip.size) ≡ None) c.deref-2.ensures c.in-Ok.ensures.held in
     let pins = subst (λ (b : Made _). first_lacked (held_at g.F.Family.shape b.tree db.log.tree) (peak_positions g.F.Family.shape b.bounds.base.size) ≡ None) c.deref-in-Ok.ensures c.in-Ok-pinned_nodes.ensures.held in (
-      proof-offered g.H.Digest.Digest.bytes g.H.Hasher.hash g.F.Family.shape g.F.Family.births g.F.Family.numbered g.F.Family.peaked g.C.Store form g.N.Chunks.LEN g.I.Unordered.index_key db list is made chain tip batch (subst AreAgreed c.deref.ensures c.bounds.ensures.agreed) knowing held pins,
+      proof-offered g.H.Digest.Digest.bytes g.H.Hasher.hash g.F.Family.shape g.F.Family.births g.met.F.Family.numbered g.met.F.Family.peaked g.C.Store form g.N.Chunks.LEN g.I.Unordered.index_key db list is made chain tip batch (subst AreAgreed c.deref.ensures c.bounds.ensures.agreed) knowing held pins,
       c.in-Ok.ensures.proof list chain tip is (subst (λ b. IsMade (hashing_of g.H.Digest.Digest.bytes g.H.Hasher g.F.Family g.U.Update) b chain tip) (sym c.deref-2.ensures) batch) known,
       c.in-Ok-pinned_nodes.ensures.pins list chain tip is (subst (λ b. IsMade (hashing_of g.H.Digest.Digest.bytes g.H.Hasher g.F.Family g.U.Update) b chain tip) (sym c.deref-in-Ok.ensures) batch) known,
     )
@@ -37,7 +37,7 @@ returns-in-Err-clause-failure g c = λ list chain tip is batch.
     record {
       stale = λ stale. unknown (list_root (hashing_of g.H.Digest.Digest.bytes g.H.Hasher g.F.Family g.U.Update)) list chain tip (sym can ∙ told (λ b. knows b.bounds db.commitment ≡ false) (c.in-Err.ensures.stale stale));
       refused = λ fresh known.
-          proof-due g.H.Digest.Digest.bytes g.H.Hasher.hash g.F.Family.shape g.F.Family.births g.F.Family.numbered g.F.Family.peaked g.C.Store form g.N.Chunks.LEN g.I.Unordered.index_key db list is made chain tip batch (subst AreAgreed c.deref.ensures c.bounds.ensures.agreed) (can ∙ readable-known (list_root (hashing_of g.H.Digest.Digest.bytes g.H.Hasher g.F.Family g.U.Update)) list chain tip known) c.in-Err.error
+          proof-due g.H.Digest.Digest.bytes g.H.Hasher.hash g.F.Family.shape g.F.Family.births g.met.F.Family.numbered g.met.F.Family.peaked g.C.Store form g.N.Chunks.LEN g.I.Unordered.index_key db list is made chain tip batch (subst AreAgreed c.deref.ensures c.bounds.ensures.agreed) (can ∙ readable-known (list_root (hashing_of g.H.Digest.Digest.bytes g.H.Hasher g.F.Family g.U.Update)) list chain tip known) c.in-Err.error
           (told (λ b. IsLacked (held_at g.F.Family.shape b.tree db.log.tree) (needed_positions g.F.Family.shape b.bounds.tip.size b.bounds.base.size b.bounds.tip.size) c.in-Err.error) (c.in-Err.ensures.lacked fresh));
       order = λ fresh other. sym can ∙ told (λ b. knows b.bounds db.commitment ≡ true) (c.in-Err.ensures.order other fresh);
     }
@@ -53,7 +53,7 @@ returns-in-Err-pinned_nodes-clause-failure g c = λ list chain tip is batch.
     record {
       stale = λ stale. unknown (list_root (hashing_of g.H.Digest.Digest.bytes g.H.Hasher g.F.Family g.U.Update)) list chain tip (sym can ∙ told (λ b. knows b.bounds db.commitment ≡ false) (c.in-Err-pinned_nodes.ensures.stale stale));
       refused = λ fresh known.
-          peaks-due g.H.Digest.Digest.bytes g.H.Hasher.hash g.F.Family.shape g.F.Family.births g.F.Family.numbered g.F.Family.peaked g.C.Store form g.N.Chunks.LEN g.I.Unordered.index_key db list is made chain tip batch (subst AreAgreed c.deref.ensures c.bounds.ensures.agreed) (can ∙ readable-known (list_root (hashing_of g.H.Digest.Digest.bytes g.H.Hasher g.F.Family g.U.Update)) list chain tip known) c.in-Err-pinned_nodes.error held
+          peaks-due g.H.Digest.Digest.bytes g.H.Hasher.hash g.F.Family.shape g.F.Family.births g.met.F.Family.numbered g.met.F.Family.peaked g.C.Store form g.N.Chunks.LEN g.I.Unordered.index_key db list is made chain tip batch (subst AreAgreed c.deref.ensures c.bounds.ensures.agreed) (can ∙ readable-known (list_root (hashing_of g.H.Digest.Digest.bytes g.H.Hasher g.F.Family g.U.Update)) list chain tip known) c.in-Err-pinned_nodes.error held
           (told (λ b. IsLacked (held_at g.F.Family.shape b.tree db.log.tree) (peak_positions g.F.Family.shape b.bounds.base.size) c.in-Err-pinned_nodes.error) (c.in-Err-pinned_nodes.ensures.lacked fresh));
       order = λ fresh other. sym can ∙ told (λ b. knows b.bounds db.commitment ≡ true) (c.in-Err-pinned_nodes.ensures.order other fresh);
     }

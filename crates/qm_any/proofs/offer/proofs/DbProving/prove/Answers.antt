@@ -1,8 +1,9 @@
-use Rattle.std.proofs.Common.{◌∙◌, ◌+◌, ap₂, sym, take}
+use Rattle.std.proofs.Common.{◌∙◌, ◌+◌, ap, ap₂, drop, sym, take}
 use Rattle.std.specs.Int.NonZero.{non_zero_u64_get}
 use Rattle.std.proofs.lemmas.Result.{err_from_is_err_and}
 use Rattle.qm_model.specs.Proofs.{ops_proof}
 use Rattle.qm_model.specs.Refusals.{proof_count, proof_refusal}
+use Rattle.qm_operations.specs.Views.{operation_views}
 use Rattle.qm_any.proofs.Reading.{left-database}
 use Rattle.qm_any.specs.Layouts.{hashing_of, layout_of}
 use Rattle.qm_any.proofs.Offered.{err-exit, memory-exit, left-store}
@@ -16,6 +17,12 @@ returns-clause-proof g c = λ list is.
     let max = non_zero_u64_get c.args.max in
     c.in_ok-proof.ensures.proof list is
     ∙ ap₂ (λ n a. ops_proof g.H.Hasher.hash g.F.Family.shape g.U.Update.form (take n list) a (a + proof_count n a max)) c.new-size.ensures c.new-start.ensures
+
+pub returns-clause-ops : goal.returns-clause-ops
+returns-clause-ops g c = λ list is.
+    let max = non_zero_u64_get c.args.max in
+    c.in_ok-operations.ensures ∙ ap (operation_views g.U.Update.view g.U.Key.ByteString.bytes g.U.Value.ByteString.bytes) c.deref.ensures.value ∙ c.in_ok-proof.ensures.operations list is
+    ∙ ap₂ (λ n a. take (proof_count n a max) (drop a list)) c.new-size.ensures c.new-start.ensures
 
 pub returns-in_err-proof-clause-reads : goal.returns-in_err-proof-clause-reads
 returns-in_err-proof-clause-reads g c =
