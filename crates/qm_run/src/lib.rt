@@ -7,4 +7,4 @@ mod program;
 mod ranges;
 
 pub use database::{Database, Kind, Link, Pair};
-pub use program::qmdb_main;
+pub use program::{are_words, qmdb_main};

@@ -2,15 +2,20 @@
 
 ghost use Rattle.std.specs.Prelude.{◌≡◌, None};
 
-use qm_files::FileStore;
+use qm_files::{FileStore, Hold};
 use qm_store::{MetaEntry, Store, StoreError};
 use std::alloc::{Alloc, AllocError, Global};
 use std::fs;
+use std::os::unix::fs::FileExt;
+use std::random::RandomSource;
 use std::rt::Files;
 use std::slice::from_ref;
 use std::test::Fail;
 
 const FOLDER: &str = "qm_tests_files";
+
+// No folder has this name.
+const NOWHERE: &str = "qm_tests_no_files";
 
 // What is done to a folder and its store, a step a line: a call that changes the store, what the store is asked and is to answer,
 // or what is done to a file or which bytes it is to have. A step that begins with `fails` is to be a fault of the store. An entry of
@@ -52,10 +57,12 @@ put grafted kkkkkkkkkold
 put grafted aaaaaaaaax bbbbbbbbb
 file has qm_tests_files/meta-grafted aaaaaaaaa\0\0\0\x01xbbbbbbbbb\0\0\0\0
 # A tail that is no whole entry is dropped, and another name has none.
+file clear qm_tests_files/sum-grafted
 file write qm_tests_files/meta-grafted aaaaaaaaa\0\0\0\x01xbbbbbbbbb\0\0\0\0ccccccccc\0\0\0\x02y
 ask meta grafted aaaaaaaaax bbbbbbbbb
 ask meta other
-# A tail that is no whole item is dropped, and the next item takes its place.
+# A tail that is no whole item is dropped where there are no sums, and the next item takes its place.
+file clear qm_tests_files/sums
 file write qm_tests_files/log \0\0\0\0\0\0\0\x01\0\0\0\x02ab\0\0\0\0\0\0\0\x05three\0\0\0\x09torn
 open
 ask bounds 1 3
@@ -65,6 +72,7 @@ file has qm_tests_files/log \0\0\0\0\0\0\0\x01\0\0\0\x02ab\0\0\0\0\0\0\0\x05thre
 ask item 3 four
 # A file that is cut fails a read past its end, and after a restart its end is that of the items that are left.
 open
+file clear qm_tests_files/sums
 file write qm_tests_files/log \0\0\0\0\0\0\0\x01\0\0\0\x02ab\0\0\0\0\0\0\0\x05three\0\0\0
 fails ask item 3
 ask item 1
@@ -91,6 +99,43 @@ fails restart 3
 fails ask head
 ask faults 2
 ask bounds 1 1
+# What was committed and is not what was written breaks the store, and so does a log that is shorter or missing.
+file write qm_tests_files/log \0\0\0\0\0\0\0\x01\0\0\0\x02ab\0\0\0\0\0\0\0\x05three
+open
+append four
+commit
+file write qm_tests_files/log \0\0\0\0\0\0\0\x01\0\0\0\x02ab\0\0\0\0\0\0\0\x05threa\0\0\0\x04four
+open
+fails ask head
+ask bounds 0 0
+file write qm_tests_files/log \0\0\0\0\0\0\0\x01\0\0\0\x02ab\0\0\0\0\0\0\0\x05three\0\0\0\x04fou
+open
+fails ask head
+file clear qm_tests_files/log
+open
+fails ask head
+# What was not committed is dropped where it is not what was written, and so are zeros.
+file write qm_tests_files/log \0\0\0\0\0\0\0\x01\0\0\0\x02ab\0\0\0\0\0\0\0\x05three\0\0\0\x04four
+open
+ask bounds 1 4
+append five
+append six
+file write qm_tests_files/log \0\0\0\0\0\0\0\x01\0\0\0\x02ab\0\0\0\0\0\0\0\x05three\0\0\0\x04four\0\0\0\x04five\0\0\0\x03siy\0\0\0\0\0\0\0\0
+open
+ask bounds 1 5
+ask item 4 five
+commit
+file has qm_tests_files/log \0\0\0\0\0\0\0\x01\0\0\0\x02ab\0\0\0\0\0\0\0\x05three\0\0\0\x04four\0\0\0\x04five
+# Metadata that is not what was written is a fault.
+put grafted aaaaaaaaax
+file write qm_tests_files/meta-grafted aaaaaaaaa\0\0\0\x01y
+fails ask meta grafted
+# A destroy that was cut off is finished.
+file write qm_tests_files/destroyed
+open
+ask bounds 0 0
+ask meta grafted
+append one
 # What is destroyed leaves nothing in the folder.
 open
 destroy
@@ -209,15 +254,22 @@ fn file<R: Files + Alloc<A = Global>>(rt: &R, step: &str) -> Result<bool, StoreE
 }
 
 // Does what a step says, and answers whether it is so.
-fn is_so<R: Files + Alloc<A = Global> + Clone + Drop>(
+fn is_so<R: Files + RandomSource + Alloc<A = Global> + Clone + Drop>(
     rt: &R,
     store: &mut FileStore<R>,
     step: &str,
-) -> Result<bool, StoreError> {
+) -> Result<bool, StoreError>
+where
+    R::File: FileExt + Hold,
+{
     let (kind, given) = step.split_once(' ').unwrap_or((step, ""));
     match kind {
         "#" => {}
-        "open" => *store = FileStore::open(rt.clone()?, rt.alloc(), FOLDER)?,
+        "open" => {
+            // The store before gives the folder free.
+            *store = FileStore::open(rt.clone()?, rt.alloc(), NOWHERE)?;
+            *store = FileStore::open(rt.clone()?, rt.alloc(), FOLDER)?;
+        }
         "file" => return file(rt, given),
         "ask" => return is_answered(store, given),
         _ => change(store, rt.alloc(), step)?,
@@ -236,10 +288,13 @@ fn is_due(line: &str, done: Result<bool, StoreError>) -> bool {
 }
 
 // The first line that is not so of a store, or the empty one.
-fn first_wrong<R: Files + Alloc<A = Global> + Clone + Drop>(
+fn first_wrong<R: Files + RandomSource + Alloc<A = Global> + Clone + Drop>(
     rt: &R,
     store: &mut FileStore<R>,
-) -> &'static str {
+) -> &'static str
+where
+    R::File: FileExt + Hold,
+{
     for line in STEPS.lines() {
         let step = line.strip_prefix("fails ").unwrap_or(line);
         if !is_due(line, is_so(rt, store, step)) {
