@@ -6,38 +6,64 @@
 //!
 //! | file | has |
 //! |---|---|
-//! | `log` | the location of the first item, the head behind its length, then each item behind its length |
-//! | `meta-NAME` | the metadata of a name: each entry as its key of 9 bytes, then its bytes behind their length |
-//! | `log.new`, `meta-NAME.new` | a file that is not finished. It is never read, and the next of its name begins anew |
+//! | `log` | the location of the first item, the head after its length, then each item after its length |
+//! | `sums` | sums of the log and what of it was committed (the head of `sums.rt` has the form) |
+//! | `meta-NAME` | the metadata of a name: each entry as its key of 9 bytes, then its bytes after their length |
+//! | `sum-NAME` | sums of the bytes that `meta-NAME` had before it was last written, if it was there, and of those after |
+//! | `destroyed` | nothing: it stands while a store is being destroyed |
+//! | `FILE.new` | a file that is not finished, or that has not taken its place |
 //!
-//! A folder or a file that is missing, or a `log` without a byte, is an empty one. The folder is made when something is first
-//! written. A tail of a file that is no whole item, or no whole entry, is dropped when the file is read.
+//! A folder that is missing, or a `log` without a byte and without sums, is an empty store. The folder is made when something is
+//! first written. A folder without `sums`, as older programs wrote it, is read as far as its items are whole, and its first append,
+//! rewind or prune makes sums of it. Metadata without `sum-NAME` is read as it stands.
 //!
 //! # States
 //!
-//! `open` reads the log once. If that succeeds the store is *open*: it keeps a handle to the log, and of each item where it ends,
-//! and reads items by their places. Else it is *broken*: it starts at 0 and has no items, and each call that may fail does. A
-//! store whose `restart` finds another start than before, or an end past the old one, is broken from then on, too, with its start
-//! as it was. Nothing leads from broken to open but another `open`.
+//! `open` takes the folder, which no other store has until this one is dropped, and reads log and sums once. If that succeeds the
+//! store is *open*: it keeps handles to the files, and of each item where it ends, and reads items by their places. Else it is
+//! *broken*: it starts at 0 and has no items, and each call that may fail does; `trouble` says why. A store is broken from then on,
+//! with its start as it was, where a sync of the log or of the folder fails, a file can not be put in its place, a step of a
+//! `destroy` fails, metadata is not what was written, another store was faster to make the folder, or a `restart` finds another start
+//! than before, an end past the old one, or damage. Nothing leads from broken to open but another `open`.
+//!
+//! # What an opening makes of the files
+//!
+//! | found | done |
+//! |---|---|
+//! | another store has the folder | broken |
+//! | `destroyed` | the store's files are removed, then `destroyed`: an empty store |
+//! | neither `log` nor `sums` | an empty store |
+//! | `sums` and no `log` | broken |
+//! | `log` without `sums`, or with those of another beginning; `sums.new` fits it | `sums.new` takes its place |
+//! | `sums` whose head, first record or record of a commit is not right | broken |
+//! | a `log` that is shorter than what was committed, or differs in it | broken |
+//! | a `log` that has what was committed, and more | it ends where the last record of the sums ends that fits; what is after that is cut before the next write or commit |
+//! | `FILE.new` beside a store that opens | removed |
+//!
+//! Where a store is broken nothing is cut, written or removed.
 //!
 //! # What calls do, and what a crash inside of them leaves
 //!
-//! | call | does | a crash leaves |
-//! |---|---|---|
-//! | `append` | one write behind the last item; before the first one, the log with neither head nor item as `prune` writes it | a first part of the items |
-//! | `commit`, `sync` | syncs the log | the items from before |
-//! | `rewind` | cuts the log, syncs it | the items from before, or a first part of them that has those that stay |
-//! | `prune` | writes `log.new`, syncs it, reads it, renames it to `log`, syncs the folder | the old log or the new one |
-//! | `put_meta` | writes `meta-NAME.new`, syncs it, renames it to `meta-NAME`, syncs the folder | the old entries or the new ones |
-//! | `restart` | reads the log again, syncs it | the items from before |
-//! | `destroy` | removes the log, then the other files, syncs the folder | all, or some metadata and no log, or nothing |
+//! A kill ends the process; a power cut also takes away what was not synced, in any order.
 //!
-//! The folder's own name in the folder above is not synced: who wants it to outlive a crash makes the folder beforehand.
+//! | call | does | a kill leaves | a power cut leaves |
+//! |---|---|---|---|
+//! | the first `append` | as `prune`, with the items in the new log | no log, or one with all its items | the same |
+//! | `append` | one write after the last item, one of a record of the sums | the items from before, or all of them | the committed items and some first part of the later ones that ends with an append |
+//! | `commit`, `sync` | syncs the log, writes two records of the sums, syncs their data | the items from before | before Ok: as an append; after it all items |
+//! | `rewind` | syncs the log, says in the sums that it ends at the place, syncs them, cuts the log, syncs it | the items from before or those that stay | the items from before, as after a commit or an append, or those that stay |
+//! | `prune` | writes `log.new` and `sums.new`, syncs them and the folder, renames `log.new`, syncs the folder, renames `sums.new`, syncs the folder | the old log or the new one | the old log, as far as it was committed at least, or the new one |
+//! | `put_meta` | writes, syncs, renames `sum-NAME.new`, syncs the folder; then `meta-NAME.new` likewise | the old entries or the new ones | the same |
+//! | `restart` | reads log and sums again, commits | the items from before | as a commit |
+//! | `destroy` | makes `destroyed`, syncs the folder; removes the store's files, syncs; removes `destroyed`, syncs | all, or nothing once the next opening has finished it | the same |
 //!
-//! A write that fails may have put bytes behind the last item that counts. They are cut before the next write, and are no whole
-//! item for a store that opens the log before that.
+//! The folder's own name in the folder above is not synced: who wants it to outlive a power cut makes the folder beforehand.
 //!
-//! One store at a time has a folder: nothing is locked. What files really hold is outside of what is proved.
+//! A write that fails may have put bytes after the last item that counts. They count no more: they are cut before the next write, and
+//! have no record for a store that opens the log before that. New files are made anew and not through links, with the permissions of
+//! the file that they replace; where one can not be finished it is removed, at the latest by the next opening.
+//!
+//! What files really hold is outside of what is proved.
 #![tactic(auto)]
 
 ghost use Rattle.std.specs.Prelude.{◌≡◌, ◌+◌, ◌^◌, ◌≤◌, ◌<◌, length, None, IfOk, OnOk, IsErrOf};

@@ -2,7 +2,7 @@
 
 ghost use Rattle.std.specs.Prelude.{◌≡◌, None};
 
-use qm_files::{FileStore, Hold};
+use qm_files::{FileStore, Hold, Trouble};
 use qm_store::{MetaEntry, Store, StoreError};
 use std::alloc::{Alloc, AllocError, Global};
 use std::fs;
@@ -13,6 +13,8 @@ use std::slice::from_ref;
 use std::test::Fail;
 
 const FOLDER: &str = "qm_tests_files";
+
+const LOG: &str = "qm_tests_files/log";
 
 // No folder has this name.
 const NOWHERE: &str = "qm_tests_no_files";
@@ -114,6 +116,9 @@ fails ask head
 file clear qm_tests_files/log
 open
 fails ask head
+# So does each byte of it that is changed, and nothing is cut or written.
+file write qm_tests_files/log \0\0\0\0\0\0\0\x01\0\0\0\x02ab\0\0\0\0\0\0\0\x05three\0\0\0\x04four
+changes
 # What was not committed is dropped where it is not what was written, and so are zeros.
 file write qm_tests_files/log \0\0\0\0\0\0\0\x01\0\0\0\x02ab\0\0\0\0\0\0\0\x05three\0\0\0\x04four
 open
@@ -126,10 +131,31 @@ ask bounds 1 5
 ask item 4 five
 commit
 file has qm_tests_files/log \0\0\0\0\0\0\0\x01\0\0\0\x02ab\0\0\0\0\0\0\0\x05three\0\0\0\x04four\0\0\0\x04five
+# Another store does not get the folder, and one that is opened later does.
+held
+open
+ask bounds 1 5
+# New files that took no place are removed.
+file write qm_tests_files/log.new torn
+file write qm_tests_files/sums.new torn
+file write qm_tests_files/meta-grafted.new torn
+open
+file gone qm_tests_files/log.new
+file gone qm_tests_files/sums.new
+file gone qm_tests_files/meta-grafted.new
+# Where a file can not be put in its place the store is broken.
+file folder qm_tests_files/sum-other
+fails put other aaaaaaaaax
+fails ask head
+file remove qm_tests_files/sum-other
+open
+file gone qm_tests_files/sum-other.new
+ask bounds 1 5
 # Metadata that is not what was written is a fault.
 put grafted aaaaaaaaax
 file write qm_tests_files/meta-grafted aaaaaaaaa\0\0\0\x01y
 fails ask meta grafted
+fails ask head
 # A destroy that was cut off is finished.
 file write qm_tests_files/destroyed
 open
@@ -141,6 +167,11 @@ open
 destroy
 ask bounds 0 0
 ask meta grafted
+# A first append that was cut off leaves an empty store.
+file write qm_tests_files/log.new torn
+open
+ask bounds 0 0
+file gone qm_tests_files/log.new
 file remove qm_tests_files
 # Where no folder can be, each call fails and is counted.
 file write qm_tests_files no folder
@@ -244,12 +275,41 @@ fn file<R: Files + Alloc<A = Global>>(rt: &R, step: &str) -> Result<bool, StoreE
     match call {
         "has" => return Ok(fs::read(rt, path)?.as_slice() == bytes.as_bytes()),
         "write" => fs::write(rt, path, bytes)?,
+        "gone" => return Ok(fs::read(rt, path).is_err()),
+        "folder" => fs::create_dir(rt, path)?,
         "remove" => fs::remove_dir(rt, path)?,
         _ => {
             let _ = fs::remove_dir_all(rt, path);
             let _ = fs::remove_file(rt, path);
         }
     }
+    Ok(true)
+}
+
+// Whether a log with one byte that is changed, each in turn, is told by the store over it, and left as it is.
+fn is_each_change_told<R: Files + RandomSource + Alloc<A = Global> + Clone + Drop>(
+    rt: &R,
+) -> Result<bool, StoreError>
+where
+    R::File: FileExt + Hold,
+{
+    let log = fs::read(rt, LOG)?;
+    for i in 0..log.len() {
+        let mut changed = log.as_slice().to_vec(rt.alloc())?;
+        if let Some(byte) = changed.get_mut(i) {
+            *byte ^= 1;
+        }
+        fs::write(rt, LOG, changed.as_slice())?;
+        let store = FileStore::open(rt.clone()?, rt.alloc(), FOLDER)?;
+        let is_told = match store.trouble() {
+            Trouble::LogDiffers(from, to) => from <= i as u64 && (i as u64) < to,
+            _ => false,
+        };
+        if !is_told || fs::read(rt, LOG)?.as_slice() != changed.as_slice() {
+            return Ok(false);
+        }
+    }
+    fs::write(rt, LOG, log.as_slice())?;
     Ok(true)
 }
 
@@ -266,9 +326,17 @@ where
     match kind {
         "#" => {}
         "open" => {
-            // The store before gives the folder free.
+            // The store before lets go of the folder.
             *store = FileStore::open(rt.clone()?, rt.alloc(), NOWHERE)?;
             *store = FileStore::open(rt.clone()?, rt.alloc(), FOLDER)?;
+        }
+        "changes" => {
+            *store = FileStore::open(rt.clone()?, rt.alloc(), NOWHERE)?;
+            return is_each_change_told(rt);
+        }
+        "held" => {
+            let other = FileStore::open(rt.clone()?, rt.alloc(), FOLDER)?;
+            return Ok(other.trouble() == Trouble::InUse && other.bounds() == (0, 0));
         }
         "file" => return file(rt, given),
         "ask" => return is_answered(store, given),

@@ -31,6 +31,8 @@ const NOT_WRITTEN: u8 = 4;
 
 const NO_MEMORY: u8 = 5;
 
+const STORE_FAILED: u8 = 6;
+
 // The words after the program's name, or the status to end with. Words that are no UTF-8 are other words.
 fn words<R: Env + AllocGlobal>(rt: &R) -> Result<Vec<String>, u8>
     ensures { IfErr result (λ status. (status ≡ OTHER_WORDS) ⊎ (status ≡ NO_MEMORY)) }
@@ -59,42 +61,36 @@ fn reason(status: u8) -> &'static str {
         NOT_READ => "the input can not be read",
         NOT_WRITTEN => "the output can not be written",
         NO_MEMORY => "out of memory",
-        6 => "the store failed; the output has the replies before it",
+        STORE_FAILED => "the store failed; the output has the replies before it",
         _ => "more than 16,777,216 bytes of input",
     }
 }
 
-// What stands in the place of the standard streams that are closed, so that no file of the store does, and the status to end with
-// where the input or the output is one of them. A folder can be neither read nor written as a stream.
-fn closed_streams<R: Files<File = File>>(rt: &R) -> (Option<File>, Option<u8>) {
-    let mut status = None;
-    let mut kept = None;
-    for _ in 0..4 {
-        let Ok(file) = fs::open(rt, "/") else {
-            return (kept, Some(6));
-        };
-        match file.as_raw_fd() {
-            0 => return (Some(file), Some(NOT_READ)),
-            1 => return (Some(file), Some(NOT_WRITTEN)),
-            2 => kept = Some(file),
-            _ => break,
-        }
+// What stands in the place of a standard stream that is closed, so that no file of the store does, and the status to end with where
+// that is the input or the output. A folder can be neither read nor written as a stream.
+fn closed_stream<R: Files<File = File>>(rt: &R) -> (Option<File>, Option<u8>) {
+    let Ok(first) = fs::open(rt, "/") else {
+        return (None, Some(STORE_FAILED));
+    };
+    match first.as_raw_fd() {
+        0 => (Some(first), Some(NOT_READ)),
+        1 => (Some(first), Some(NOT_WRITTEN)),
+        2 => (Some(first), None),
+        _ => (None, None),
     }
-    (kept, status)
 }
 
-// Says what is known of a store that is broken.
-fn tell<R: Eprint>(rt: &R, trouble: Trouble) {
+// Says what is known of a store that is broken, and of which file of metadata.
+fn tell<R: Eprint>(rt: &R, trouble: Trouble, damaged: &str) {
     let _ = match trouble {
         Trouble::Unknown => Ok(()),
         Trouble::InUse => eprintln!(rt; "qmdb: {FOLDER} is in use"),
         Trouble::LogIsMissing => eprintln!(rt; "qmdb: {FOLDER}/log is missing"),
         Trouble::Sums => eprintln!(rt; "qmdb: {FOLDER}/sums is not what was written"),
-        Trouble::LogBegins => eprintln!(rt; "qmdb: {FOLDER}/log: its beginning is not what was written"),
         Trouble::LogIsShort(end) => eprintln!(rt; "qmdb: {FOLDER}/log ends before byte {end}, up to which it was committed"),
         Trouble::LogDiffers(from, to) => eprintln!(rt; "qmdb: {FOLDER}/log: from byte {from} to {to} something is not what was written"),
-        Trouble::Metadata => eprintln!(rt; "qmdb: {FOLDER}: metadata is not what was written"),
-        Trouble::NotStable => eprintln!(rt; "qmdb: {FOLDER}: a sync failed"),
+        Trouble::Metadata => eprintln!(rt; "qmdb: {FOLDER}/{damaged}: from byte 0 to its end something is not what was written"),
+        Trouble::NotStable => eprintln!(rt; "qmdb: {FOLDER}: a sync failed, or a file could not be put in its place"),
     };
 }
 
@@ -119,7 +115,7 @@ fn main(rt: HostRuntime) -> ExitCode {
     if !are_words(&words) {
         return ended(&rt, OTHER_WORDS);
     }
-    let (kept, status) = closed_streams(&rt);
+    let (kept, status) = closed_stream(&rt);
     if let Some(status) = status {
         return ended(&rt, status);
     }
@@ -129,8 +125,8 @@ fn main(rt: HostRuntime) -> ExitCode {
         return ended(&rt, NO_MEMORY);
     };
     let (status, store) = qmdb_main(alloc, &words, store, &mut source, &mut sink, &OpenGate);
-    if status == 6 {
-        tell(&rt, store.trouble());
+    if status == STORE_FAILED {
+        tell(&rt, store.trouble(), store.damaged().unwrap_or(""));
     }
     drop(kept);
     ended(&rt, status)
