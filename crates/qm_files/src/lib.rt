@@ -258,7 +258,9 @@ where
     }
 
     // Takes the folder and reads what it has. What a crash left unfinished is finished, or taken away.
-    fn load(&mut self) -> Result<(), StoreError> {
+    fn load(&mut self) -> Result<(), StoreError>
+        ensures { self.new.faults ≡ self.old.faults }
+    {
         match self.folder.hold()? {
             Held::Missing => return Ok(()),
             Held::InUse => return self.fails(Trouble::InUse),
@@ -281,7 +283,9 @@ where
     }
 
     // The log and its sums. Where there are none beside it, it counts as far as its items are whole.
-    fn read_files(&mut self) -> Result<(LogFile<R::File>, Option<Sums<R::File>>), StoreError> {
+    fn read_files(&mut self) -> Result<(LogFile<R::File>, Option<Sums<R::File>>), StoreError>
+        ensures { self.new ≡ self.old }
+    {
         let alloc = self.folder.alloc();
         let sums = self.folder.open(&writing(), SUMS)?;
         let Some(file) = self.folder.open(&writing(), LOG)? else {
@@ -309,7 +313,7 @@ where
     }
 
     // The sums that were made for a log which has taken its place, where they have not taken theirs. They take it.
-    fn new_sums(&mut self, log: &R::File) -> Result<Option<Sums<R::File>>, StoreError> {
+    fn new_sums(&self, log: &R::File) -> Result<Option<Sums<R::File>>, StoreError> {
         let alloc = self.folder.alloc();
         let Some(file) = self.folder.open_new(&writing(), SUMS)? else {
             return Ok(None);
@@ -600,7 +604,6 @@ where
     ) -> Result<(), StoreError>
         requires from { self.old.items.start ≤ to }
         requires before { to ≤ end_of self.old.items }
-        requires room { end_of self.old.items + more ≤ 2 ^ 62 }
         ensures ok { OnOk result (self.new.items.start ≡ to) }
         ensures ok_end { OnOk result (end_of self.new.items ≡ end_of self.old.items + more) }
         ensures grows { end_of self.old.items ≤ end_of self.new.items }
