@@ -20,6 +20,7 @@ const DESTROYED: &str = "destroyed";
 
 // What the names of files of metadata begin with, and those of their sums.
 const META: &str = "meta-";
+
 const META_SUM: &str = "sum-";
 
 // What the name of a new file ends with, until it takes the place of the old one.

@@ -77,7 +77,6 @@ use qm_store::{MetaEntry, Store, StoreError};
 use spelled::{read_entries, spelled_entries, spelled_head, spelled_items};
 use std::alloc::{AllocError, Global};
 use std::fs::{OpenFile, OpenOptions};
-use std::io::{Read, Write};
 use std::marker::Model;
 use std::os::unix::fs::FileExt;
 use std::random::RandomSource;

@@ -30,7 +30,7 @@ pub(crate) struct LogFile<F> {
     first: u64,
     // where each item ends
     ends: Vec<u64>,
-    // whether the file may go on behind the last item
+    // whether the file may go on after the last item
     has_tail: bool,
     // bytes of the file from a place on, for items that are read in a row, and how many of them count
     window: Vec<u8>,
@@ -158,7 +158,7 @@ impl<F: Read + Seek + OpenFile + FileExt + Drop> LogFile<F> {
         self.place(self.ends.len())
     }
 
-    // Whether the file may go on behind the last item.
+    // Whether the file may go on after the last item.
     pub(crate) fn has_tail(&self) -> bool {
         self.has_tail
     }
@@ -231,7 +231,7 @@ impl<F: Read + Seek + OpenFile + FileExt + Drop> LogFile<F> {
         Ok(())
     }
 
-    // Writes these behind the last item, as they are spelled, by one write. Where that fails, none of them counts.
+    // Writes these after the last item, as they are spelled, by one write. Where that fails, none of them counts.
     pub(crate) fn append(&mut self, spelled: &[u8], added: &[Vec<u8>]) -> Result<(), StoreError>
         requires room { end_of self.old + length added.now ≤ 2 ^ 62 }
         ensures ok { OnOk result (self.new.count ≡ self.old.count + length added.now) }
@@ -250,7 +250,7 @@ impl<F: Read + Seek + OpenFile + FileExt + Drop> LogFile<F> {
         written
     }
 
-    // Notes where these end behind the last item, all of them or none.
+    // Notes where these end after the last item, all of them or none.
     fn note(&mut self, added: &[Vec<u8>]) -> Result<(), StoreError>
         requires room { end_of self.old + length added.now ≤ 2 ^ 62 }
         ensures ok { OnOk result (self.new ≡ record self.old { count = self.old.count + length added.now }) }
@@ -274,7 +274,7 @@ impl<F: Read + Seek + OpenFile + FileExt + Drop> LogFile<F> {
         self.has_tail = true;
     }
 
-    // Takes away what the file has behind the last item.
+    // Takes away what the file has after the last item.
     pub(crate) fn cut_tail(&mut self) -> Result<(), StoreError>
         ensures { self.new ≡ self.old }
     {
@@ -285,7 +285,7 @@ impl<F: Read + Seek + OpenFile + FileExt + Drop> LogFile<F> {
         Ok(())
     }
 
-    // Takes the items from this number on away, and whatever else the file has behind them.
+    // Takes the items from this number on away, and whatever else the file has after them.
     pub(crate) fn cut(&mut self, count: usize) -> Result<(), StoreError>
         requires { count ≤ self.old.count }
         ensures ok { OnOk result (self.new ≡ record self.old { count = count }) }
@@ -309,8 +309,14 @@ impl<F: Read + Seek + OpenFile + FileExt + Drop> LogFile<F> {
         Ok(())
     }
 
-    // Copies the items from this number on behind what another file has, through a buffer of fixed size.
-    pub(crate) fn copy_items(&mut self, alloc: Global, index: usize, into: &F, at: u64) -> Result<(), StoreError>
+    // Copies the items from this number on after what another file has, through a buffer of fixed size.
+    pub(crate) fn copy_items(
+        &mut self,
+        alloc: Global,
+        index: usize,
+        into: &F,
+        at: u64,
+    ) -> Result<(), StoreError>
         requires { index ≤ self.old.count }
         ensures { self.new ≡ self.old }
     {
@@ -371,7 +377,7 @@ fn note_ends(ends: &mut Vec<u64>, from: u64, added: &[Vec<u8>]) -> Result<(), St
     Ok(())
 }
 
-// Where the first item begins. The reader stands behind the location of the start, and is moved there.
+// Where the first item begins. The reader stands after the location of the start, and is moved there.
 fn pass_head<R: Read + Seek>(reader: &mut R, size: u64) -> Result<u64, StoreError> {
     let length = read_length(reader)?;
     let first = BEFORE_HEAD + u64::from(length);

@@ -1,6 +1,6 @@
 // A file that is read piece by piece.
 
-ghost use Rattle.std.specs.Prelude.{◌≡◌, ◌+◌, ◌-◌, ◌<◌, ◌≤◌, length, IfOk};
+ghost use Rattle.std.specs.Prelude.{◌≡◌, ◌+◌, ◌<◌, length, IfOk};
 
 use qm_store::StoreError;
 use std::alloc::Global;
@@ -31,7 +31,12 @@ impl Pieces {
     }
 
     // The bytes from one place of a file on, up to another one, as many as there is room for.
-    pub(crate) fn read<F: FileExt>(&mut self, file: &F, from: u64, to: u64) -> Result<&[u8], StoreError>
+    pub(crate) fn read<F: FileExt>(
+        &mut self,
+        file: &F,
+        from: u64,
+        to: u64,
+    ) -> Result<&[u8], StoreError>
         requires { from < to }
         ensures { IfOk result (λ piece. 0 < length piece.now) }
     {

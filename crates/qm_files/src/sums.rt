@@ -10,8 +10,6 @@
 // The file ends with zeros, room for further records: a sync of one that is put there waits for its bytes alone, and not for the file
 // system's journal, as it would where the file grew.
 
-ghost use Rattle.std.specs.Prelude.{◌≡◌};
-
 use crate::pieces::{Pieces, after};
 use qm_store::StoreError;
 use std::alloc::Global;
@@ -32,7 +30,9 @@ pub(crate) const META_NAME: [u8; 8] = *b"qmdbmet1";
 
 // What a record says of the bytes before its place.
 const BEGUN: u64 = 1;
+
 const WRITTEN: u64 = 2;
+
 const COMMITTED: u64 = 3;
 
 // The key of the sums of a file.
@@ -347,7 +347,11 @@ pub(crate) fn matched<F: FileExt + OpenFile + Drop>(
     Ok(Fit::Fits(Sums {
         file,
         key: told.key,
-        at: if is_clean { told.later_at } else { told.bound_at },
+        at: if is_clean {
+            told.later_at
+        } else {
+            told.bound_at
+        },
         hasher: at_kept,
         end: kept,
         committed: told.bound.end,

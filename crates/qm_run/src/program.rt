@@ -68,7 +68,9 @@ fn kind_from(words: &[String]) -> Option<bool>
 }
 
 /// Whether the words after the program's name are those of a run.
-pub fn are_words(words: &[String]) -> bool {
+pub fn are_words(words: &[String]) -> bool
+    ensures { result ≡ are_words (map string_bytes words.now) }
+{
     kind_from(words).is_some()
 }
 

@@ -8,8 +8,8 @@ use qm_base::OpenGate;
 use qm_files::{FileStore, Trouble};
 use qm_lines::{StdSink, StdSource};
 use qm_run::{are_words, qmdb_main};
-use std::io::ErrorKind;
 use std::fs::File;
+use std::io::ErrorKind;
 use std::os::fd::AsRawFd;
 use std::process::ExitCode;
 use std::rt::{Env, Files};
@@ -87,10 +87,18 @@ fn tell<R: Eprint>(rt: &R, trouble: Trouble, damaged: &str) {
         Trouble::InUse => eprintln!(rt; "qmdb: {FOLDER} is in use"),
         Trouble::LogIsMissing => eprintln!(rt; "qmdb: {FOLDER}/log is missing"),
         Trouble::Sums => eprintln!(rt; "qmdb: {FOLDER}/sums is not what was written"),
-        Trouble::LogIsShort(end) => eprintln!(rt; "qmdb: {FOLDER}/log ends before byte {end}, up to which it was committed"),
-        Trouble::LogDiffers(from, to) => eprintln!(rt; "qmdb: {FOLDER}/log: from byte {from} to {to} something is not what was written"),
-        Trouble::Metadata => eprintln!(rt; "qmdb: {FOLDER}/{damaged}: from byte 0 to its end something is not what was written"),
-        Trouble::NotStable => eprintln!(rt; "qmdb: {FOLDER}: a sync failed, or a file could not be put in its place"),
+        Trouble::LogIsShort(end) => eprintln!(rt;
+            "qmdb: {FOLDER}/log ends before byte {end}, up to which it was committed"
+        ),
+        Trouble::LogDiffers(from, to) => eprintln!(rt;
+            "qmdb: {FOLDER}/log: from byte {from} to {to} something is not what was written"
+        ),
+        Trouble::Metadata => eprintln!(rt;
+            "qmdb: {FOLDER}/{damaged}: from byte 0 to its end something is not what was written"
+        ),
+        Trouble::NotStable => eprintln!(rt;
+            "qmdb: {FOLDER}: a sync failed, or a file could not be put in its place"
+        ),
     };
 }
 
