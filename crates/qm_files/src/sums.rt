@@ -474,10 +474,14 @@ impl<F: FileExt + OpenFile + Drop> Sums<F> {
 
     // Says that what is summed up is committed, and syncs that, where it was not said and synced before. The log was synced.
     pub(crate) fn commit(&mut self) -> Result<(), StoreError> {
-        if self.is_clean && self.is_stable && self.committed == self.end {
-            return Ok(());
+        if !self.is_clean || self.committed != self.end {
+            return self.say_committed();
         }
-        self.say_committed()
+        if !self.is_stable {
+            self.file.sync_all()?;
+            self.is_stable = true;
+        }
+        Ok(())
     }
 
     // Puts the two records of a commit, and syncs them.
