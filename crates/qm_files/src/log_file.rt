@@ -3,12 +3,14 @@
 ghost use Rattle.std.specs.Prelude.{◌≡◌, ◌+◌, ◌^◌, ◌<◌, ◌≤◌, IsTrue, length, IfOk, IfSome, OnOk, OnErr};
 ghost use Rattle.qm_files.specs.Files.{end_of};
 
-use crate::spelled::{LENGTH_SIZE, read_bytes, read_length, read_location, spelled_items};
+use crate::pieces::{Pieces, after};
+use crate::spelled::{LENGTH_SIZE, read_length, read_location};
 use qm_store::StoreError;
 use std::alloc::Global;
 use std::fs::OpenFile;
-use std::io::{self, BufReader, Read, Seek, SeekFrom, Write};
+use std::io::{BufReader, Read, Seek};
 use std::marker::Model;
+use std::os::unix::fs::FileExt;
 
 // How much of a file is in memory while its items are indexed.
 const BUFFER: usize = 64 * 1024;
@@ -28,8 +30,14 @@ pub(crate) struct LogFile<F> {
     first: u64,
     // where each item ends
     ends: Vec<u64>,
-    // whether the file may go on behind the last item
+    // whether the file may go on after the last item
     has_tail: bool,
+    // bytes of the file from a place on, for items that are read in a row, and how many of them count
+    window: Vec<u8>,
+    window_at: u64,
+    filled: usize,
+    // the number of the item after the one that was read last
+    next: usize,
 }
 
 impl<F> Model for LogFile<F> {
@@ -55,6 +63,10 @@ impl<F> LogFile<F> {
             first: BEFORE_HEAD,
             ends: Vec::new(alloc),
             has_tail: false,
+            window: Vec::new(alloc),
+            window_at: 0,
+            filled: 0,
+            next: 0,
         }
     }
 
@@ -87,7 +99,7 @@ impl<F> LogFile<F> {
     }
 
     // Where the item of this number begins in the file, or would begin.
-    fn place(&self, index: usize) -> u64
+    pub(crate) fn place(&self, index: usize) -> u64
         requires { index ≤ self.now.count }
     {
         match index.checked_sub(1) {
@@ -97,14 +109,15 @@ impl<F> LogFile<F> {
     }
 }
 
-impl<F: Read + Write + Seek + OpenFile + Drop> LogFile<F> {
-    // The log in a file, which is none where that has no byte. The file is read once, through a buffer of fixed size, and each item
-    // takes 8 bytes of memory.
-    pub(crate) fn of(alloc: Global, file: F) -> Result<LogFile<F>, StoreError> {
-        let size = file.metadata()?.len();
-        if size == 0 {
+impl<F: Read + Seek + OpenFile + FileExt + Drop> LogFile<F> {
+    // The log in a file, which is none where that has no byte. Where it is said how many of its bytes count, it is to end with
+    // them. The file is read once, through a buffer of fixed size, and each item takes 8 bytes of memory.
+    pub(crate) fn of(alloc: Global, file: F, kept: Option<u64>) -> Result<LogFile<F>, StoreError> {
+        let whole = file.metadata()?.len();
+        if whole == 0 {
             return Ok(LogFile::none(alloc, 0));
         }
+        let size = kept.unwrap_or(whole).min(whole);
         let mut reader = BufReader::with_capacity(alloc, BUFFER, file)?;
         reader.rewind()?;
         let start = read_location(&mut reader)?;
@@ -114,60 +127,130 @@ impl<F: Read + Write + Seek + OpenFile + Drop> LogFile<F> {
             return Err(StoreError::Failed);
         }
         let end = *ends.last().unwrap_or(&first);
+        if kept.is_some() && kept != Some(end) {
+            return Err(StoreError::Failed);
+        }
         Ok(LogFile {
             file: Some(reader.into_inner()),
             start,
             first,
             ends,
-            has_tail: end < size,
+            has_tail: end < whole,
+            window: Vec::new(alloc),
+            window_at: 0,
+            filled: 0,
+            next: 0,
         })
+    }
+
+    // The file, where there is one.
+    pub(crate) fn file(&self) -> Option<&F> {
+        self.file.as_ref()
+    }
+
+    // Where the first item begins in the file.
+    pub(crate) fn first(&self) -> u64 {
+        self.first
+    }
+
+    // Where the last item ends in the file.
+    pub(crate) fn end_place(&self) -> u64 {
+        self.place(self.ends.len())
+    }
+
+    // Whether the file may go on after the last item.
+    pub(crate) fn has_tail(&self) -> bool {
+        self.has_tail
     }
 
     // The head, which is empty where there is no file.
     pub(crate) fn head(&mut self, alloc: Global) -> Result<Vec<u8>, StoreError>
         ensures { self.new ≡ self.old }
     {
-        if self.file.is_none() {
+        let Some(file) = &self.file else {
             return Ok(Vec::new(alloc));
-        }
+        };
         let size = between(BEFORE_HEAD, self.first)?;
-        let file = at(&mut self.file, BEFORE_HEAD)?;
-        read_bytes(alloc, file, size)
+        let mut bytes = vec![in alloc; 0u8; size as usize]?;
+        file.read_exact_at(&mut bytes, BEFORE_HEAD)?;
+        Ok(bytes)
     }
 
-    // The item of this number.
+    // The item of this number. Where it is the one after the last that was read, the file is read 64 KiB at a time.
     pub(crate) fn item(&mut self, alloc: Global, index: usize) -> Result<Vec<u8>, StoreError>
         requires { index < self.old.count }
         ensures { self.new ≡ self.old }
     {
         let from = self.place(index).saturating_add(LENGTH_SIZE);
-        let size = between(from, self.ends[index])?;
-        let file = at(&mut self.file, from)?;
-        read_bytes(alloc, file, size)
+        let size = between(from, self.ends[index])? as usize;
+        let in_row = index == self.next;
+        self.next = index.saturating_add(1);
+        if in_row && size < BUFFER && self.windowed(from, size).is_none() {
+            self.fill(from)?;
+        }
+        if let Some(bytes) = self.windowed(from, size) {
+            return Ok(bytes.to_vec(alloc)?);
+        }
+        let Some(file) = &self.file else {
+            return Err(StoreError::Failed);
+        };
+        let mut bytes = vec![in alloc; 0u8; size]?;
+        file.read_exact_at(&mut bytes, from)?;
+        Ok(bytes)
     }
 
-    // Writes these behind the last item, by one write. Where that fails, those count that were written whole.
-    pub(crate) fn append(&mut self, alloc: Global, added: &[Vec<u8>]) -> Result<(), StoreError>
+    // The bytes of the window from a place on, where it has that many.
+    fn windowed(&self, from: u64, size: usize) -> Option<&[u8]> {
+        let at = from.checked_sub(self.window_at)? as usize;
+        let end = at.checked_add(size)?;
+        if end > self.filled {
+            return None;
+        }
+        self.window.get(at..end)
+    }
+
+    // Fills the window from a place on, as far as items go. Where that can not be read the window has nothing.
+    fn fill(&mut self, from: u64) -> Result<(), StoreError>
+        ensures { self.new ≡ self.old }
+    {
+        self.filled = 0;
+        if self.window.len() < BUFFER {
+            self.window.resize(BUFFER, 0)?;
+        }
+        let size = between(from, self.end_place())?.min(BUFFER as u64) as usize;
+        let Some(file) = &self.file else {
+            return Err(StoreError::Failed);
+        };
+        let Some(room) = self.window.as_mut_slice().get_mut(..size) else {
+            return Err(StoreError::Failed);
+        };
+        if file.read_exact_at(room, from).is_ok() {
+            self.window_at = from;
+            self.filled = size;
+        }
+        Ok(())
+    }
+
+    // Writes these after the last item, as they are spelled, by one write. Where that fails, none of them counts.
+    pub(crate) fn append(&mut self, spelled: &[u8], added: &[Vec<u8>]) -> Result<(), StoreError>
         requires room { end_of self.old + length added.now ≤ 2 ^ 62 }
         ensures ok { OnOk result (self.new.count ≡ self.old.count + length added.now) }
         ensures start { self.new.start ≡ self.old.start }
         ensures grows { self.old.count ≤ self.new.count }
         ensures within { self.new.count ≤ self.old.count + length added.now }
     {
-        let spelled = spelled_items(alloc, added)?;
         self.cut_tail()?;
         let count = self.ends.len();
         let end = self.place(count);
         self.note(added)?;
-        let written = write_at(&mut self.file, end, &spelled);
-        if let Err(torn) = written {
-            self.keep_written(count, torn.reached);
-            return Err(torn.error);
+        let written = write_at(&self.file, end, spelled);
+        if written.is_err() {
+            self.forget(count);
         }
-        Ok(())
+        written
     }
 
-    // Notes where these end behind the last item, all of them or none.
+    // Notes where these end after the last item, all of them or none.
     fn note(&mut self, added: &[Vec<u8>]) -> Result<(), StoreError>
         requires room { end_of self.old + length added.now ≤ 2 ^ 62 }
         ensures ok { OnOk result (self.new ≡ record self.old { count = self.old.count + length added.now }) }
@@ -182,20 +265,17 @@ impl<F: Read + Write + Seek + OpenFile + Drop> LogFile<F> {
         noted
     }
 
-    // After a write of the items from this number on that reached this place: keeps those that it wrote whole.
-    fn keep_written(&mut self, count: usize, reached: u64)
+    // The items from this number on don't count, though the file may have them.
+    pub(crate) fn forget(&mut self, count: usize)
         requires { count ≤ self.old.count }
-        ensures start { self.new.start ≡ self.old.start }
-        ensures from { count ≤ self.new.count }
-        ensures within { self.new.count ≤ self.old.count }
+        ensures { self.new ≡ record self.old { count = count } }
     {
-        let whole = whole_before(&self.ends[count..], reached);
-        self.ends.truncate(count + whole);
+        self.ends.truncate(count);
         self.has_tail = true;
     }
 
-    // Takes away what the file has behind the last item.
-    fn cut_tail(&mut self) -> Result<(), StoreError>
+    // Takes away what the file has after the last item.
+    pub(crate) fn cut_tail(&mut self) -> Result<(), StoreError>
         ensures { self.new ≡ self.old }
     {
         let count = self.ends.len();
@@ -205,13 +285,14 @@ impl<F: Read + Write + Seek + OpenFile + Drop> LogFile<F> {
         Ok(())
     }
 
-    // Takes the items from this number on away, and whatever else the file has behind them.
+    // Takes the items from this number on away, and whatever else the file has after them.
     pub(crate) fn cut(&mut self, count: usize) -> Result<(), StoreError>
         requires { count ≤ self.old.count }
         ensures ok { OnOk result (self.new ≡ record self.old { count = count }) }
         ensures err { OnErr result (self.new ≡ self.old) }
     {
         let end = self.place(count);
+        self.filled = 0;
         if let Some(file) = &self.file {
             file.set_len(end)?;
         }
@@ -228,29 +309,32 @@ impl<F: Read + Write + Seek + OpenFile + Drop> LogFile<F> {
         Ok(())
     }
 
-    // Copies the items from this number on into another file, through a buffer of fixed size.
-    pub(crate) fn copy_items(&mut self, index: usize, into: &mut F) -> Result<(), StoreError>
+    // Copies the items from this number on after what another file has, through a buffer of fixed size.
+    pub(crate) fn copy_items(
+        &mut self,
+        alloc: Global,
+        index: usize,
+        into: &F,
+        at: u64,
+    ) -> Result<(), StoreError>
         requires { index ≤ self.old.count }
         ensures { self.new ≡ self.old }
     {
-        if self.file.is_none() {
+        let Some(file) = &self.file else {
             return Ok(());
-        }
-        let from = self.place(index);
-        let size = between(from, self.place(self.ends.len()))?;
-        let file = at(&mut self.file, from)?;
-        if io::copy(&mut file.take(size), into)? != size {
-            return Err(StoreError::Failed);
+        };
+        let mut from = self.place(index);
+        let end = self.place(self.ends.len());
+        let mut to = at;
+        let mut pieces = Pieces::new(alloc)?;
+        while from < end {
+            let piece = pieces.read(file, from, end)?;
+            into.write_all_at(piece, to)?;
+            to = after(to, piece.len() as u64)?;
+            from = after(from, piece.len() as u64)?;
         }
         Ok(())
     }
-}
-
-// A place in a file so many bytes behind another one. No file has one that is no number of 64 bits.
-fn behind(place: u64, size: u64) -> Result<u64, StoreError>
-    ensures { IfOk result (λ to. to ≡ place + size) }
-{
-    place.checked_add(size).ok_or(StoreError::Failed)
 }
 
 // How many bytes stand between two places of a file. Those of items rise, so that there is no lack of them.
@@ -268,35 +352,15 @@ fn is_within(start: u64, count: usize) -> bool
     }
 }
 
-// The file at this place.
-fn at<F: Seek>(file: &mut Option<F>, place: u64) -> Result<&mut F, StoreError> {
-    let file = file.as_mut().ok_or(StoreError::Failed)?;
-    file.seek(SeekFrom::Start(place))?;
-    Ok(file)
-}
-
-// A write that failed: the place up to which bytes were written, and why no more.
-#[derive(Clone, Copy)]
-struct Torn {
-    reached: u64,
-    error: StoreError,
-}
-
-// Writes bytes at a place. Where the system does not tell what a failed write reached, that is the place itself.
-fn write_at<F: Write + Seek>(file: &mut Option<F>, place: u64, bytes: &[u8]) -> Result<(), Torn> {
-    let file = match at(file, place) {
-        Ok(file) => file,
-        Err(error) => {
-            return Err(Torn {
-                reached: place,
-                error,
-            });
+// Writes bytes at a place.
+fn write_at<F: FileExt>(file: &Option<F>, place: u64, bytes: &[u8]) -> Result<(), StoreError> {
+    match file {
+        Some(file) => {
+            file.write_all_at(bytes, place)?;
+            Ok(())
         }
-    };
-    file.write_all(bytes).map_err(|error| Torn {
-        reached: file.stream_position().unwrap_or(place),
-        error: error.into(),
-    })
+        None => Err(StoreError::Failed),
+    }
 }
 
 // Notes where these items end that begin at a place.
@@ -307,20 +371,13 @@ fn note_ends(ends: &mut Vec<u64>, from: u64, added: &[Vec<u8>]) -> Result<(), St
     ends.reserve(added.len())?;
     let mut end = from;
     for item in added {
-        end = behind(end, LENGTH_SIZE.saturating_add(item.len() as u64))?;
+        end = after(end, LENGTH_SIZE.saturating_add(item.len() as u64))?;
         ends.push(end)?;
     }
     Ok(())
 }
 
-// How many of these ends are at or before a place. They rise.
-fn whole_before(ends: &[u64], place: u64) -> usize
-    ensures { result ≤ length ends.now }
-{
-    ends.partition_point(|end| *end <= place)
-}
-
-// Where the first item begins. The reader stands behind the location of the start, and is moved there.
+// Where the first item begins. The reader stands after the location of the start, and is moved there.
 fn pass_head<R: Read + Seek>(reader: &mut R, size: u64) -> Result<u64, StoreError> {
     let length = read_length(reader)?;
     let first = BEFORE_HEAD + u64::from(length);
@@ -356,7 +413,7 @@ fn pass_item<R: Read + Seek>(
 ) -> Result<Option<u64>, StoreError>
     ensures { IfOk result (λ found. IfSome found (λ end. (place < end) × (end ≤ size))) }
 {
-    let bytes = behind(place, LENGTH_SIZE)?;
+    let bytes = after(place, LENGTH_SIZE)?;
     if size < bytes {
         return Ok(None);
     }

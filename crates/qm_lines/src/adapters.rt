@@ -1,11 +1,41 @@
 //! Ports over the readers and writers of std.
 
 ghost use Rattle.std.specs.Prelude.{◌≡◌};
+ghost use Rattle.std.specs.Io.{ReadsAtMost, WritesAtMost};
+ghost use Rattle.std.specs.Io.KnownBytes.{ReadConsumes, WriteAppends};
 ghost use Rattle.qm_lines.specs.Ports.{Counted};
 
 use crate::ports::{Failed, Sink, SinkError, Source};
-use std::io::{Read, Write};
+use std::io::{self, ErrorKind, Read, Write};
 use std::marker::Model;
+
+// A read that goes on where a signal interrupted it.
+fn read_on<R: Read>(inner: &mut R, out: &mut [u8]) -> io::Result<usize>
+    ensures bound { ReadsAtMost result out.new }
+    ensures bytes { ReadConsumes (R.remaining inner.old) (R.remaining inner.new) result out.new }
+{
+    for _ in 1..u64::MAX {
+        match inner.read(out) {
+            Err(error) if error.kind() == ErrorKind::Interrupted => {}
+            answer => return answer,
+        }
+    }
+    inner.read(out)
+}
+
+// A write that goes on where a signal interrupted it.
+fn write_on<W: Write>(inner: &mut W, piece: &[u8]) -> io::Result<usize>
+    ensures bound { WritesAtMost result piece.now }
+    ensures bytes { WriteAppends (W.contents inner.old) (W.contents inner.new) result piece.now }
+{
+    for _ in 1..u64::MAX {
+        match inner.write(piece) {
+            Err(error) if error.kind() == ErrorKind::Interrupted => {}
+            answer => return answer,
+        }
+    }
+    inner.write(piece)
+}
 
 /// A reader of std as a source. It tells of its bytes what the reader tells: a file or a terminal
 /// tells nothing.
@@ -36,7 +66,7 @@ impl<R: Read> Source for StdSource<R> {
     ghost faults = { λ s. s.faults };
 
     fn read(&mut self, out: &mut [u8]) -> Result<usize, Failed> {
-        match self.inner.read(out) {
+        match read_on(&mut self.inner, out) {
             Ok(count) => Ok(count),
             Err(_) => {
                 self.faults = self.faults.saturating_add(1);
@@ -79,7 +109,7 @@ impl<W: Write> Sink for StdSink<W> {
     ghost faults = { λ s. s.faults };
 
     fn write(&mut self, piece: &[u8]) -> Result<usize, SinkError> {
-        match self.inner.write(piece) {
+        match write_on(&mut self.inner, piece) {
             Ok(count) if count > 0 || piece.is_empty() => Ok(count),
             _ => {
                 self.faults = self.faults.saturating_add(1);

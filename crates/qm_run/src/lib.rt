@@ -4,4 +4,4 @@
 mod kind;
 mod program;
 
-pub use program::qmdb_main;
+pub use program::{are_words, qmdb_main};

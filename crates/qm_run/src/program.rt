@@ -71,6 +71,13 @@ fn kind_from(words: &[String]) -> Option<bool>
     }
 }
 
+/// Whether the words after the program's name are those of a run.
+pub fn are_words(words: &[String]) -> bool
+    ensures { result ≡ are_words (map string_bytes words.now) }
+{
+    kind_from(words).is_some()
+}
+
 fn bad_line_text(alloc: Global, number: u64) -> Result<String, AllocError>
     ensures { IfOk result (λ text. string_bytes text ≡ bad_text number) }
 {

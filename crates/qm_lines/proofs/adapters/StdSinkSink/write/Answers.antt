@@ -12,7 +12,7 @@ returns-in-Ok g c = record {
     | then-count-gt0 w ↦ w.if-count-gt0.true
     | else-count-gt0 w ↦ absurd (some_empty _ c.if-count-gt0.value more (w.value-is ∙ w.is_empty.ensures) c.if-is_empty.true)
   ];
-  bytes = subst (λ (s : Counted _). Grows (g.W.Write.contents s.inner) (g.W.Write.contents c.write.new.self) (take c.in-Ok.count c.args.piece.now)) c.self.view_is (appended _ _ _ c.in-Ok.ensures.bytes);
+  bytes = subst (λ (s : Counted _). Grows (g.W.Write.contents s.inner) (g.W.Write.contents c.write_on.new.inner) (take c.in-Ok.count c.args.piece.now)) c.self.view_is (appended _ _ _ c.in-Ok.ensures.bytes);
   cause = calm _ _ _ _ (ap (λ (s : Counted _). s.faults) c.self.view_is) refl (took _);
   steady = λ h. ap (λ (s : Counted _). s.faults) c.self.view_is;
 }
@@ -22,8 +22,8 @@ returns-in_default g c = record {
   bound = tt;
   progress = tt;
   bytes = elim c.in_default.branch [
-    | in_default-via-in-Ok+else-is_empty w ↦ (w.in-Ok.count, subst (λ (s : Counted _). Grows (g.W.Write.contents s.inner) (g.W.Write.contents c.write.new.self) (take w.in-Ok.count c.args.piece.now)) c.self.view_is (appended _ _ _ w.in-Ok.ensures.bytes))
-    | in_default-via-in_default w ↦ (0, subst (λ (s : Counted _). Grows (g.W.Write.contents s.inner) (g.W.Write.contents c.write.new.self) []) c.self.view_is (kept _ _ w.in_default.ensures.bytes))
+    | in_default-via-in-Ok+else-is_empty w ↦ (w.in-Ok.count, subst (λ (s : Counted _). Grows (g.W.Write.contents s.inner) (g.W.Write.contents c.write_on.new.inner) (take w.in-Ok.count c.args.piece.now)) c.self.view_is (appended _ _ _ w.in-Ok.ensures.bytes))
+    | in_default-via-in_default w ↦ (0, subst (λ (s : Counted _). Grows (g.W.Write.contents s.inner) (g.W.Write.contents c.write_on.new.inner) []) c.self.view_is (kept _ _ w.in_default.ensures.bytes))
   ];
   cause = counted _ _ _ _ (ap (λ (s : Counted _). s.faults) c.self.view_is) (omega arith) c.saturating_add-self-inside.ensures;
   steady = λ h. absurd (h refl);
