@@ -17,20 +17,11 @@ use Rattle.qm_store.specs.Log.{IsHead, digests_from}
 use Rattle.qm_store.proofs.Leaves.{leaves-spelled, length-digests_from, digests_from-split}
 use Rattle.qm_model.specs.Taken.{head_at}
 use Rattle.qm_model.specs.Schemes.{Scheme}
-use Rattle.qm_any.specs.Layouts.{Hashing}
-use Rattle.qm_any.specs.Offered.{scheme_of}
+use Rattle.qm_any.specs.Offered.{digest_bytes, sha256_hashing, scheme_of}
 
--- the bytes of a digest
-abbrev pub digest_bytes : Sha256Digest → Bytes
-digest_bytes d = d.bytes
-
--- how lists are hashed by sha256, in trees of this shape
-abbrev pub hashing : Shape → Form → Hashing Sha256Digest
-hashing shape form = record { bytes = digest_bytes; hash = sha256; shape = shape; form = form }
-
--- and their machine
+-- the machine of lists that are hashed by sha256
 abbrev pub scheme : Shape → Form → Scheme
-scheme shape form = scheme_of 32 (hashing shape form)
+scheme shape form = scheme_of 32 (sha256_hashing shape form)
 
 -- byte strings of 32 bytes are those of digests
 digests-of : (xs : List Bytes) → All (λ x. length x ≡ 32) xs → (ds : List Sha256Digest) × (map digest_bytes ds ≡ xs)

@@ -26,7 +26,8 @@ use Rattle.qm_any.specs.Lasting.{cut_to, IsHeadAt}
 use Rattle.qm_any.specs.Databases.{Database, IsDatabase}
 use Rattle.qm_model.specs.Schemes.{layout_of}
 use Rattle.qm_model.specs.Taken.{IsTaken, selected_size, head_at, taken, pruned_from, LeavesOpening, LeavesPruning}
-use Rattle.qm_any.proofs.OfferedHeads.{head-is, is-head, hashing, scheme}
+use Rattle.qm_any.proofs.OfferedHeads.{head-is, is-head, scheme}
+use Rattle.qm_any.specs.Offered.{sha256_hashing}
 
 turned-each : (o new : Option Stored) (R Q : Stored → Stored → Type 0) → ((s t : Stored) → R s t → Q s t) → Turns o new R → Turns o new Q
 turned-each None new R Q each is = is
@@ -62,8 +63,8 @@ module _ (shape : Shape) (births : Births) (family : IsFamily shape births) (pea
 
   -- the list that is taken up, as the database has it
   pub opened-list : (told : Option Stored) (bound : Option ℕ) (S : List Operation → Type 0)
-      → IfSome told (λ s. (list : List Operation) → any.HasList (hashing shape form) s (any.selected_size (hashing shape form) bound s) list → S list)
-      → IfSome told (λ s. any.selected_size (hashing shape form) bound s ≡ 0 → S fresh)
+      → IfSome told (λ s. (list : List Operation) → any.HasList (sha256_hashing shape form) s (any.selected_size (sha256_hashing shape form) bound s) list → S list)
+      → IfSome told (λ s. any.selected_size (sha256_hashing shape form) bound s ≡ 0 → S fresh)
       → IfSome told (λ s. (list : List Operation) → IsTaken (scheme shape form) s (selected_size (scheme shape form) bound s) list → S list)
   opened-list None bound S stands begun = tt
   opened-list (Some s) bound S stands begun = λ list is. by (selected_size (scheme shape form) bound s) refl list is
@@ -72,7 +73,7 @@ module _ (shape : Shape) (births : Births) (family : IsFamily shape births) (pea
       by zero e list is = subst S (sym is) (begun e)
       by (suc j) e list is =
           let within : s.start ≤ length list = omega (arith, is.size_is, past_start s bound j e) in
-          stands list (subst (λ n. any.HasList (hashing shape form) s n list) (sym e) record {
+          stands list (subst (λ n. any.HasList (sha256_hashing shape form) s n list) (sym e) record {
             size_is = is.size_is;
             of = is.of;
             good = is.good;
@@ -81,18 +82,18 @@ module _ (shape : Shape) (births : Births) (family : IsFamily shape births) (pea
             head = is-head shape births family peaked form list s.start (omega (arith, is.size_is, is.few, within)) within s.head is.head;
           })
 
-  taken-same : (n : ℕ) (s : Stored) → any.taken (hashing shape form) n s ≡ taken (scheme shape form) n s
+  taken-same : (n : ℕ) (s : Stored) → any.taken (sha256_hashing shape form) n s ≡ taken (scheme shape form) n s
   taken-same zero s = refl
   taken-same (suc n) s = refl
 
-  leaves-same : (n : ℕ) (s t : Stored) → any.LeavesOpening (hashing shape form) n s t → LeavesOpening (scheme shape form) n s t
+  leaves-same : (n : ℕ) (s t : Stored) → any.LeavesOpening (sha256_hashing shape form) n s t → LeavesOpening (scheme shape form) n s t
   leaves-same zero s t is = is
   leaves-same (suc n) s t is = is
 
-  pub became-taken : (o new : Option Stored) (bound : Option ℕ) → Turns o new (λ s t. t ≡ any.taken (hashing shape form) (any.selected_size (hashing shape form) bound s) s) → Turns o new (λ s t. t ≡ taken (scheme shape form) (selected_size (scheme shape form) bound s) s)
+  pub became-taken : (o new : Option Stored) (bound : Option ℕ) → Turns o new (λ s t. t ≡ any.taken (sha256_hashing shape form) (any.selected_size (sha256_hashing shape form) bound s) s) → Turns o new (λ s t. t ≡ taken (scheme shape form) (selected_size (scheme shape form) bound s) s)
   became-taken o new bound is = turned-each o new _ _ (λ s t e. e ∙ taken-same (selected_size (scheme shape form) bound s) s) is
 
-  pub left-opening : (o new : Option Stored) (bound : Option ℕ) → Turns o new (λ s t. any.LeavesOpening (hashing shape form) (any.selected_size (hashing shape form) bound s) s t) → Turns o new (λ s t. LeavesOpening (scheme shape form) (selected_size (scheme shape form) bound s) s t)
+  pub left-opening : (o new : Option Stored) (bound : Option ℕ) → Turns o new (λ s t. any.LeavesOpening (sha256_hashing shape form) (any.selected_size (sha256_hashing shape form) bound s) s t) → Turns o new (λ s t. LeavesOpening (scheme shape form) (selected_size (scheme shape form) bound s) s t)
   left-opening o new bound is = turned-each o new _ _ (λ s t. leaves-same (selected_size (scheme shape form) bound s) s t) is
 
 -- want of memory and a fault of the store refuse nothing
@@ -114,7 +115,7 @@ left-pruned o new start IsHead to head past heads is = turned-each o new _ _ (λ
 
 module _ (shape : Shape) (births : Births) (family : IsFamily shape births) (peaked : HasPeaks shape) {C : Type 0} (members : store.Ghosts C) (form : Form) (chunk : ℕ) (index_key : Bytes → ℕ) (db : Database C Sha256Digest) (to : ℕ) where
   -- a head over the log's items is that of its list
-  pub heads-of : (head : Bytes) → IsHeadAt members (hashing shape form) to db.log head → (list : List Operation) → IsDatabase members (record { hashing = hashing shape form; chunk = chunk; index_key = index_key }) db list → to ≤ floor list → length list ≤ 2 ^ 62 → head ≡ head_at (scheme shape form) list to
+  pub heads-of : (head : Bytes) → IsHeadAt members (sha256_hashing shape form) to db.log head → (list : List Operation) → IsDatabase members (record { hashing = sha256_hashing shape form; chunk = chunk; index_key = index_key }) db list → to ≤ floor list → length list ≤ 2 ^ 62 → head ≡ head_at (scheme shape form) list to
   heads-of head heads list is low few =
       let within : to ≤ length list = omega (arith, low, is.good.floor_within) in
       head-is shape births family peaked form list to (omega (arith, within, few)) within head (heads (map (spelling form) list) is.lent.logged)

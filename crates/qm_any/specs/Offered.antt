@@ -1,9 +1,14 @@
--- The machine of a database's lists.
+-- The machine of a database's lists, and the hashing of the databases that are offered.
 use Rattle.std.specs.Prelude.{ℕ, None}
+use Rattle.sha2.specs.Sha256.{sha256}
+use Rattle.qm_model.specs.Operations.{Bytes}
+use Rattle.qm_model.specs.Forms.{Form}
 use Rattle.qm_model.specs.Live.{floor}
 use Rattle.qm_model.specs.Proofs.{ops_proof, pins_at}
 use Rattle.qm_model.specs.Schemes.{Scheme}
-use Rattle.qm_any.specs.Layouts.{Hashing, list_root}
+use Rattle.qm_model.specs.Trees.{Shape}
+use Rattle.qm_base.specs.declared.sha256.Sha256Digest.{Sha256Digest}
+use Rattle.qm_any.specs.Layouts.{Hashing, Layout, list_root}
 
 -- of lists that are hashed so, by digests of this size: its root is the operations root, and nothing is grafted onto its trees
 abbrev pub scheme_of : {D : Type 0} → ℕ → Hashing D → Scheme
@@ -19,3 +24,15 @@ scheme_of size hashing = record {
   pins = pins_at hashing.hash hashing.shape hashing.form;
   grafts = None;
 }
+
+-- the bytes of a digest
+abbrev pub digest_bytes : Sha256Digest → Bytes
+digest_bytes d = d.bytes
+
+-- how lists are hashed by sha256, in trees of this shape
+abbrev pub sha256_hashing : Shape → Form → Hashing Sha256Digest
+sha256_hashing shape form = record { bytes = digest_bytes; hash = sha256; shape = shape; form = form }
+
+-- a layout with this hashing
+abbrev pub sha256_layout : Shape → ℕ → Form → (Bytes → ℕ) → Layout Sha256Digest
+sha256_layout shape chunk form index_key = record { hashing = sha256_hashing shape form; chunk = chunk; index_key = index_key }

@@ -5,8 +5,10 @@ ghost use Rattle.std.proofs.Common.{ap, le_refl};
 ghost use Rattle.qm_model.specs.Live.{floor};
 ghost use Rattle.qm_merkle.proofs.Standing.{peaks-none};
 ghost use Rattle.qm_any.specs.Databases.{IsDatabase, IsBegun, IsStaged, IsMade, staged_keys};
-ghost use Rattle.qm_any.specs.Layouts.{hashing_of, layout_of};
-ghost use Rattle.qm_any.specs.Offered.{scheme_of};
+ghost use Rattle.qm_any.specs.Offered.{sha256_hashing, sha256_layout, scheme_of};
+ghost use Rattle.qm_model.specs.Mmr.{mmr, mmr_births};
+ghost use Rattle.qm_model.proofs.MmrFamily.{mmr_is_family};
+ghost use Rattle.qm_model.proofs.MmrPeaks.{mmr_has_peaks};
 
 mod batches;
 mod durable;
@@ -20,10 +22,10 @@ mod staged;
 use crate::batch::{MerkleizedBatch, UnmerkleizedBatch};
 use crate::db::Db;
 use crate::staged::Staged;
-use qm_base::{Digest, Hasher, Location, Sha256};
+use qm_base::{Digest, Location, Sha256, Sha256Digest};
 use qm_bits::Chunks;
 use qm_index::{Factory, FourCap};
-use qm_merkle::Family;
+use qm_merkle::mmr;
 use qm_offer::{BatchSizes, Common, Engine, Meaning, Numbers};
 use qm_operations::Update;
 use qm_step::kind::Steps;
@@ -31,36 +33,34 @@ use qm_store::Store;
 use std::rc::Rc;
 
 impl<
-    F: Family,
     C: Store + Drop,
-    I: qm_index::Unordered<Value = Location<F>> + Drop,
-    H: Hasher + Drop,
+    I: qm_index::Unordered<Value = Location<mmr::Family>> + Drop,
     U: Update,
     N: Chunks,
-> Meaning<C> for Db<F, C, I, H, U, N> {
-    type Batch = UnmerkleizedBatch<F, H::Digest, U>;
+> Meaning<C> for Db<mmr::Family, C, I, Sha256, U, N> {
+    type Batch = UnmerkleizedBatch<mmr::Family, Sha256Digest, U>;
 
-    type Staged = Staged<F, H::Digest, U>;
+    type Staged = Staged<mmr::Family, Sha256Digest, U>;
 
-    type Merkleized = Rc<MerkleizedBatch<F, H::Digest, U>>;
+    type Merkleized = Rc<MerkleizedBatch<mmr::Family, Sha256Digest, U>>;
 
     ghost inside = { λ db. db.log.store };
 
-    ghost stands = { λ db list. IsDatabase C.Store (layout_of N.LEN H.Digest.bytes H.Hasher F.Family U.Update I.Unordered) db list };
+    ghost stands = { λ db list. IsDatabase C.Store (sha256_layout mmr N.LEN U.form I.index_key) db list };
 
     ghost numbered = { λ db n. ⊤ };
 
-    ghost is_batch = { λ b chain above ws. IsBegun (hashing_of H.Digest.bytes H.Hasher F.Family U.Update) b chain above × (b.writes ≡ ws) };
+    ghost is_batch = { λ b chain above ws. IsBegun (sha256_hashing mmr U.form) b chain above × (b.writes ≡ ws) };
 
-    ghost is_staged = { λ s chain above ws keys. IsStaged (hashing_of H.Digest.bytes H.Hasher F.Family U.Update) s chain above × (s.batch.writes ≡ ws) × (staged_keys s ≡ keys) };
+    ghost is_staged = { λ s chain above ws keys. IsStaged (sha256_hashing mmr U.form) s chain above × (s.batch.writes ≡ ws) × (staged_keys s ≡ keys) };
 
     ghost count = { λ s. length (staged_keys s) };
 
     ghost counted = { λ s chain above ws keys is. ap length is.2 };
 
-    ghost is_merkleized = { λ b chain tip. IsMade (hashing_of H.Digest.bytes H.Hasher F.Family U.Update) b.value chain tip };
+    ghost is_merkleized = { λ b chain tip. IsMade (sha256_hashing mmr U.form) b.value chain tip };
 
-    ghost scheme = { scheme_of H.Digest.SIZE (hashing_of H.Digest.bytes H.Hasher F.Family U.Update) };
+    ghost scheme = { scheme_of 32 (sha256_hashing mmr U.form) };
 
     ghost bounds = { record { low = λ list. le_refl (floor list); chunks = tt; prompt = tt } };
 
@@ -70,20 +70,18 @@ impl<
 }
 
 impl<
-    F: Family,
     C: Store + Drop,
-    I: qm_index::Unordered<Value = Location<F>> + Drop,
-    H: Hasher + Drop,
+    I: qm_index::Unordered<Value = Location<mmr::Family>> + Drop,
     U: Update,
     N: Chunks,
-> Common<C> for Db<F, C, I, H, U, N> {
-    type Family = F;
+> Common<C> for Db<mmr::Family, C, I, Sha256, U, N> {
+    type Family = mmr::Family;
 
     type Key = U::Key;
 
     type Value = U::Value;
 
-    type Digest = H::Digest;
+    type Digest = Sha256Digest;
 
     fn is_ordered() -> bool {
         U::is_ordered()
@@ -113,13 +111,12 @@ impl<
 
     ghost plain = { refl };
 
-    ghost bare = { peaks-none F.shape F.births F.numbered F.peaked };
+    ghost bare = { peaks-none mmr mmr_births mmr_is_family mmr_has_peaks };
 }
 
 impl<
-    F: Family,
     C: Store + Drop,
-    I: Factory<Value = Location<F>, Translator = FourCap> + Drop,
-    U: Steps<F, I>,
+    I: Factory<Value = Location<mmr::Family>, Translator = FourCap> + Drop,
+    U: Steps<mmr::Family, I>,
     N: Chunks,
-> Engine<C> for Db<F, C, I, Sha256, U, N> {}
+> Engine<C> for Db<mmr::Family, C, I, Sha256, U, N> {}

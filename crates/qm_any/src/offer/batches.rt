@@ -2,23 +2,21 @@
 
 use crate::batch::MerkleizedBatch;
 use crate::db::Db;
-use qm_base::{Error, Hasher, Location, twin_option};
+use qm_base::{Error, Location, Sha256, twin_option};
 use qm_bits::Chunks;
 use qm_chain::Policy;
-use qm_merkle::Family;
+use qm_merkle::mmr;
 use qm_offer::Batching;
 use qm_step::kind::Steps;
 use qm_store::{Refusal, Store};
 use std::alloc::{AllocError, Global};
 
 impl<
-    F: Family,
     C: Store + Drop,
-    I: qm_index::Unordered<Value = Location<F>> + Drop,
-    H: Hasher + Drop,
-    U: Steps<F, I>,
+    I: qm_index::Unordered<Value = Location<mmr::Family>> + Drop,
+    U: Steps<mmr::Family, I>,
     N: Chunks,
-> Batching<C> for Db<F, C, I, H, U, N> {
+> Batching<C> for Db<mmr::Family, C, I, Sha256, U, N> {
     fn batch(&self, alloc: Global) -> Result<Self::Batch, AllocError> {
         self.new_batch(alloc)
     }
@@ -51,7 +49,7 @@ impl<
         batch.write(key, None)
     }
 
-    fn merkleize<P: Policy<F, U::Key, U::Value>>(
+    fn merkleize<P: Policy<mmr::Family, U::Key, U::Value>>(
         &mut self,
         alloc: Global,
         batch: Self::Batch,

@@ -2,23 +2,21 @@
 
 use crate::db::Db;
 use crate::offer::listed::listed;
-use qm_base::{Error, Hasher, Listed, Location};
+use qm_base::{Error, Listed, Location, Sha256, Sha256Digest};
 use qm_bits::Chunks;
-use qm_merkle::Family;
+use qm_merkle::mmr;
 use qm_offer::{Reading, Roots};
 use qm_operations::Update;
 use qm_store::Store;
 use std::alloc::{AllocError, Global};
 
 impl<
-    F: Family,
     C: Store + Drop,
-    I: qm_index::Unordered<Value = Location<F>> + Drop,
-    H: Hasher + Drop,
+    I: qm_index::Unordered<Value = Location<mmr::Family>> + Drop,
     U: Update,
     N: Chunks,
-> Reading<C> for Db<F, C, I, H, U, N> {
-    fn batch_root(batch: &Self::Merkleized) -> Roots<H::Digest> {
+> Reading<C> for Db<mmr::Family, C, I, Sha256, U, N> {
+    fn batch_root(batch: &Self::Merkleized) -> Roots<Sha256Digest> {
         let root = batch.root();
         Roots {
             root,
@@ -57,7 +55,7 @@ impl<
         batch.get_many(alloc, keys, self)
     }
 
-    fn root(&self) -> Roots<H::Digest> {
+    fn root(&self) -> Roots<Sha256Digest> {
         let root = self.root();
         Roots {
             root,
