@@ -10,8 +10,8 @@ ghost use Rattle.qm_batch.specs.Scans.{left_of};
 
 use crate::db::{Db, LaidOut};
 use qm_base::{ByteString, Error, Hasher, JournalError, Location};
-use qm_bits::Chunks;
 use qm_batch::Scan;
+use qm_bits::Chunks;
 use qm_merkle::Family;
 use qm_operations::Update;
 use qm_step::kind::Steps;
