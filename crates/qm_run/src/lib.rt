@@ -1,6 +1,7 @@
 //! The program: its databases, and its top call.
 #![tactic(auto)]
 
+mod database;
 mod kind;
 mod program;
 

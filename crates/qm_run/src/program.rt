@@ -13,11 +13,10 @@ ghost use Rattle.qm_run.specs.Schemes.{scheme};
 ghost use Rattle.qm_run.specs.Program.{are_words, kind_word, kind_of_words, machine_of, scheme_of, Says, bad_text};
 ghost use Rattle.qm_run.specs.Endings.{tail_text, tail_status};
 
+use crate::database::Database;
 use crate::kind::{Kind, Link, Pair};
 use qm_any::Config;
-use qm_any::db::Db;
-use qm_base::{ByteKey, ByteValue, Gate, Location, Sha256};
-use qm_bits::Chunk64;
+use qm_base::{ByteKey, ByteValue, Gate, Location};
 use qm_engine::{Answered, Ending, answer_lines};
 use qm_index::{Factory, FourCap, ordered, unordered};
 use qm_lines::{InputError, LIMIT, Sink, SinkError, Source, read_all, write_all};
@@ -159,13 +158,7 @@ fn serve<
         answered,
         ending,
         store,
-    } = answer_lines::<Db<mmr::Family, C, I, Sha256, U, Chunk64>, C, G>(
-        alloc,
-        store,
-        opening(),
-        input,
-        gate,
-    );
+    } = answer_lines::<Database<C, I, U>, C, G>(alloc, store, opening(), input, gate);
     let text = match with_tail(alloc, text, ending, answered) {
         Ok(text) => text,
         Err(_) => return (5, store),
