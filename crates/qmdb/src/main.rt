@@ -16,7 +16,51 @@ use std::rt::{Env, Files};
 use std::{env, fs, io};
 
 const HELP: &str = "usage: qmdb run any (unordered|ordered) mmr
-Reads the commands of standard input, one a line, runs them over the store in the folder qmdb-data and writes a reply for each.";
+       qmdb --help | --version
+
+Reads the commands of standard input, one a line, runs them over the store in the folder qmdb-data, and writes a reply line for each.
+
+line, reply, and an example: a line and what it was answered
+  open [max=n]                         open i start size                      open => open 1 0 1
+  batch                                batch h                                batch => batch 1
+  child h [keep=n]                     batch h                                child 1 keep=0 => batch 2
+  tip                                  batch h                                tip => batch 3
+  put h key value                      ok                                     put 1 61 01 => ok
+  del h key                            ok                                     del 1 62 => ok
+  merkleize h policy meta              merkleized h base size floor           merkleize 1 hold aa => merkleized 1 1 4 0
+  stage h key ..                       read value ..                          stage 4 61 => read 01
+  expand h key ..                      read a b value ..                      expand 4 63 61 => read 1 3 03 01
+  resolve h policy meta [slot ..] [write ..]
+                                       merkleized h base size floor           resolve 4 prop none put:05 keep keep 62=02 => merkleized 4 4 9 5
+  apply h                              applied size                           apply 1 => applied 4
+  ops h                                ops base op ..                         ops 1 => ops 1 U:61=01>63 U:63=03>61 C:aa@0
+  get key [from=h]                     read value                             get 61 => read 01
+  many key .. [from=h]                 read value ..                          many 61 62 from=1 => read 01 none
+  next key [from=h]                    key k, or none                         next 61 => key 63
+  prev key [from=h]                    key k, or none                         prev 63 => key 61
+  span key                             span location key value next, or none  span 62 => span 1 61 01 63
+  all key                              all value next, or none                all 63 => all 03 61
+  range lo hi                          range key=value ..                     range [61 63) => range 61=01
+  keys lo hi                           keys key ..                            keys * * => keys 61 63
+  info                                 info start size floor boundary live    info => info 0 4 0 0 live
+  info h                               info base size floor boundary          info 1 => info 1 4 0 0
+  root [h]                             root r o                               root => root bd789207.. bd789207..
+  proof h                              proof leaves inactive d .. / d ..      proof 1 => proof 4 0 6e290ec1.. / 6e290ec1..
+  meta                                 meta value                             meta => meta aa
+  prove size start max                 proof leaves inactive d .. / op ..     prove 4 3 1 => proof 4 0 8ec48d34.. 040ae6f3.. / C:aa@0
+  pins n                               pins d ..                              pins 0 => pins
+  held key, absent key, chunks start max, witness
+                                       (of databases to come)                 held 61 => refused NotOffered
+  prune n                              ok                                     prune 0 => ok
+  commit, sync                         ok                                     commit => ok
+  crash n                              ok                                     crash 0 => ok
+  close, destroy                       ok                                     close => ok
+
+h is the number of a batch; sizes, locations and n are decimal numbers; key is 2 to 64 hexadecimal digits, value 2 to 128 of them or -
+for the empty one, meta none or a value. lo is *, [key or (key, hi is *, key] or key). A slot is keep, del or put:value, a write key=value
+or key=none. policy is prop, hold, bounded:entries:skips, or rule:entries:skips with any of :drop=value, :stop=value, :swap=value>value.
+next, prev, span, all, range and keys are lines of ordered databases. A command that is refused is answered with refused and why.
+Statuses: 0 all answered, 1 other words, 2 a bad line, 3 and 4 the input or the output failed, 5 no memory, 6 the store failed, 7 too long.";
 
 const VERSION: &str = "qmdb 0.1.0";
 
@@ -56,13 +100,13 @@ fn answer(words: &[String]) -> Option<&'static str> {
 // What a status other than 0 says.
 fn reason(status: u8) -> &'static str {
     match status {
-        OTHER_WORDS => "other words; usage: qmdb run any (unordered|ordered) mmr",
-        2 => "a line is no command; the last line of the output has its number",
-        NOT_READ => "the input can not be read",
-        NOT_WRITTEN => "the output can not be written",
+        OTHER_WORDS => "unknown arguments; usage: qmdb run any (unordered|ordered) mmr",
+        2 => "bad line; the last line of the output has its number",
+        NOT_READ => "the input cannot be read",
+        NOT_WRITTEN => "the output cannot be written",
         NO_MEMORY => "out of memory",
         STORE_FAILED => "the store failed; the output has the replies before it",
-        _ => "more than 16,777,216 bytes of input",
+        _ => "the input is longer than 16,777,216 bytes",
     }
 }
 
