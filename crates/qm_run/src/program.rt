@@ -121,9 +121,9 @@ fn with_tail(
     Ok(text)
 }
 
-// How the program opens its databases. An opening keeps so many keys, to tell those with the same index key apart.
+// How the program opens its databases. An opening keeps 4,096 keys at most, to tell those with the same index key apart.
 fn opening() -> Config<FourCap, ()> {
-    let kept = match NonZeroUsize::new(1024) {
+    let kept = match NonZeroUsize::new(4096) {
         Some(count) => count,
         None => NonZeroUsize::MIN,
     };
