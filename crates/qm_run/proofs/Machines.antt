@@ -13,10 +13,9 @@ use Rattle.qm_model.specs.StoreModel.{Stored, Turns}
 use Rattle.qm_model.specs.Trees.{leaf, peaks, inactive_peaks, leaf_digest, digest_of, root, leaves_from, Shape}
 use Rattle.qm_machine.specs.Grammar.{commands_in}
 use Rattle.qm_any.specs.Layouts.{list_root}
-use Rattle.qm_any.specs.Offered.{scheme_of}
+use Rattle.qm_any.specs.Offered.{scheme_of, sha256_hashing}
 use Rattle.qm_engine.specs.Answered.{IsAnswered}
 use Rattle.qm_engine.specs.Stores.{IsBeside}
-use Rattle.qm_run.specs.Databases.{hashing}
 use Rattle.qm_run.specs.Schemes.{scheme}
 
 -- a form with lengths spells operations as the machine does
@@ -28,7 +27,7 @@ module _ (shape : Shape) (form : Form) (lengths : form.sizes ≡ None) where
   leaves-same i [] = refl
   leaves-same i (op ∷ ops) = ap₂ (λ spelt ds. leaf_digest sha256 (shape.position (leaf i)) spelt ∷ ds) (spelled-same op) (leaves-same (suc i) ops)
 
-  root-same : (list : List Operation) → list_root (hashing shape form) list ≡ sha256_root shape list
+  root-same : (list : List Operation) → list_root (sha256_hashing shape form) list ≡ sha256_root shape list
   unfolding sha256_root
   root-same list = ap (λ ls. root sha256 shape ls (inactive_peaks shape (length list) (floor list))) (leaves-same 0 list)
 
@@ -40,7 +39,7 @@ module _ (shape : Shape) (form : Form) (lengths : form.sizes ≡ None) where
   unfolding sha256_pins
   pins-same list n = ap (λ ls. map (digest_of sha256 shape ls) (peaks shape n)) (leaves-same 0 list)
 
-  roots-same : list_root (hashing shape form) ≡ sha256_root shape
+  roots-same : list_root (sha256_hashing shape form) ≡ sha256_root shape
   roots-same = λ i list. root-same list i
 
   proofs-same : ops_proof sha256 shape form ≡ sha256_proof shape
@@ -65,7 +64,7 @@ module _ (shape : Shape) (form : Form) (lengths : form.sizes ≡ None) where
   }
 
   -- it is the program's
-  pub machines-same : scheme_of 32 (hashing shape form) ≡ scheme shape form
+  pub machines-same : scheme_of 32 (sha256_hashing shape form) ≡ scheme shape form
   machines-same =
       ap (λ r. machine_with r (ops_proof sha256 shape form) (pins_at sha256 shape form)) roots-same
       ∙ ap (λ p. machine_with (sha256_root shape) p (pins_at sha256 shape form)) proofs-same
@@ -73,8 +72,8 @@ module _ (shape : Shape) (form : Form) (lengths : form.sizes ≡ None) where
 
   -- so what databases answer it does
   pub machine-answers : (told left : Option Stored) (input : Bytes) (k : ℕ) (text : Bytes)
-      → IfSome told (λ stored. (log : Log) → IsOwn (engine_of (scheme_of 32 (hashing shape form)) policies) log stored → (choices : List ℕ) → Turns told left (IsBeside choices)
-      → IsAnswered (scheme_of 32 (hashing shape form)) policies log choices (commands_in input) k text left)
+      → IfSome told (λ stored. (log : Log) → IsOwn (engine_of (scheme_of 32 (sha256_hashing shape form)) policies) log stored → (choices : List ℕ) → Turns told left (IsBeside choices)
+      → IsAnswered (scheme_of 32 (sha256_hashing shape form)) policies log choices (commands_in input) k text left)
       → IfSome told (λ stored. (log : Log) → IsOwn (engine_of (scheme shape form) policies) log stored → (choices : List ℕ) → Turns told left (IsBeside choices)
       → IsAnswered (scheme shape form) policies log choices (commands_in input) k text left)
   machine-answers told left input k text is = subst (λ m. IfSome told (λ stored. (log : Log) → IsOwn (engine_of m policies) log stored → (choices : List ℕ) → Turns told left (IsBeside choices)

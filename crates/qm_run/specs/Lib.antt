@@ -1,4 +1,3 @@
-pub mod Databases
 pub mod Schemes
 pub mod Program
 pub mod Endings
