@@ -1,10 +1,12 @@
 -- What an opening of an own store takes up, and what a crash leaves of one.
-use Rattle.std.proofs.Common.{◌≡◌, ◌⊎◌, inl, inr, ℕ, suc, zero, ◌+◌, ◌-◌, ◌<◌, ◌≤◌, Bool, true, false, List, [], ◌∷◌, ◌++◌, length, take, drop, map, refl, sym, ap, ◌∙◌, Option, Some, None, subst, arith, take_all, length-take-le, length-drop, le_refl}
+use Rattle.std.proofs.Common.{◌≡◌, ◌⊎◌, inl, inr, ℕ, suc, zero, ◌+◌, ◌-◌, ◌<◌, ◌≤◌, Bool, true, false, List, [], ◌∷◌, ◌++◌, length, take, drop, map, refl, sym, ap, ◌∙◌, Option, Some, None, subst, arith, take_all, length-take-le, length-drop, le_refl, ◌/◌}
 use Rattle.std.specs.Prelude.{nat_lt, ◌||◌, is_some, if◌then◌else◌, not, filter_map, ◌*◌, is_none, ◌^◌, ◌==◌, ◌&&◌, unwrap_or, slice_index_or, option_map, IfSome}
 use native.Mathlib.Nat.{zero-div}
 use Rattle.std.specs.Prelude.{All}
+use Rattle.std.proofs.lemmas.Nat.{mul-le, pow_pos}
+use Rattle.qm_model.proofs.GraftedLemmas.{boundary_most, prunable_needed}
 use Rattle.qm_model.proofs.KeyOrder.{successor-some}
-use Rattle.qm_model.specs.Opening.{is_ring, is_link, same_key, items_between}
+use Rattle.qm_model.specs.Opening.{is_ring, is_link, same_key, items_between, is_past_bits, is_unabsorbed, pruned_bits}
 use Rattle.std.specs.List.{concat, list_any, list_all, cons_option, AllByRecursion as Each}
 use Rattle.std.specs.Option.{option_or}
 use Rattle.std.proofs.Math.Nat.{le_trans}
@@ -21,15 +23,15 @@ use Rattle.qm_model.proofs.LastWrites.{bytes_same}
 use Rattle.qm_model.proofs.Floors.{live_from-front}
 use Rattle.std.specs.Option.{option_map_or}
 use Rattle.qm_model.specs.Trees.{Shape, peaks, digest_of, leaves_from}
-use Rattle.qm_model.specs.Grafted.{boundary, chunk_of, value_over}
-use Rattle.qm_model.specs.Refused.{Refused, HistoricalFloorPruned, DataCorrupted, FloorExceedsCommit, HeadDoesNotMatch, ItemDoesNotDecode, LinksFormNoRing, CountNotValid, CountTooLarge, MissingPin, InvalidPin}
+use Rattle.qm_model.specs.Grafted.{boundary, chunk_of, value_over, chunk_node, needed_size, pair_absorption_threshold, prunable_chunks}
+use Rattle.qm_model.specs.Refused.{Refused, HistoricalFloorPruned, DataCorrupted, FloorExceedsCommit, HeadDoesNotMatch, ItemDoesNotDecode, LinksFormNoRing, CountNotValid, CountTooLarge, MissingPin, InvalidPin, PrunedPastBits}
 use Rattle.qm_model.specs.Proofs.{pins_at}
 use Rattle.qm_model.specs.Walk.{Rules}
-use Rattle.qm_model.specs.Step.{IsOrderedGood, Kind, unordered, ordered, Made, first, next, walk_after}
+use Rattle.qm_model.specs.Step.{IsOrderedGood, Kind, unordered, ordered, Made, first, next, walk_after, IsGood}
 use Rattle.qm_model.specs.Batches.{Begins}
 use Rattle.qm_model.specs.StoreModel.{Stored, empty, IsImage, end_of}
 use Rattle.qm_model.specs.Opening.{Chunks, Layout, Selected, is_unabsorbed, Opening, refuses, opens, commit_at, last_commit, below_bound, selected, size_of, floor_of, is_empty, when, first_refusal, is_wrong_size, pruned_bits, pins_found, numbered_pins, commit_refusal, checks, opening_refusal, opening_of, opened_list, found, found_with}
-use Rattle.qm_model.specs.Own.{ArePrompt, Engine, OpensWhole, head_of, settled_list, any_engine, Log, no_log, ArePruned, taken_up, left_at, ended_size, ended_part, MetadataIs, IsStored, IsPartMade, IsKept, IsOwn, found_in, Takes, OpensParts}
+use Rattle.qm_model.specs.Own.{ArePrompt, Engine, OpensWhole, head_of, settled_list, any_engine, Log, no_log, ArePruned, taken_up, left_at, ended_size, ended_part, MetadataIs, IsStored, IsPartMade, IsKept, IsOwn, found_in, Takes, OpensParts, NeedsRise}
 use Rattle.qm_model.proofs.Forms.{decoded-spelling}
 use Rattle.qm_model.proofs.Chains.{take-least, Begins-self, Begins-length, Begins-through}
 use Rattle.qm_model.proofs.Steps.{made-good}
@@ -188,15 +190,16 @@ begins_both a b xs low = subst (λ ys. Begins ys (take b xs)) (take-least a b xs
 pub record Keeps {P : Type 0} (kind : Kind) (rules : Rules P) : Type 0 where
   pub begins : (prefix ops : List Operation) → Made kind rules ops → Begins prefix ops → IsCommitEnded prefix → Made kind rules prefix × (floor prefix ≤ floor ops)
   pub within : (ops : List Operation) → Made kind rules ops → floor ops < length ops
+  pub good : (ops : List Operation) → Made kind rules ops → IsGood ops
 
 pub unordered-keeps : {P : Type 0} (rules : Rules P) → Keeps unordered rules
-unordered-keeps rules = record { begins = unordered-begins rules; within = λ ops made. (made-good rules ops made).floor_within }
+unordered-keeps rules = record { begins = unordered-begins rules; within = λ ops made. (made-good rules ops made).floor_within; good = λ ops made. made-good rules ops made }
 
 pub ordered-keeps : {P : Type 0} (rules : Rules P) → Keeps ordered rules
-ordered-keeps rules = record { begins = ordered-begins rules; within = λ ops made. (made-ordered rules ops made).good.floor_within }
+ordered-keeps rules = record { begins = ordered-begins rules; within = λ ops made. (made-ordered rules ops made).good.floor_within; good = λ ops made. (made-ordered rules ops made).good }
 
 -- a list without a commit has the floor 0
-no_floor : (ops : List Operation) (n : ℕ) → n ≡ 0 → floor (take n ops) ≡ 0
+pub no_floor : (ops : List Operation) (n : ℕ) → n ≡ 0 → floor (take n ops) ≡ 0
 no_floor ops n z = ap (λ k. floor (take k ops)) z
 
 module _ {P : Type 0} {kind : Kind} {rules : Rules P} (keeps : Keeps kind rules) where
@@ -232,16 +235,16 @@ module _ {P : Type 0} {kind : Kind} {rules : Rules P} (keeps : Keeps kind rules)
 
 -- The checks, one after another.
 
-passes : (r : Option Refused) (rs : List (Option Refused)) → first_refusal (r ∷ rs) ≡ None → (r ≡ None) × (first_refusal rs ≡ None)
+passes : {A : Type 0} (r : Option A) (rs : List (Option A)) → first_refusal (r ∷ rs) ≡ None → (r ≡ None) × (first_refusal rs ≡ None)
 passes None rs e = (refl, e)
 passes (Some r) rs e = absurd (none-some r (sym e))
 
-all_pass : (rs : List (Option Refused)) (k : ℕ) → first_refusal rs ≡ None → slice_index_or rs k None ≡ None
+pub all_pass : {A : Type 0} (rs : List (Option A)) (k : ℕ) → first_refusal rs ≡ None → slice_index_or rs k None ≡ None
 all_pass [] k e = refl
 all_pass (r ∷ rs) zero e = (passes r rs e).0
 all_pass (r ∷ rs) (suc k) e = all_pass rs k (passes r rs e).1
 
-not_when : (b : Bool) (r : Refused) → when b r ≡ None → b ≡ false
+pub not_when : {A : Type 0} (b : Bool) (r : A) → when b r ≡ None → b ≡ false
 not_when false r e = refl
 not_when true r e = absurd (none-some r (sym e))
 
@@ -392,7 +395,7 @@ module _ {P : Type 0} {kind : Kind} {rules : Rules P} (keeps : Keeps kind rules)
   own = record { kind = kind; rules = rules; hash = hash; layout = layout }
 
   -- where the settled list gets longer, as many chunks may be pruned
-  pruned-rises : (chunks : Option Chunks) (log : Log) (list : List Operation) (stable : ℕ) → floor (settled_list log) ≤ floor (ended_part (take stable list)) → length (settled_list log) ≤ length (ended_part (take stable list))
+  pub pruned-rises : (chunks : Option Chunks) (log : Log) (list : List Operation) (stable : ℕ) → floor (settled_list log) ≤ floor (ended_part (take stable list)) → length (settled_list log) ≤ length (ended_part (take stable list))
       → ArePruned own chunks log → ArePruned own chunks (record log { list = list; stable = stable })
   pruned-rises None log list stable low few is = tt
   pruned-rises (Some c) log list stable low few is = (is.0, le_trans is.1 (boundary-rises layout.shape c.height (floor (settled_list log)) (floor (ended_part (take stable list))) (length (settled_list log)) (length (ended_part (take stable list))) low few))
@@ -455,9 +458,12 @@ module _ {P : Type 0} {kind : Kind} {rules : Rules P} (keeps : Keeps kind rules)
     chunks = pruned;
   }
 
+  pub fresh-made : IsPartMade own fresh
+  fresh-made = record { whole = fresh; made = first; begins = refl; of_form = All-from_recursion (IsOf layout.form) fresh ((tt, omega arith), tt) }
+
   pub fresh-keeps : (log : Log) → log.start ≤ 0 → ArePruned own layout.chunks (taken_up fresh log) → IsKept own (taken_up fresh log)
   fresh-keeps log low pruned = record {
-    made = record { whole = fresh; made = first; begins = refl; of_form = All-from_recursion (IsOf layout.form) fresh ((tt, omega arith), tt) };
+    made = fresh-made;
     start = low;
     stable = le_refl 1;
     chunks = pruned;
@@ -665,9 +671,9 @@ made-begins {kind = kind} {rules = rules} _ (next ops ws policy meta before shor
     let written = ops ++ kind.writes ops ws in
     begins_more (written ++ kind.moves written (walk_after kind rules ops ws policy).decisions) _ (begins_more written _ (begins_more ops (kind.writes ops ws) (made-begins ops before)))
 
-module _ {P : Type 0} {kind : Kind} {rules : Rules P} (keeps : Keeps kind rules) (hash : Bytes → Bytes) (form : Form) (shape : Shape) (digest_size : ℕ) where
+module _ {P : Type 0} {kind : Kind} {rules : Rules P} (keeps : Keeps kind rules) (hash : Bytes → Bytes) (layout : Layout) where
   abbrev whole : Engine P
-  whole = any_engine kind rules hash form shape digest_size
+  whole = record { kind = kind; rules = rules; hash = hash; layout = layout }
 
   module _ (log : Log) (kept : IsKept whole log) where
     -- where something is settled, its commit stands behind the start
@@ -675,7 +681,7 @@ module _ {P : Type 0} {kind : Kind} {rules : Rules P} (keeps : Keeps kind rules)
     settled (inl z) = inl z
     settled (inr (some, less, ended)) =
         let n = settled_size log in
-        let is_made = (keeps.begins (settled_list log) kept.made.whole kept.made.made (Begins-through (settled_list log) (take log.stable log.list) kept.made.whole (begins_take n (take log.stable log.list)) (settled-begins keeps hash (without_chunks form shape digest_size) log kept)) ended).0 in
+        let is_made = (keeps.begins (settled_list log) kept.made.whole kept.made.made (Begins-through (settled_list log) (take log.stable log.list) kept.made.whole (begins_take n (take log.stable log.list)) (settled-begins keeps hash layout log kept)) ended).0 in
         let low = keeps.within (settled_list log) is_made in
         let start = kept.start in
         let size = length-take-le log.stable log.list kept.stable in
@@ -696,7 +702,7 @@ module _ {P : Type 0} {kind : Kind} {rules : Rules P} (keeps : Keeps kind rules)
         let front : take 1 log.list ≡ fresh = ap (take 1) (sym kept.made.begins) ∙ take-least 1 (length log.list) kept.made.whole some ∙ made-begins kept.made.whole kept.made.made in
         selected-longest whole log None 1 (omega (arith, at)) some tt (subst IsCommitEnded (sym front) tt)
 
-    commits : (at : Option Selected) → selected (found_in whole log) None ≡ at → (option_map DataCorrupted (commit_refusal (is_empty (found_in whole log)) at) ≡ None) × (log.start ≤ floor_of at)
+    commits : (at : Option Selected) → selected (found_in whole log) None ≡ at → (option_map DataCorrupted (commit_refusal (is_empty (found_in whole log)) at) ≡ None) × (log.start ≤ floor_of at) × (floor (settled_list log) ≤ floor_of at) × (floor_of at ≤ size_of at)
     commits None is =
         let up = selects in
         let none : settled_size log ≡ 0 = omega (arith, up, ap size_of is) in
@@ -705,24 +711,24 @@ module _ {P : Type 0} {kind : Kind} {rules : Rules P} (keeps : Keeps kind rules)
         let bare : length log.list ≡ 0 = elim (cases_lt 0 (length log.list)) [ inl some ↦ absurd (let has = selects_some at some in omega (arith, has, ap size_of is)) | inr few ↦ omega (arith, few) ] in
         let gone : length (map (λ (op : Operation). Some op) (drop log.start log.list)) ≡ 0 = omega (arith, bare, length-map (drop log.start log.list) (λ (op : Operation). Some op), length-drop log.start log.list) in
         let found_bare : is_empty (found_in whole log) ≡ true = ap (λ n. n == 0 && length (map (λ (op : Operation). Some op) (drop log.start log.list)) == 0) at ∙ ap (λ n. n == 0) gone in
-        (ap (λ b. option_map DataCorrupted (commit_refusal b None)) found_bare, omega (arith, at))
+        (ap (λ b. option_map DataCorrupted (commit_refusal b None)) found_bare, omega (arith, at), omega (arith, no_floor (take log.stable log.list) (settled_size log) none), omega arith)
     commits (Some c) is =
         let l = looks whole log None in
-        let t = from_last whole log None l c (start-within keeps hash (without_chunks form shape digest_size) log kept) (last log.start None l.ops c (ap (last_commit log.start None) (sym l.are) ∙ is)) in
+        let t = from_last whole log None l c (start-within keeps hash layout log kept) (last log.start None l.ops c (ap (last_commit log.start None) (sym l.are) ∙ is)) in
         let begins = Begins-through (take c.size log.list) log.list kept.made.whole (begins_take c.size log.list) kept.made.begins in
         let is_made = (keeps.begins (take c.size log.list) kept.made.whole kept.made.made begins t.ended).0 in
         let low = keeps.within (take c.size log.list) is_made in
         let inside : c.floor ≤ c.size - 1 = omega (arith, low, t.floor_is, length-take-le c.size log.list t.within) in
         let up : settled_size log ≤ c.size = subst (λ n. settled_size log ≤ n) (ap size_of is) selects in
         let start = kept.start in
-        let rise : log.start ≤ c.floor = elim (settled (ended-part (take log.stable log.list))) [
-          | inl z ↦ omega (arith, start, no_floor (take log.stable log.list) (settled_size log) z)
+        let high : floor (settled_list log) ≤ c.floor = elim (settled (ended-part (take log.stable log.list))) [
+          | inl z ↦ omega (arith, no_floor (take log.stable log.list) (settled_size log) z)
           | inr (past, less, ended) ↦
               let same = take-least (settled_size log) log.stable log.list less in
               let rises = (keeps.begins (take (settled_size log) log.list) (take c.size log.list) is_made (begins_both (settled_size log) c.size log.list up) ended).1 in
-              omega (arith, start, ap floor same, rises, t.floor_is)
+              omega (arith, ap floor same, rises, t.floor_is)
         ] in
-        (ap (option_map DataCorrupted) (ap (λ b. when b FloorExceedsCommit) (le-ltb (c.size - 1) c.floor inside)), rise)
+        (ap (option_map DataCorrupted) (ap (λ b. when b FloorExceedsCommit) (le-ltb (c.size - 1) c.floor inside)), le_trans start high, high, omega (arith, inside))
 
     -- what is found of the selected list has its ring
     found-ring : ((ops : List Operation) → Made kind rules ops → is_ring (drop (floor ops) ops) ≡ true) → (at : Option Selected) → selected (found_in whole log) None ≡ at → log.start ≤ floor_of at
@@ -732,7 +738,7 @@ module _ {P : Type 0} {kind : Kind} {rules : Rules P} (keeps : Keeps kind rules)
         ap (λ n. is_ring (filter_map (λ item. item) (drop n (take n (map (λ (op : Operation). Some op) (drop log.start log.list)))))) none
     found-ring rings (Some c) is low =
         let l = looks whole log None in
-        let t = from_last whole log None l c (start-within keeps hash (without_chunks form shape digest_size) log kept) (last log.start None l.ops c (ap (last_commit log.start None) (sym l.are) ∙ is)) in
+        let t = from_last whole log None l c (start-within keeps hash layout log kept) (last log.start None l.ops c (ap (last_commit log.start None) (sym l.are) ∙ is)) in
         let begins = Begins-through (take c.size log.list) log.list kept.made.whole (begins_take c.size log.list) kept.made.begins in
         let is_made = (keeps.begins (take c.size log.list) kept.made.whole kept.made.made begins t.ended).0 in
         let inside = keeps.within (take c.size log.list) is_made in
@@ -745,8 +751,64 @@ module _ {P : Type 0} {kind : Kind} {rules : Rules P} (keeps : Keeps kind rules)
         ap (drop (c.floor - log.start)) cut ∙ (drop-drop (c.floor - log.start) log.start list ∙ ap (λ n. drop n list) (omega (arith, low, t.floor_is))) in
         ap is_ring (found_ops ∙ from_floor) ∙ rings (take c.size log.list) is_made
 
-    opens-whole : (form.ordered ≡ false) ⊎ ((ops : List Operation) → Made kind rules ops → is_ring (drop (floor ops) ops) ≡ true) → length (head_of whole log) ≡ digest_size * length (peaks shape log.start) → OpensWhole whole log
-    opens-whole plain pinned = record {
+    -- as many chunks are pruned as an opening accepts
+    bits-in : (chunks : Option Chunks) → ArePruned whole chunks log → pruned_bits chunks log.chunks ≤ floor (settled_list log)
+    bits-in None is = omega arith
+    bits-in (Some c) is = le_trans is.1 (boundary_most layout.shape c.height (floor (settled_list log)) (length (settled_list log)))
+
+    past-in : (chunks : Option Chunks) → ArePruned whole chunks log → is_past_bits chunks log.start log.chunks ≡ false
+    past-in None is = refl
+    past-in (Some c) is = le-ltb log.chunks (log.start / 2 ^ c.height) is.0
+
+    absorbed-in : (chunks : Option Chunks) → NeedsRise chunks layout.shape → ArePruned whole chunks log → (size : ℕ) → length (settled_list log) ≤ size → is_unabsorbed layout.shape chunks size log.chunks ≡ false
+    absorbed-in None rise is size long = refl
+    absorbed-in (Some c) rise is size long = at log.chunks refl
+      where
+        n : ℕ
+        n = length (settled_list log)
+
+        most : ℕ
+        most = prunable_chunks layout.shape c.height (length (settled_list log)) (floor (settled_list log) / 2 ^ c.height)
+
+        at : (count : ℕ) → log.chunks ≡ count → option_map_or (λ least. nat_lt size least) (pair_absorption_threshold layout.shape c.height count) false ≡ false
+        at zero e = refl
+        at (suc k) e = by (pair_absorption_threshold layout.shape c.height (suc k)) refl
+          where
+            go : suc k * 2 ^ c.height ≤ most * 2 ^ c.height
+            go = subst (λ j. j * 2 ^ c.height ≤ most * 2 ^ c.height) e is.1
+
+            less : suc k ≤ most
+            less = elim (cases_lt most (suc k)) [
+              | inl short ↦
+                  let up = mul-le (suc most) (2 ^ c.height) (suc k) (2 ^ c.height) short (le_refl (2 ^ c.height)) in
+                  let some = pow_pos c.height in
+                  let more = go in
+                  absurd (omega (arith, up, some, more))
+              | inr few ↦ few
+            ]
+
+            last : suc (most - 1) ≡ most
+            last = let some = less in omega (arith, some)
+
+            below : k ≤ most - 1
+            below = let some = less in omega (arith, some)
+
+            some : 0 < most
+            some = let first = less in omega (arith, first)
+
+            needs : needed_size layout.shape c.height (suc k) ≤ length (settled_list log)
+            needs = le_trans (subst (λ q. needed_size layout.shape c.height (suc k) ≤ needed_size layout.shape c.height q) last (rise k (most - 1) below))
+                (prunable_needed layout.shape c.height (length (settled_list log)) (floor (settled_list log) / 2 ^ c.height) some)
+
+            by : (o : Option ℕ) → pair_absorption_threshold layout.shape c.height (suc k) ≡ o → option_map_or (λ least. nat_lt size least) o false ≡ false
+            by None is = refl
+            by (Some least) is = le-ltb size least (le_trans (subst (λ o. option_map_or (λ m. m) o (layout.shape.birth (chunk_node c.height (suc k - 1))) ≤ length (settled_list log)) is needs) long)
+
+    long-enough : length (settled_list log) ≤ size_of (selected (found_in whole log) None)
+    long-enough = omega (arith, selects, length-take (settled_size log) (take log.stable log.list))
+
+    pub opens-whole : NeedsRise layout.chunks layout.shape → (layout.form.ordered ≡ false) ⊎ ((ops : List Operation) → Made kind rules ops → is_ring (drop (floor ops) ops) ≡ true) → length (head_of whole log) ≡ layout.digest_size * length (peaks layout.shape log.start) → OpensWhole whole log
+    opens-whole rise plain pinned = record {
       size = size_of at;
       accepted = ap (λ r. opening_of r (size_of at)) passed;
       settled = omega (arith, selects, length-take (settled_size log) (take log.stable log.list));
@@ -763,19 +825,19 @@ module _ {P : Type 0} {kind : Kind} {rules : Rules P} (keeps : Keeps kind rules)
               (
                 refl,
                 (
-                  ap (λ b. when b (HistoricalFloorPruned (size_of (selected (found_in whole log) None)))) (le-ltb (size_of (selected (found_in whole log) None)) 0 (omega arith)),
+                  ap (λ b. when b (HistoricalFloorPruned (size_of (selected (found_in whole log) None)))) (le-ltb (size_of (selected (found_in whole log) None)) (pruned_bits layout.chunks log.chunks) (le_trans (le_trans (bits-in layout.chunks kept.chunks) c.2) c.3)),
                   (
                     c.0,
                     (
                       ap (λ b. when b (HistoricalFloorPruned (size_of (selected (found_in whole log) None)))) (le-ltb (floor_of (selected (found_in whole log) None)) log.start c.1),
                       (
-                        ap (λ b. when b (HistoricalFloorPruned (size_of (selected (found_in whole log) None)))) (le-ltb (floor_of (selected (found_in whole log) None)) 0 (omega arith)),
+                        ap (λ b. when b (HistoricalFloorPruned (size_of (selected (found_in whole log) None)))) (le-ltb (floor_of (selected (found_in whole log) None)) (pruned_bits layout.chunks log.chunks) (le_trans (bits-in layout.chunks kept.chunks) c.2)),
                         (
-                          refl,
+                          ap (λ b. when b (HistoricalFloorPruned (size_of (selected (found_in whole log) None)))) (absorbed-in layout.chunks rise kept.chunks (size_of (selected (found_in whole log) None)) long-enough),
                           (
-                            refl,
+                            ap (λ b. when b (DataCorrupted PrunedPastBits)) (past-in layout.chunks kept.chunks),
                             (
-                              ap (λ b. when (not b) (DataCorrupted HeadDoesNotMatch)) (eq-eqb (length (head_of whole log)) (digest_size * length (peaks shape log.start)) pinned),
+                              ap (λ b. when (not b) (DataCorrupted HeadDoesNotMatch)) (eq-eqb (length (head_of whole log)) (layout.digest_size * length (peaks layout.shape log.start)) pinned),
                               (
                                 ap (λ b. when b (DataCorrupted ItemDoesNotDecode)) (ap (λ items. list_any is_none (drop ((floor_of (selected (found_in whole log) None)) - log.start) items)) (take-map (λ op. Some op) ((size_of (selected (found_in whole log) None)) - log.start) (drop log.start log.list)) ∙ all_some ((floor_of (selected (found_in whole log) None)) - log.start) (take ((size_of (selected (found_in whole log) None)) - log.start) (drop log.start log.list))),
                                 (ap (λ b. when b (DataCorrupted LinksFormNoRing)) (linked plain), tt),
@@ -790,10 +852,10 @@ module _ {P : Type 0} {kind : Kind} {rules : Rules P} (keeps : Keeps kind rules)
               ),
             )
           where
-            linked : (form.ordered ≡ false) ⊎ ((ops : List Operation) → Made kind rules ops → is_ring (drop (floor ops) ops) ≡ true)
-                → (form.ordered && not (is_ring (filter_map (λ item. item) (items_between (found_in whole log) (floor_of (selected (found_in whole log) None)) (size_of (selected (found_in whole log) None)))))) ≡ false
+            linked : (layout.form.ordered ≡ false) ⊎ ((ops : List Operation) → Made kind rules ops → is_ring (drop (floor ops) ops) ≡ true)
+                → (layout.form.ordered && not (is_ring (filter_map (λ item. item) (items_between (found_in whole log) (floor_of (selected (found_in whole log) None)) (size_of (selected (found_in whole log) None)))))) ≡ false
             linked (inl is) = ap (λ b. b && not (is_ring (filter_map (λ item. item) (items_between (found_in whole log) (floor_of (selected (found_in whole log) None)) (size_of (selected (found_in whole log) None)))))) is
-            linked (inr rings) = ap (λ b. form.ordered && not b) (found-ring rings (selected (found_in whole log) None) refl (commits (selected (found_in whole log) None) refl).1) ∙ and_false form.ordered
+            linked (inr rings) = ap (λ b. layout.form.ordered && not b) (found-ring rings (selected (found_in whole log) None) refl (commits (selected (found_in whole log) None) refl).1) ∙ and_false layout.form.ordered
 
 module _ {P : Type 0} (rules : Rules P) (hash : Bytes → Bytes) (form : Form) (shape : Shape) (digest_size : ℕ) where
   pub unordered-takes : OpensParts (any_engine unordered rules hash form shape digest_size)
@@ -812,11 +874,11 @@ module _ {P : Type 0} (rules : Rules P) (hash : Bytes → Bytes) (form : Form) (
 
   pub unordered-whole : (log : Log) → form.ordered ≡ false → IsKept (any_engine unordered rules hash form shape digest_size) log
       → length (head_of (any_engine unordered rules hash form shape digest_size) log) ≡ digest_size * length (peaks shape log.start) → OpensWhole (any_engine unordered rules hash form shape digest_size) log
-  unordered-whole log plain kept pinned = opens-whole (unordered-keeps rules) hash form shape digest_size log kept (inl plain) pinned
+  unordered-whole log plain kept pinned = opens-whole (unordered-keeps rules) hash (without_chunks form shape digest_size) log kept tt (inl plain) pinned
 
   pub ordered-whole : (log : Log) → IsKept (any_engine ordered rules hash form shape digest_size) log
       → length (head_of (any_engine ordered rules hash form shape digest_size) log) ≡ digest_size * length (peaks shape log.start) → OpensWhole (any_engine ordered rules hash form shape digest_size) log
-  ordered-whole log kept pinned = opens-whole (ordered-keeps rules) hash form shape digest_size log kept (inr (λ ops made. ring-from ops (made-ordered rules ops made))) pinned
+  ordered-whole log kept pinned = opens-whole (ordered-keeps rules) hash (without_chunks form shape digest_size) log kept tt (inr (λ ops made. ring-from ops (made-ordered rules ops made))) pinned
 
 -- Of a layout with chunks or without.
 module _ {P : Type 0} (rules : Rules P) (hash : Bytes → Bytes) (layout : Layout) where
@@ -831,3 +893,11 @@ module _ {P : Type 0} (rules : Rules P) (hash : Bytes → Bytes) (layout : Layou
 
   pub ordered-left : (log : Log) (to : ℕ) → IsKept (record { kind = ordered; rules = rules; hash = hash; layout = layout }) log → log.stable ≤ to → to ≤ length log.list → IsKept (record { kind = ordered; rules = rules; hash = hash; layout = layout }) (left_at to log)
   ordered-left = crash-keeps (ordered-keeps rules) hash layout
+
+  pub unordered-opened : NeedsRise layout.chunks layout.shape → (log : Log) → layout.form.ordered ≡ false → IsKept (record { kind = unordered; rules = rules; hash = hash; layout = layout }) log
+      → length (head_of (record { kind = unordered; rules = rules; hash = hash; layout = layout }) log) ≡ layout.digest_size * length (peaks layout.shape log.start) → OpensWhole (record { kind = unordered; rules = rules; hash = hash; layout = layout }) log
+  unordered-opened rise log plain kept pinned = opens-whole (unordered-keeps rules) hash layout log kept rise (inl plain) pinned
+
+  pub ordered-opened : NeedsRise layout.chunks layout.shape → (log : Log) → IsKept (record { kind = ordered; rules = rules; hash = hash; layout = layout }) log
+      → length (head_of (record { kind = ordered; rules = rules; hash = hash; layout = layout }) log) ≡ layout.digest_size * length (peaks layout.shape log.start) → OpensWhole (record { kind = ordered; rules = rules; hash = hash; layout = layout }) log
+  ordered-opened rise log kept pinned = opens-whole (ordered-keeps rules) hash layout log kept rise (inr (λ ops made. ring-from ops (made-ordered rules ops made))) pinned

@@ -6,7 +6,7 @@ use Rattle.qm_model.specs.Forms.{Form, IsOf, spelling}
 use Rattle.qm_model.specs.Live.{floor}
 use Rattle.qm_model.specs.Trees.{Shape, peaks}
 use Rattle.qm_model.specs.Proofs.{pins_at}
-use Rattle.qm_model.specs.Grafted.{boundary, chunk_node, pair_absorption_threshold, grafted_pins}
+use Rattle.qm_model.specs.Grafted.{boundary, chunk_node, needed_size, pair_absorption_threshold, grafted_pins}
 use Rattle.qm_model.specs.Walk.{Rules}
 use Rattle.qm_model.specs.Step.{Kind, Made}
 use Rattle.qm_model.specs.Batches.{Begins}
@@ -25,6 +25,11 @@ abbrev pub any_engine : {P : Type 0} → Kind → Rules P → (Bytes → Bytes) 
 any_engine kind rules hash form shape digest_size =
     record { kind = kind; rules = rules; hash = hash; layout = record { form = form; shape = shape; digest_size = digest_size; chunks = None } }
 
+-- an engine of current databases with these chunks
+abbrev pub current_engine : {P : Type 0} → Kind → Rules P → (Bytes → Bytes) → Form → Shape → ℕ → Chunks → Engine P
+current_engine kind rules hash form shape digest_size c =
+    record { kind = kind; rules = rules; hash = hash; layout = record { form = form; shape = shape; digest_size = digest_size; chunks = Some c } }
+
 -- a store by its list: from which location on it has the operations, how many chunks of bits are pruned, and up to which
 -- size the list outlives a crash
 pub record Log : Type 0 where
@@ -41,6 +46,11 @@ no_log = record { list = []; start = 0; chunks = 0; stable = 0 }
 abbrev pub ArePrompt : Option Chunks → Shape → Type 0
 ArePrompt None shape = ⊤
 ArePrompt (Some c) shape = (k : ℕ) → pair_absorption_threshold shape c.height (suc k) ≡ None → shape.birth (chunk_node c.height k) ≤ suc k * 2 ^ c.height
+
+-- more chunks need no smaller size to go
+abbrev pub NeedsRise : Option Chunks → Shape → Type 0
+NeedsRise None shape = ⊤
+NeedsRise (Some c) shape = (a b : ℕ) → a ≤ b → needed_size shape c.height (suc a) ≤ needed_size shape c.height (suc b)
 
 -- after an opening that takes up this list
 abbrev pub taken_up : List Operation → Log → Log
@@ -171,7 +181,11 @@ AreBetween e before after rests = All (λ r. IsBetween e before after (at_rest r
 abbrev pub CrashesBetween : {P : Type 0} → Engine P → Log → Log → Stored → Stored → Type 0
 CrashesBetween e before after old new = (image : Stored) → IsCrash old new image → IsBetween e before after image
 
--- What crashes leave of own stores of any databases inside each call, and inside one call behind another.
+-- the same log with so many chunks pruned
+abbrev pub counted : ℕ → Log → Log
+counted count log = record log { chunks = count }
+
+-- What crashes leave of own stores inside each call, and inside one call behind another.
 pub record CrashLaws {P : Type 0} (e : Engine P) : Type 0 where
   pub commit : (log : Log) (s : Stored) → IsOwn e log s → CrashesBetween e log (record log { stable = length log.list }) s (settled s)
   pub failed_commit : (log : Log) (s new : Stored) → IsOwn e log s → Fails (λ s. ReadsAs s.stable (IsImage s)) (λ s. ReadsAs s.stable (IsImage s)) s new → CrashesBetween e log (record log { stable = length log.list }) s new
@@ -180,16 +194,24 @@ pub record CrashLaws {P : Type 0} (e : Engine P) : Type 0 where
   pub failed_append : (log : Log) (s new : Stored) (more : List Operation) → IsOwn e log s → IsKept e (record log { list = log.list ++ more })
       → Fails (HasAppended (map (spelling e.layout.form) more)) (λ s. IsImage (appended (map (spelling e.layout.form) more) s)) s new → CrashesBetween e log (record log { list = log.list ++ more }) s new
   pub restart : (log : Log) (s new : Stored) → IsOwn e log s → (r : HasRestarted s new) → CrashesBetween e log (left_at r.to log) s new
-  pub put_meta : (log : Log) (s : Stored) (name : Bytes) (entries : List Entry) → IsOwn e log s → CrashesBetween e log log s (with_metadata name entries s)
+  -- metadata that counts so many chunks of the same list
+  pub put_meta : (log : Log) (s : Stored) (count : ℕ) (name : Bytes) (entries : List Entry) → IsOwn e log s → IsKept e (counted count log) → MetadataIs e e.layout.chunks (counted count log) (with_metadata name entries s)
+      → CrashesBetween e log (counted count log) s (with_metadata name entries s)
+  pub failed_put_meta : (log : Log) (s new : Stored) (count : ℕ) (name : Bytes) (entries : List Entry) → IsOwn e log s → IsKept e (counted count log) → MetadataIs e e.layout.chunks (counted count log) (with_metadata name entries s)
+      → Fails (λ s. ReadsAs s.stable (IsOldOrNew (with_metadata name entries) s)) (λ s. ReadsAs s.stable (IsOldOrNew (with_metadata name entries) s)) s new → CrashesBetween e log (counted count log) s new
   -- a prune, which commits first
-  pub prune : (log : Log) (s : Stored) (to : ℕ) (head : Bytes) → IsOwn e log s → log.start ≤ to → to ≤ floor (settled_list (record log { stable = length log.list })) → head ≡ head_of e (record log { start = to })
+  pub prune : (log : Log) (s : Stored) (to : ℕ) (head : Bytes) → IsOwn e log s → log.start ≤ to → IsKept e (record log { start = to; stable = length log.list }) → head ≡ head_of e (record log { start = to })
       → CrashesBetween e log (record log { start = to; stable = length log.list }) s (pruned to head (settled s))
   -- one that fails, behind its commit
-  pub failed_prune : (log : Log) (s new : Stored) (to : ℕ) (head : Bytes) → IsOwn e log s → log.start ≤ to → to ≤ floor (settled_list (record log { stable = length log.list })) → head ≡ head_of e (record log { start = to })
+  pub failed_prune : (log : Log) (s new : Stored) (to : ℕ) (head : Bytes) → IsOwn e log s → log.start ≤ to → IsKept e (record log { start = to; stable = length log.list }) → head ≡ head_of e (record log { start = to })
       → Fails (λ u. ReadsAs u.stable (IsOldOrNew (pruned to head) u)) (λ u. ReadsAs u.stable (IsOldOrNew (pruned to head) u)) (settled s) new → CrashesBetween e log (record log { start = to; stable = length log.list }) s new
+  -- of a database with chunks: a prune that commits first, and then counts the chunks that it prunes
+  pub counted_prune : (log : Log) (s : Stored) (count : ℕ) (name : Bytes) (entries : List Entry) (to : ℕ) (head : Bytes) → IsOwn e log s → IsKept e (record log { chunks = count; stable = length log.list })
+      → MetadataIs e e.layout.chunks (record log { chunks = count; stable = length log.list }) (with_metadata name entries (settled s)) → log.start ≤ to → IsKept e (record log { start = to; chunks = count; stable = length log.list })
+      → head ≡ head_of e (record log { start = to }) → CrashesBetween e log (record log { start = to; chunks = count; stable = length log.list }) s (pruned to head (with_metadata name entries (settled s)))
   -- an opening, of the list up to a commit, or of an empty store
-  pub opening : (log : Log) (s : Stored) (n : ℕ) → IsOwn e log s → n ≤ length log.list → IsCommitEnded (take n log.list) → log.start ≤ floor (take n log.list) → CrashesBetween e log (taken_up (take n log.list) log) s (settled (rewound n s))
-  pub failed_opening : (log : Log) (s new : Stored) (n : ℕ) → IsOwn e log s → n ≤ length log.list → IsCommitEnded (take n log.list) → log.start ≤ floor (take n log.list)
+  pub opening : (log : Log) (s : Stored) (n : ℕ) → IsOwn e log s → n ≤ length log.list → IsCommitEnded (take n log.list) → IsKept e (taken_up (take n log.list) log) → CrashesBetween e log (taken_up (take n log.list) log) s (settled (rewound n s))
+  pub failed_opening : (log : Log) (s new : Stored) (n : ℕ) → IsOwn e log s → n ≤ length log.list → IsCommitEnded (take n log.list) → IsKept e (taken_up (take n log.list) log)
       → Fails (λ s. ReadsAs (min s.stable n) (RewindLeaves n s)) (λ s. ReadsAs (min s.stable n) (RewindLeaves n s)) s new → CrashesBetween e log (taken_up (take n log.list) log) s new
   pub fresh : (log : Log) (s : Stored) → IsOwn e log s → log.list ≡ [] → log.start ≡ 0 → CrashesBetween e log (taken_up fresh log) s (settled (appended (map (spelling e.layout.form) fresh) s))
   pub destroy : (log : Log) (s : Stored) → peaks e.layout.shape 0 ≡ [] → IsOwn e log s → CrashesBetween e log no_log s (destroyed s)

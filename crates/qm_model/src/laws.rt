@@ -18,11 +18,12 @@ ghost use Rattle.qm_model.specs.Policies.{OnlyKeeps, NeverMoves};
 ghost use Rattle.qm_model.specs.Proofs.{item_leaves, proof_of, verdict};
 ghost use Rattle.qm_model.specs.Trees.{Shape, peaks, root, leaves_from};
 ghost use Rattle.qm_model.specs.StoreModel.{Stored, empty, IsImage};
-ghost use Rattle.qm_model.specs.Opening.{found};
-ghost use Rattle.qm_model.specs.Own.{Engine, any_engine, Log, no_log, left_at, IsKept, IsOwn, head_of, found_in, OpensParts, OpensWhole, IsBetween, OpensBetween, CrashLaws};
+ghost use Rattle.qm_model.specs.Opening.{found, Chunks};
+ghost use Rattle.qm_model.specs.Own.{Engine, any_engine, current_engine, ArePrompt, NeedsRise, Log, no_log, left_at, IsKept, IsOwn, head_of, found_in, OpensParts, OpensWhole, IsBetween, OpensBetween, CrashLaws};
 ghost use Rattle.qm_model.specs.Bits.{bits};
 ghost use Rattle.qm_model.specs.Grafted.{chunk_size, chunk_of, canonical};
 ghost use Rattle.qm_model.specs.RangeProofs.{chunks_of, range_proof, range_verdict};
+ghost use Rattle.qm_model.specs.Families.{Births, HasPlaces};
 
 /// A policy by its rules alone, for laws that hold of every policy.
 pub trait Ruled {
@@ -268,7 +269,31 @@ pub fn crashes_inside_calls_leave_own_stores<P: Ruled>()
     ensures ordered { (hash : Bytes → Bytes) (form : Form) (shape : Shape) (digest_size : ℕ) → CrashLaws (any_engine ordered P.rules hash form shape digest_size) }
 {}
 
-/// Where its head has the length of the pins at its start, such a store is opened without a bound, to a commit-ended beginning of one of the two lists or to the fresh one, no shorter than what was settled and stays.
+/// Of current databases over such a family: what an accepted opening takes up, where no node waits that it does not ask for; what a crash leaves at rest; and what one leaves at any moment inside a call, also of a prune that counts more chunks first.
+pub fn current_stores_stay_own<P: Ruled>()
+    ensures unordered_openings { (hash : Bytes → Bytes) (form : Form) (shape : Shape) (digest_size : ℕ) (c : Chunks) → ArePrompt (Some c) shape → OpensParts (current_engine unordered P.rules hash form shape digest_size c) }
+    ensures ordered_openings { (hash : Bytes → Bytes) (form : Form) (shape : Shape) (digest_size : ℕ) (c : Chunks) → ArePrompt (Some c) shape → OpensParts (current_engine ordered P.rules hash form shape digest_size c) }
+    ensures unordered_rest { (hash : Bytes → Bytes) (form : Form) (shape : Shape) (digest_size : ℕ) (c : Chunks) (births : Births) (log : Log) (s image : Stored) → HasPlaces shape births → 3 ≤ c.height →
+        let e = current_engine unordered P.rules hash form shape digest_size c in IsOwn e log s → (i : IsImage s image) → IsOwn e (left_at i.to log) image }
+    ensures ordered_rest { (hash : Bytes → Bytes) (form : Form) (shape : Shape) (digest_size : ℕ) (c : Chunks) (births : Births) (log : Log) (s image : Stored) → HasPlaces shape births → 3 ≤ c.height →
+        let e = current_engine ordered P.rules hash form shape digest_size c in IsOwn e log s → (i : IsImage s image) → IsOwn e (left_at i.to log) image }
+    ensures unordered_inside { (hash : Bytes → Bytes) (form : Form) (shape : Shape) (digest_size : ℕ) (c : Chunks) (births : Births) → HasPlaces shape births → 3 ≤ c.height → CrashLaws (current_engine unordered P.rules hash form shape digest_size c) }
+    ensures ordered_inside { (hash : Bytes → Bytes) (form : Form) (shape : Shape) (digest_size : ℕ) (c : Chunks) (births : Births) → HasPlaces shape births → 3 ≤ c.height → CrashLaws (current_engine ordered P.rules hash form shape digest_size c) }
+{}
+
+/// Where more chunks need no smaller size, and the head of an own store of current databases has the length of the pins at its start, an opening without a bound accepts it, and takes up no less than what is settled; so it does behind a crash at any moment.
+pub fn current_stores_are_opened<P: Ruled>()
+    ensures unordered { (hash : Bytes → Bytes) (form : Form) (shape : Shape) (digest_size : ℕ) (c : Chunks) (log : Log) → NeedsRise (Some c) shape →
+        let e = current_engine unordered P.rules hash form shape digest_size c in form.ordered ≡ false → IsKept e log → length (head_of e log) ≡ digest_size * length (peaks shape log.start) → OpensWhole e log }
+    ensures ordered { (hash : Bytes → Bytes) (form : Form) (shape : Shape) (digest_size : ℕ) (c : Chunks) (log : Log) → NeedsRise (Some c) shape →
+        let e = current_engine ordered P.rules hash form shape digest_size c in IsKept e log → length (head_of e log) ≡ digest_size * length (peaks shape log.start) → OpensWhole e log }
+    ensures unordered_between { (hash : Bytes → Bytes) (form : Form) (shape : Shape) (digest_size : ℕ) (c : Chunks) (births : Births) (before after : Log) (s : Stored) → HasPlaces shape births → 3 ≤ c.height → ArePrompt (Some c) shape → NeedsRise (Some c) shape →
+        let e = current_engine unordered P.rules hash form shape digest_size c in form.ordered ≡ false → (is : IsBetween e before after s) → length (head_of e is.log) ≡ digest_size * length (peaks shape is.log.start) → OpensBetween e before after s }
+    ensures ordered_between { (hash : Bytes → Bytes) (form : Form) (shape : Shape) (digest_size : ℕ) (c : Chunks) (births : Births) (before after : Log) (s : Stored) → HasPlaces shape births → 3 ≤ c.height → ArePrompt (Some c) shape → NeedsRise (Some c) shape →
+        let e = current_engine ordered P.rules hash form shape digest_size c in (is : IsBetween e before after s) → length (head_of e is.log) ≡ digest_size * length (peaks shape is.log.start) → OpensBetween e before after s }
+{}
+
+/// Where its head has the length of the pins at its start, a store of any databases that is between two logs is opened without a bound, to a commit-ended beginning of one of the two lists or to the fresh one, no shorter than what was settled and stays.
 pub fn what_crashes_leave_is_opened<P: Ruled>()
     ensures unordered { (hash : Bytes → Bytes) (form : Form) (shape : Shape) (digest_size : ℕ) (before after : Log) (s : Stored) →
         let e = any_engine unordered P.rules hash form shape digest_size in form.ordered ≡ false → (is : IsBetween e before after s) → length (head_of e is.log) ≡ digest_size * length (peaks shape is.log.start) → OpensBetween e before after s }
