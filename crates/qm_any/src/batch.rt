@@ -127,7 +127,12 @@ impl<F: Family, D: Digest, U: Update> UnmerkleizedBatch<F, D, U> {
     /// Records a write: a value for the key, or its end. The last write of a key counts. Where memory lacks the batch
     /// is gone.
     pub fn write(self, key: U::Key, value: Option<U::Value>) -> Result<Self, AllocError>
-        ensures { IfOk result (λ b. b ≡ record self { writes = self.writes ++ record { key = U.Key.bytes key; value = option_map U.Value.bytes value } ∷ [] }) }
+        ensures { IfOk result (λ b. b
+            ≡ record self {
+              writes = self.writes
+                  ++ record { key = U.Key.bytes key; value = option_map U.Value.bytes value }
+                  ∷ [];
+            }) }
     {
         let UnmerkleizedBatch {
             parent,
@@ -157,9 +162,11 @@ impl<F: Family, D: Digest, U: Update> UnmerkleizedBatch<F, D, U> {
         key: &U::Key,
         db: &mut Db<F, C, I, H, U, N>,
     ) -> Result<Option<U::Value>, Error>
-        ensures value { AtBegun C.Store ⟦<Db<F, C, I, H, U, N> as LaidOut>⟧.layout db.old self.now (λ chain above.
-            IfOk result (λ v. option_map U.Value.bytes v ≡ read_through chain.base self.now.writes (U.Key.bytes key.now))) }
-        ensures reads { ReadsThrough C.Store ⟦<Db<F, C, I, H, U, N> as LaidOut>⟧.layout db.old db.new result self.now.parent.bounds }
+        ensures value { AtBegun C.Store ⟦<Db<F, C, I, H, U, N> as LaidOut>⟧.layout db.old self.now
+            (λ chain above. IfOk result (λ v. option_map U.Value.bytes v
+            ≡ read_through chain.base self.now.writes (U.Key.bytes key.now))) }
+        ensures reads { ReadsThrough C.Store ⟦<Db<F, C, I, H, U, N> as LaidOut>⟧.layout db.old
+            db.new result self.now.parent.bounds }
     {
         self.parent.known(db.commitment())?;
         db.read_one(alloc, &self.parent.steps, &self.writes, key)
@@ -177,9 +184,11 @@ impl<F: Family, D: Digest, U: Update> UnmerkleizedBatch<F, D, U> {
         keys: &[U::Key],
         db: &mut Db<F, C, I, H, U, N>,
     ) -> Result<Vec<Option<U::Value>>, Error>
-        ensures values { AtBegun C.Store ⟦<Db<F, C, I, H, U, N> as LaidOut>⟧.layout db.old self.now (λ chain above.
-            IfOk result (λ v. map (option_map U.Value.bytes) v.items ≡ map (λ k. read_through chain.base self.now.writes (U.Key.bytes k)) keys.now)) }
-        ensures reads { ReadsThrough C.Store ⟦<Db<F, C, I, H, U, N> as LaidOut>⟧.layout db.old db.new result self.now.parent.bounds }
+        ensures values { AtBegun C.Store ⟦<Db<F, C, I, H, U, N> as LaidOut>⟧.layout db.old self.now
+            (λ chain above. IfOk result (λ v. map (option_map U.Value.bytes) v.items
+            ≡ map (λ k. read_through chain.base self.now.writes (U.Key.bytes k)) keys.now)) }
+        ensures reads { ReadsThrough C.Store ⟦<Db<F, C, I, H, U, N> as LaidOut>⟧.layout db.old
+            db.new result self.now.parent.bounds }
     {
         self.parent.known(db.commitment())?;
         db.read_all(alloc, &self.parent.steps, &self.writes, keys)
@@ -197,11 +206,15 @@ impl<F: Family, D: Digest, U: Update> UnmerkleizedBatch<F, D, U> {
         keys: Vec<U::Key>,
         db: &mut Db<F, C, I, H, U, N>,
     ) -> Result<(Vec<Read<F, U>>, Vec<Option<U::Value>>), Error>
-        ensures keys { IfOk result (λ r. keys_of U.Key.bytes r.0.items ≡ map U.Key.bytes keys.items) }
-        ensures found { AtBegun C.Store ⟦<Db<F, C, I, H, U, N> as LaidOut>⟧.layout db.old self.now (λ chain above. IfOk result (λ r. AreReads U.view U.Key.bytes r.0.items chain.base)) }
-        ensures values { AtBegun C.Store ⟦<Db<F, C, I, H, U, N> as LaidOut>⟧.layout db.old self.now (λ chain above.
-            IfOk result (λ r. map (option_map U.Value.bytes) r.1.items ≡ map (λ k. read_through chain.base self.now.writes (U.Key.bytes k)) keys.items)) }
-        ensures reads { ReadsThrough C.Store ⟦<Db<F, C, I, H, U, N> as LaidOut>⟧.layout db.old db.new result self.now.parent.bounds }
+        ensures keys { IfOk result (λ r.
+            keys_of U.Key.bytes r.0.items ≡ map U.Key.bytes keys.items) }
+        ensures found { AtBegun C.Store ⟦<Db<F, C, I, H, U, N> as LaidOut>⟧.layout db.old self.now
+            (λ chain above. IfOk result (λ r. AreReads U.view U.Key.bytes r.0.items chain.base)) }
+        ensures values { AtBegun C.Store ⟦<Db<F, C, I, H, U, N> as LaidOut>⟧.layout db.old self.now
+            (λ chain above. IfOk result (λ r. map (option_map U.Value.bytes) r.1.items
+            ≡ map (λ k. read_through chain.base self.now.writes (U.Key.bytes k)) keys.items)) }
+        ensures reads { ReadsThrough C.Store ⟦<Db<F, C, I, H, U, N> as LaidOut>⟧.layout db.old
+            db.new result self.now.parent.bounds }
     {
         self.parent.known(db.commitment())?;
         let reads = db.find_all(alloc, &self.parent.steps, keys)?;
@@ -221,10 +234,16 @@ impl<F: Family, D: Digest, U: Update> MerkleizedBatch<F, D, U> {
     /// The digest of the node at this position of the tree of the list that the batch makes, if the tree came to have it
     /// behind the batch's boundary. What it had before that a database at a state that the batch knows has, where it keeps it.
     pub fn get_node(&self, position: Position<F>) -> Option<D>
-        ensures held { (hash : List ℕ → List ℕ) (chain : Chain) (tip : List Operation) → IsMade (hashing_with D.bytes hash F.shape U.form) self.now chain tip
-            → (IsSome result ↔ ((trees.Shape.size F.shape self.now.bounds.db.size ≤ position) × (position < trees.Shape.size F.shape self.now.bounds.tip.size))) }
-        ensures value { (hash : List ℕ → List ℕ) (chain : Chain) (tip : List Operation) → IsMade (hashing_with D.bytes hash F.shape U.form) self.now chain tip
-            → (x : trees.Node) → trees.Shape.position F.shape x ≡ position → IfSome result (λ d. D.bytes d ≡ trees.digest_of hash F.shape (trees.leaves_from hash F.shape U.form 0 tip) x) }
+        ensures held { (hash : List ℕ → List ℕ) (chain : Chain) (tip : List Operation)
+            → IsMade (hashing_with D.bytes hash F.shape U.form) self.now chain tip
+            → (IsSome result
+            ↔ ((trees.Shape.size F.shape self.now.bounds.db.size ≤ position)
+            × (position < trees.Shape.size F.shape self.now.bounds.tip.size))) }
+        ensures value { (hash : List ℕ → List ℕ) (chain : Chain) (tip : List Operation)
+            → IsMade (hashing_with D.bytes hash F.shape U.form) self.now chain tip
+            → (x : trees.Node) → trees.Shape.position F.shape x ≡ position
+            → IfSome result (λ d. D.bytes d
+            ≡ trees.digest_of hash F.shape (trees.leaves_from hash F.shape U.form 0 tip) x) }
     {
         self.tree.get_node(position)
     }
@@ -240,8 +259,10 @@ impl<F: Family, D: Digest, U: Update> MerkleizedBatch<F, D, U> {
     /// Where the batch's own operations begin, and these.
     pub fn operations(&self) -> (Location<F>, &[qm_operations::Operation<F, U>])
         ensures base { result.0 ≡ self.now.bounds.base.size }
-        ensures own { (hashing : Hashing D) (chain : Chain) (tip : List Operation) → IsMade hashing self.now chain tip
-            → operation_views U.view U.Key.bytes U.Value.bytes result.1.now ≡ own_operations chain tip }
+        ensures own { (hashing : Hashing D) (chain : Chain) (tip : List Operation)
+            → IsMade hashing self.now chain tip
+            → operation_views U.view U.Key.bytes U.Value.bytes result.1.now
+            ≡ own_operations chain tip }
         ensures count { result.0 + length result.1.now ≡ self.now.bounds.tip.size }
     {
         (
@@ -252,7 +273,8 @@ impl<F: Family, D: Digest, U: Update> MerkleizedBatch<F, D, U> {
 
     /// What the steps of the batch and of its kept ancestors do to keys, the batch's own first. It takes no memory.
     pub fn diffs(&self) -> &[Rc<Diff<F, U::Key, U::Value>>]
-        ensures { map (λ d. changes_view U.Key.bytes U.Value.bytes d.value) result.now ≡ map (λ l. l.changes) self.now.layers }
+        ensures { map (λ d. changes_view U.Key.bytes U.Value.bytes d.value) result.now
+            ≡ map (λ l. l.changes) self.now.layers }
     {
         &self.diffs
     }
@@ -263,8 +285,16 @@ impl<F: Family, D: Digest, U: Update> MerkleizedBatch<F, D, U> {
         batch: &Rc<Self>,
         alloc: Global,
     ) -> Result<UnmerkleizedBatch<F, D, U>, AllocError>
-        ensures value { IfOk result (λ b. b ≡ record { parent = batch.now.value; keep = suc (length batch.now.value.bounds.ancestors); writes = [] }) }
-        ensures begun { (hashing : Hashing D) (chain : Chain) (tip : List Operation) → IsMade hashing batch.now.value chain tip → IfOk result (λ b. IsBegun hashing b (child_of None chain tip) chain) }
+        ensures value { IfOk result (λ b. b
+            ≡ record {
+              parent = batch.now.value;
+              keep = suc
+                  (length batch.now.value.bounds.ancestors);
+              writes = [];
+            }) }
+        ensures begun { (hashing : Hashing D) (chain : Chain) (tip : List Operation)
+            → IsMade hashing batch.now.value chain tip
+            → IfOk result (λ b. IsBegun hashing b (child_of None chain tip) chain) }
     {
         Self::new_batch_keeping(batch, alloc, batch.bounds.ancestors.len())
     }
@@ -276,8 +306,15 @@ impl<F: Family, D: Digest, U: Update> MerkleizedBatch<F, D, U> {
         alloc: Global,
         n: usize,
     ) -> Result<UnmerkleizedBatch<F, D, U>, AllocError>
-        ensures value { IfOk result (λ b. b ≡ record { parent = batch.now.value; keep = suc (min n (length batch.now.value.bounds.ancestors)); writes = [] }) }
-        ensures begun { (hashing : Hashing D) (chain : Chain) (tip : List Operation) → IsMade hashing batch.now.value chain tip
+        ensures value { IfOk result (λ b. b
+            ≡ record {
+              parent = batch.now.value;
+              keep = suc
+                  (min n (length batch.now.value.bounds.ancestors));
+              writes = [];
+            }) }
+        ensures begun { (hashing : Hashing D) (chain : Chain) (tip : List Operation)
+            → IsMade hashing batch.now.value chain tip
             → IfOk result (λ b. IsBegun hashing b (child_of (Some n) chain tip) chain) }
     {
         let keep = n.min(batch.bounds.ancestors.len()) + 1;
@@ -298,8 +335,11 @@ impl<F: Family, D: Digest, U: Update> MerkleizedBatch<F, D, U> {
         key: &U::Key,
         db: &mut Db<F, C, I, H, U, N>,
     ) -> Result<Option<U::Value>, Error>
-        ensures value { AtMade C.Store ⟦<Db<F, C, I, H, U, N> as LaidOut>⟧.layout db.old self.now (λ chain tip. IfOk result (λ v. option_map U.Value.bytes v ≡ lives.value_of tip (U.Key.bytes key.now))) }
-        ensures reads { ReadsThrough C.Store ⟦<Db<F, C, I, H, U, N> as LaidOut>⟧.layout db.old db.new result self.now.bounds }
+        ensures value { AtMade C.Store ⟦<Db<F, C, I, H, U, N> as LaidOut>⟧.layout db.old self.now
+            (λ chain tip. IfOk result (λ v.
+            option_map U.Value.bytes v ≡ lives.value_of tip (U.Key.bytes key.now))) }
+        ensures reads { ReadsThrough C.Store ⟦<Db<F, C, I, H, U, N> as LaidOut>⟧.layout db.old
+            db.new result self.now.bounds }
     {
         self.known(db.commitment())?;
         let writes = Writes::new(alloc);
@@ -318,9 +358,11 @@ impl<F: Family, D: Digest, U: Update> MerkleizedBatch<F, D, U> {
         keys: &[U::Key],
         db: &mut Db<F, C, I, H, U, N>,
     ) -> Result<Vec<Option<U::Value>>, Error>
-        ensures values { AtMade C.Store ⟦<Db<F, C, I, H, U, N> as LaidOut>⟧.layout db.old self.now (λ chain tip.
-            IfOk result (λ v. map (option_map U.Value.bytes) v.items ≡ map (λ k. lives.value_of tip (U.Key.bytes k)) keys.now)) }
-        ensures reads { ReadsThrough C.Store ⟦<Db<F, C, I, H, U, N> as LaidOut>⟧.layout db.old db.new result self.now.bounds }
+        ensures values { AtMade C.Store ⟦<Db<F, C, I, H, U, N> as LaidOut>⟧.layout db.old self.now
+            (λ chain tip. IfOk result (λ v. map (option_map U.Value.bytes) v.items
+            ≡ map (λ k. lives.value_of tip (U.Key.bytes k)) keys.now)) }
+        ensures reads { ReadsThrough C.Store ⟦<Db<F, C, I, H, U, N> as LaidOut>⟧.layout db.old
+            db.new result self.now.bounds }
     {
         self.known(db.commitment())?;
         let writes = Writes::new(alloc);
@@ -334,17 +376,32 @@ impl<F: Family, D: Digest, U: Update> MerkleizedBatch<F, D, U> {
         H: Hasher<Digest = D>,
         N: Chunks,
     >(&self, alloc: Global, db: &Db<F, C, I, H, U, N>) -> Result<Proof<D>, Error>
-        ensures proof { (list : List Operation) (chain : Chain) (tip : List Operation) → ⟦<Db<F, C, I, H, U, N> as LaidOut>⟧.stands db.now list
-            → IsMade ⟦<Db<F, C, I, H, U, N> as LaidOut>⟧.layout.hashing self.now chain tip → IsKnown list chain tip
-            → IfOk result (λ p. proof_view D.bytes p ≡ ops_proof H.hash F.shape U.form tip (length chain.base) (length tip)) }
+        ensures proof { (list : List Operation) (chain : Chain) (tip : List Operation)
+            → ⟦<Db<F, C, I, H, U, N> as LaidOut>⟧.stands db.now list
+            → IsMade ⟦<Db<F, C, I, H, U, N> as LaidOut>⟧.layout.hashing self.now chain tip
+            → IsKnown list chain tip
+            → IfOk result (λ p. proof_view D.bytes p
+            ≡ ops_proof H.hash F.shape U.form tip (length chain.base) (length tip)) }
         ensures readable { OnOk result (knows self.now.bounds db.now.commitment ≡ true) }
-        ensures stale { IfErr result (λ e. e ≡ Error.StaleRead → knows self.now.bounds db.now.commitment ≡ false) }
-        ensures never { IfErr result (λ e. (e ≡ Error.Memory) ⊎ ((e ≡ Error.StaleRead) ⊎ ((p : ℕ) × (e ≡ Error.Merkle (MerkleError.ElementPruned p))))) }
-        ensures order { IfErr result (λ e. e ≢ Error.Memory → e ≢ Error.StaleRead → knows self.now.bounds db.now.commitment ≡ true) }
-        ensures held { OnOk result (first_lacked (held_at F.shape self.now.tree db.now.log.tree) (needed_positions F.shape self.now.bounds.tip.size self.now.bounds.base.size self.now.bounds.tip.size) ≡ None) }
-        ensures lacked { IfErr result (λ e. e ≢ Error.StaleRead → IsLacked (held_at F.shape self.now.tree db.now.log.tree) (needed_positions F.shape self.now.bounds.tip.size self.now.bounds.base.size self.now.bounds.tip.size) e) }
-        ensures whole { C.start db.now.log.store ≡ 0 → (list : List Operation) (chain : Chain) (tip : List Operation) → ⟦<Db<F, C, I, H, U, N> as LaidOut>⟧.stands db.now list
-            → IsMade ⟦<Db<F, C, I, H, U, N> as LaidOut>⟧.layout.hashing self.now chain tip → IsKnown list chain tip
+        ensures stale { IfErr result (λ e.
+            e ≡ Error.StaleRead → knows self.now.bounds db.now.commitment ≡ false) }
+        ensures never { IfErr result (λ e. (e ≡ Error.Memory)
+            ⊎ ((e ≡ Error.StaleRead)
+            ⊎ ((p : ℕ) × (e ≡ Error.Merkle (MerkleError.ElementPruned p))))) }
+        ensures order { IfErr result (λ e. e ≢ Error.Memory → e ≢ Error.StaleRead
+            → knows self.now.bounds db.now.commitment ≡ true) }
+        ensures held { OnOk result (first_lacked (held_at F.shape self.now.tree db.now.log.tree)
+            (needed_positions F.shape self.now.bounds.tip.size self.now.bounds.base.size
+            self.now.bounds.tip.size)
+            ≡ None) }
+        ensures lacked { IfErr result (λ e. e ≢ Error.StaleRead
+            → IsLacked (held_at F.shape self.now.tree db.now.log.tree) (needed_positions F.shape
+            self.now.bounds.tip.size self.now.bounds.base.size self.now.bounds.tip.size) e) }
+        ensures whole { C.start db.now.log.store ≡ 0
+            → (list : List Operation) (chain : Chain) (tip : List Operation)
+            → ⟦<Db<F, C, I, H, U, N> as LaidOut>⟧.stands db.now list
+            → IsMade ⟦<Db<F, C, I, H, U, N> as LaidOut>⟧.layout.hashing self.now chain tip
+            → IsKnown list chain tip
             → IfErr result (λ e. e ≡ Error.Memory) }
     {
         self.known(db.commitment())?;
@@ -362,17 +419,31 @@ impl<F: Family, D: Digest, U: Update> MerkleizedBatch<F, D, U> {
         H: Hasher<Digest = D>,
         N: Chunks,
     >(&self, alloc: Global, db: &Db<F, C, I, H, U, N>) -> Result<Vec<D>, Error>
-        ensures pins { (list : List Operation) (chain : Chain) (tip : List Operation) → ⟦<Db<F, C, I, H, U, N> as LaidOut>⟧.stands db.now list
-            → IsMade ⟦<Db<F, C, I, H, U, N> as LaidOut>⟧.layout.hashing self.now chain tip → IsKnown list chain tip
-            → IfOk result (λ pins. map D.bytes pins.items ≡ pins_at H.hash F.shape U.form tip (length chain.base)) }
+        ensures pins { (list : List Operation) (chain : Chain) (tip : List Operation)
+            → ⟦<Db<F, C, I, H, U, N> as LaidOut>⟧.stands db.now list
+            → IsMade ⟦<Db<F, C, I, H, U, N> as LaidOut>⟧.layout.hashing self.now chain tip
+            → IsKnown list chain tip
+            → IfOk result (λ pins.
+            map D.bytes pins.items ≡ pins_at H.hash F.shape U.form tip (length chain.base)) }
         ensures readable { OnOk result (knows self.now.bounds db.now.commitment ≡ true) }
-        ensures stale { IfErr result (λ e. e ≡ Error.StaleRead → knows self.now.bounds db.now.commitment ≡ false) }
-        ensures never { IfErr result (λ e. (e ≡ Error.Memory) ⊎ ((e ≡ Error.StaleRead) ⊎ ((p : ℕ) × (e ≡ Error.Merkle (MerkleError.ElementPruned p))))) }
-        ensures order { IfErr result (λ e. e ≢ Error.Memory → e ≢ Error.StaleRead → knows self.now.bounds db.now.commitment ≡ true) }
-        ensures held { OnOk result (first_lacked (held_at F.shape self.now.tree db.now.log.tree) (trees.peak_positions F.shape self.now.bounds.base.size) ≡ None) }
-        ensures lacked { IfErr result (λ e. e ≢ Error.StaleRead → IsLacked (held_at F.shape self.now.tree db.now.log.tree) (trees.peak_positions F.shape self.now.bounds.base.size) e) }
-        ensures whole { C.start db.now.log.store ≡ 0 → (list : List Operation) (chain : Chain) (tip : List Operation) → ⟦<Db<F, C, I, H, U, N> as LaidOut>⟧.stands db.now list
-            → IsMade ⟦<Db<F, C, I, H, U, N> as LaidOut>⟧.layout.hashing self.now chain tip → IsKnown list chain tip
+        ensures stale { IfErr result (λ e.
+            e ≡ Error.StaleRead → knows self.now.bounds db.now.commitment ≡ false) }
+        ensures never { IfErr result (λ e. (e ≡ Error.Memory)
+            ⊎ ((e ≡ Error.StaleRead)
+            ⊎ ((p : ℕ) × (e ≡ Error.Merkle (MerkleError.ElementPruned p))))) }
+        ensures order { IfErr result (λ e. e ≢ Error.Memory → e ≢ Error.StaleRead
+            → knows self.now.bounds db.now.commitment ≡ true) }
+        ensures held { OnOk result (first_lacked (held_at F.shape self.now.tree db.now.log.tree)
+            (trees.peak_positions F.shape self.now.bounds.base.size)
+            ≡ None) }
+        ensures lacked { IfErr result (λ e. e ≢ Error.StaleRead
+            → IsLacked (held_at F.shape self.now.tree db.now.log.tree)
+            (trees.peak_positions F.shape self.now.bounds.base.size) e) }
+        ensures whole { C.start db.now.log.store ≡ 0
+            → (list : List Operation) (chain : Chain) (tip : List Operation)
+            → ⟦<Db<F, C, I, H, U, N> as LaidOut>⟧.stands db.now list
+            → IsMade ⟦<Db<F, C, I, H, U, N> as LaidOut>⟧.layout.hashing self.now chain tip
+            → IsKnown list chain tip
             → IfErr result (λ e. e ≡ Error.Memory) }
     {
         self.known(db.commitment())?;
@@ -391,13 +462,25 @@ impl<F: Family, D: Digest, U: Update> MerkleizedBatch<F, D, U> {
     ) -> Result<Rc<Self>, AllocError>
         requires few { commitment.size ≤ 2 ^ 62 }
         requires live { live ≤ commitment.size }
-        ensures { IfOk result (λ b. b.value ≡ record {
-          bounds = record { base = commitment_view D.bytes commitment; db = commitment_view D.bytes commitment; tip = commitment_view D.bytes commitment; ancestors = []; inactivity_floor = floor };
-          layers = record { base = commitment.size; operations = []; changes = [] } ∷ [];
-          tree = record { leaves = commitment.size; layers = [] };
-          live = live;
-          metadata = option_map (λ m. U.Value.bytes m.value) metadata;
-        }) }
+        ensures { IfOk result (λ b. b.value
+            ≡ record {
+              bounds = record {
+                base = commitment_view D.bytes commitment;
+                db =
+                    commitment_view D.bytes commitment;
+                tip = commitment_view D.bytes commitment;
+                ancestors
+                    = [];
+                inactivity_floor = floor;
+              };
+              layers = record
+                  { base = commitment.size; operations = []; changes = [] }
+                  ∷ [];
+              tree = record { leaves = commitment.size; layers = [] };
+              live = live;
+              metadata =
+                  option_map (λ m. U.Value.bytes m.value) metadata;
+            }) }
     {
         let steps = resting(alloc, commitment.size)?;
         let diffs = diffs_of(alloc, &steps)?;
@@ -425,7 +508,8 @@ impl<F: Family, D: Digest, U: Update> MerkleizedBatch<F, D, U> {
     // What stands for the tips of the ancestors that a child keeps, so many, newest first.
     fn child_tips(&self, alloc: Global, keep: usize) -> Result<Vec<Commitment<D>>, AllocError>
         requires { keep ≤ suc (length self.now.bounds.ancestors) }
-        ensures { IfOk result (λ tips. map (commitment_view D.bytes) tips.items ≡ child_tips keep self.now.bounds) }
+        ensures { IfOk result (λ tips.
+            map (commitment_view D.bytes) tips.items ≡ child_tips keep self.now.bounds) }
     {
         if keep == 0 {
             return Ok(Vec::new(alloc));
@@ -458,9 +542,14 @@ impl<F: Family, D: Digest, U: Update> MerkleizedBatch<F, D, U> {
         metadata: &Option<U::Value>,
     ) -> Result<Child<D, U>, Error>
         requires { keep ≤ suc (length self.now.bounds.ancestors) }
-        ensures placed { IfOk result (λ child. IsPlaced self.now keep (commitment_view D.bytes current.now) (commitment_view D.bytes child.boundary) (map (commitment_view D.bytes) child.tips.items)) }
-        ensures metadata { IfOk result (λ child. option_map (λ m. U.Value.bytes m.value) child.metadata ≡ option_map U.Value.bytes metadata.now) }
-        ensures refused { IfErr result (IsUnplaced self.now keep (commitment_view D.bytes current.now)) }
+        ensures placed { IfOk result (λ child. IsPlaced self.now keep
+            (commitment_view D.bytes current.now) (commitment_view D.bytes child.boundary)
+            (map (commitment_view D.bytes) child.tips.items)) }
+        ensures metadata { IfOk result (λ child.
+            option_map (λ m. U.Value.bytes m.value) child.metadata
+            ≡ option_map U.Value.bytes metadata.now) }
+        ensures refused { IfErr result
+            (IsUnplaced self.now keep (commitment_view D.bytes current.now)) }
     {
         let tips = self.child_tips(alloc, keep)?;
         let boundary = self.child_boundary(keep);
@@ -483,8 +572,17 @@ impl<F: Family, D: Digest, U: Update> MerkleizedBatch<F, D, U> {
         keep: usize,
     ) -> Result<(Vec<Step<F, U>>, Vec<Rc<Diff<F, U::Key, U::Value>>>), AllocError>
         requires { keep ≤ suc (length self.now.bounds.ancestors) }
-        ensures steps { IfOk result (λ r. map (λ l. l.value) r.0.items ≡ record { base = size; operations = operation_views U.view U.Key.bytes U.Value.bytes operations.items; changes = changes_view U.Key.bytes U.Value.bytes diff } ∷ take keep self.now.layers) }
-        ensures diffs { IfOk result (λ r. map (λ d. changes_view U.Key.bytes U.Value.bytes d.value) r.1.items ≡ map (λ l. l.changes) (map (λ l. l.value) r.0.items)) }
+        ensures steps { IfOk result (λ r. map (λ l. l.value) r.0.items
+            ≡ record {
+              base = size;
+              operations = operation_views U.view U.Key.bytes U.Value.bytes
+                  operations.items;
+              changes = changes_view U.Key.bytes U.Value.bytes diff;
+            }
+            ∷ take keep self.now.layers) }
+        ensures diffs { IfOk result (λ r.
+            map (λ d. changes_view U.Key.bytes U.Value.bytes d.value) r.1.items
+            ≡ map (λ l. l.changes) (map (λ l. l.value) r.0.items)) }
     {
         let (kept, _) = self.steps.split_at(keep);
         let own = own_step(alloc, size, operations, diff)?;
@@ -510,19 +608,28 @@ impl<F: Family, D: Digest, U: Update> MerkleizedBatch<F, D, U> {
 
     // Whether the batch can be read at this state of a database, which is then one of those that its steps lead through.
     pub(crate) fn known(&self, current: &Commitment<D>) -> Result<(), Error>
-        ensures readable { OnOk result (knows self.now.bounds (commitment_view D.bytes current.now) ≡ true) }
-        ensures stale { IfErr result (λ e. (e ≡ Error.StaleRead) × (knows self.now.bounds (commitment_view D.bytes current.now) ≡ false)) }
-        ensures reached { OnOk result (Contains (stops self.now.tree.leaves self.now.tree.layers) current.now.size) }
+        ensures readable { OnOk result
+            (knows self.now.bounds (commitment_view D.bytes current.now) ≡ true) }
+        ensures stale { IfErr result (λ e. (e ≡ Error.StaleRead)
+            × (knows self.now.bounds (commitment_view D.bytes current.now) ≡ false)) }
+        ensures reached { OnOk result
+            (Contains (stops self.now.tree.leaves self.now.tree.layers) current.now.size) }
     {
         self.bounds.compatible(current)
     }
 
     // Whether the batch can be applied at this state of a database.
     pub(crate) fn fits(&self, current: &Commitment<D>) -> Result<(), Error>
-        ensures fits { OnOk result (is_at (commitment_view D.bytes current.now) self.now.bounds.db self.now.bounds.ancestors ≡ true) }
-        ensures stale { IfErr result (λ e. (e ≡ Error.StaleBatch) × (is_at (commitment_view D.bytes current.now) self.now.bounds.db self.now.bounds.ancestors ≡ false)) }
+        ensures fits { OnOk result (is_at (commitment_view D.bytes current.now) self.now.bounds.db
+            self.now.bounds.ancestors
+            ≡ true) }
+        ensures stale { IfErr result (λ e. (e ≡ Error.StaleBatch)
+            × (is_at (commitment_view D.bytes current.now) self.now.bounds.db
+            self.now.bounds.ancestors
+            ≡ false)) }
         ensures among { OnOk result (Contains (bases self.now.layers) current.now.size) }
-        ensures reached { OnOk result (Contains (stops self.now.tree.leaves self.now.tree.layers) current.now.size) }
+        ensures reached { OnOk result
+            (Contains (stops self.now.tree.leaves self.now.tree.layers) current.now.size) }
     {
         self.bounds.validate_apply_to(current)
     }
@@ -556,14 +663,26 @@ impl<F: Family, D: Digest, U: Update> MerkleizedBatch<F, D, U> {
         alloc: Global,
         current: &Commitment<D>,
     ) -> Result<Lacking<'_, F, U>, Error>
-        ensures items { IfOk result (λ lack. map (λ v. v.items) lack.items.items ≡ map (spelling U.form) (operations_in (unapplied current.now.size self.now.layers))) }
-        ensures diffs { IfOk result (λ lack. map (λ d. changes_view U.Key.bytes U.Value.bytes d.value) lack.diffs.now ≡ map (λ l. l.changes) (unapplied current.now.size self.now.layers)) }
-        ensures metadata { IfOk result (λ lack. option_map (λ m. U.Value.bytes m.value) lack.metadata ≡ self.now.metadata) }
-        ensures count { IfOk result (λ lack. current.now.size + length lack.items.items ≡ self.now.bounds.tip.size) }
+        ensures items { IfOk result (λ lack. map (λ v. v.items) lack.items.items
+            ≡ map (spelling U.form) (operations_in (unapplied current.now.size self.now.layers))) }
+        ensures diffs { IfOk result (λ lack.
+            map (λ d. changes_view U.Key.bytes U.Value.bytes d.value) lack.diffs.now
+            ≡ map (λ l. l.changes) (unapplied current.now.size self.now.layers)) }
+        ensures metadata { IfOk result (λ lack.
+            option_map (λ m. U.Value.bytes m.value) lack.metadata ≡ self.now.metadata) }
+        ensures count { IfOk result (λ lack.
+            current.now.size + length lack.items.items ≡ self.now.bounds.tip.size) }
         ensures among { OnOk result (Contains (bases self.now.layers) current.now.size) }
-        ensures reached { OnOk result (Contains (stops self.now.tree.leaves self.now.tree.layers) current.now.size) }
-        ensures fits { OnOk result (is_at (commitment_view D.bytes current.now) self.now.bounds.db self.now.bounds.ancestors ≡ true) }
-        ensures stale { IfErr result (λ e. (e ≡ Error.Memory) ⊎ ((e ≡ Error.StaleBatch) × (is_at (commitment_view D.bytes current.now) self.now.bounds.db self.now.bounds.ancestors ≡ false))) }
+        ensures reached { OnOk result
+            (Contains (stops self.now.tree.leaves self.now.tree.layers) current.now.size) }
+        ensures fits { OnOk result (is_at (commitment_view D.bytes current.now) self.now.bounds.db
+            self.now.bounds.ancestors
+            ≡ true) }
+        ensures stale { IfErr result (λ e. (e ≡ Error.Memory)
+            ⊎ ((e ≡ Error.StaleBatch)
+            × (is_at (commitment_view D.bytes current.now) self.now.bounds.db
+            self.now.bounds.ancestors
+            ≡ false))) }
     {
         self.fits(current)?;
         let steps = unapplied_of(&self.steps, current.size);
@@ -585,7 +704,13 @@ fn own_step<F, U: Update>(
     operations: Vec<qm_operations::Operation<F, U>>,
     diff: Diff<F, U::Key, U::Value>,
 ) -> Result<Step<F, U>, AllocError>
-    ensures { IfOk result (λ step. step.value ≡ record { base = size; operations = operation_views U.view U.Key.bytes U.Value.bytes operations.items; changes = changes_view U.Key.bytes U.Value.bytes diff }) }
+    ensures { IfOk result (λ step. step.value
+        ≡ record {
+          base = size;
+          operations = operation_views U.view U.Key.bytes U.Value.bytes
+              operations.items;
+          changes = changes_view U.Key.bytes U.Value.bytes diff;
+        }) }
 {
     let diff = Rc::new(alloc, diff)?;
     Ok(Rc::new(alloc, Layer::new(size, operations, diff))?)
@@ -593,7 +718,8 @@ fn own_step<F, U: Update>(
 
 // The steps of a database at rest that has so many operations: one, which does nothing.
 fn resting<F, U: Update>(alloc: Global, size: u64) -> Result<Vec<Step<F, U>>, AllocError>
-    ensures { IfOk result (λ steps. map (λ l. l.value) steps.items ≡ record { base = size; operations = []; changes = [] } ∷ []) }
+    ensures { IfOk result (λ steps. map (λ l. l.value) steps.items
+        ≡ record { base = size; operations = []; changes = [] } ∷ []) }
 {
     let step = own_step(alloc, size, Vec::new(alloc), Diff::new(Vec::new(alloc)))?;
     let mut steps = Vec::new(alloc);
@@ -612,14 +738,22 @@ pub(crate) fn sealed<F: Family, D: Digest, U: Update>(
     root: D,
 ) -> Result<Rc<MerkleizedBatch<F, D, U>>, Error>
     requires keep { keep ≤ suc (length parent.now.bounds.ancestors) }
-    requires boundary { commitment_view D.bytes child.boundary ≡ child_boundary keep parent.now.bounds }
-    requires tips { map (commitment_view D.bytes) child.tips.items ≡ child_tips keep parent.now.bounds }
+    requires boundary { commitment_view D.bytes child.boundary
+        ≡ child_boundary keep parent.now.bounds }
+    requires tips { map (commitment_view D.bytes) child.tips.items
+        ≡ child_tips keep parent.now.bounds }
     requires count { parent.now.tree.leaves + length plan.operations ≡ tree.leaves }
     requires few { tree.leaves ≤ 2 ^ 62 }
     requires live { plan.live ≤ tree.leaves }
-    requires stops { stops tree.leaves tree.layers ≡ tree.leaves ∷ stops_since (child_boundary keep parent.now.bounds).size (stops parent.now.tree.leaves parent.now.tree.layers) }
-    ensures value { IfOk result (λ b. b.value ≡ child_made parent.now keep plan tree (D.bytes root) (option_map (λ m. U.Value.bytes m.value) child.metadata)) }
-    ensures above { IfOk result (λ b. All (λ n. b.value.bounds.db.size ≤ n) (stops b.value.tree.leaves b.value.tree.layers)) }
+    requires stops { stops tree.leaves tree.layers
+        ≡ tree.leaves
+        ∷ stops_since (child_boundary keep parent.now.bounds).size
+        (stops parent.now.tree.leaves parent.now.tree.layers) }
+    ensures value { IfOk result (λ b. b.value
+        ≡ child_made parent.now keep plan tree (D.bytes root)
+        (option_map (λ m. U.Value.bytes m.value) child.metadata)) }
+    ensures above { IfOk result (λ b.
+        All (λ n. b.value.bounds.db.size ≤ n) (stops b.value.tree.leaves b.value.tree.layers)) }
     ensures memory { IfErr result (λ e. e ≡ Error.Memory) }
 {
     let Plan {

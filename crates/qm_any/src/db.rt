@@ -210,7 +210,18 @@ impl<
         requires bits { bit_count N.LEN activity ≡ commitment.size }
         requires end { C.end log.store ≡ log.tree.leaves }
         requires live { live ≤ commitment.size }
-        ensures { result ≡ record { entries = I.entries index; activity = activity; log = log; commitment = commitment_view H.Digest.bytes commitment; floor = floor; live = live; metadata = option_map (λ m. U.Value.bytes m.value) metadata } }
+        ensures { result
+            ≡ record {
+              entries = I.entries index;
+              activity = activity;
+              log = log;
+              commitment =
+                  commitment_view H.Digest.bytes commitment;
+              floor = floor;
+              live = live;
+              metadata =
+                  option_map (λ m. U.Value.bytes m.value) metadata;
+            } }
     {
         Db {
             index,
@@ -251,9 +262,11 @@ impl<
 
     /// Begins a batch on the database as it is.
     pub fn new_batch(&self, alloc: Global) -> Result<UnmerkleizedBatch<F, H::Digest, U>, AllocError>
-        ensures value { IfOk result (λ b. b ≡ record { parent = at_rest self.now; keep = 0; writes = [] }) }
+        ensures value { IfOk result (λ b.
+            b ≡ record { parent = at_rest self.now; keep = 0; writes = [] }) }
         ensures begun { (n : ℕ) (list : List Operation) → ⟦<Self as LaidOut>⟧.stands self.now list
-            → IfOk result (λ b. IsBegun ⟦<Self as LaidOut>⟧.layout.hashing b (begun_on n list) (begun_on n list)) }
+            → IfOk result (λ b.
+            IsBegun ⟦<Self as LaidOut>⟧.layout.hashing b (begun_on n list) (begun_on n list)) }
     {
         let parent = self.to_batch(alloc)?;
         Ok(UnmerkleizedBatch::begun(alloc, parent, 0))
@@ -267,7 +280,8 @@ impl<
     ) -> Result<Rc<MerkleizedBatch<F, H::Digest, U>>, AllocError>
         ensures value { IfOk result (λ b. b.value ≡ at_rest self.now) }
         ensures made { (n : ℕ) (list : List Operation) → ⟦<Self as LaidOut>⟧.stands self.now list
-            → IfOk result (λ b. IsMade ⟦<Self as LaidOut>⟧.layout.hashing b.value (begun_on n list) list) }
+            → IfOk result (λ b.
+            IsMade ⟦<Self as LaidOut>⟧.layout.hashing b.value (begun_on n list) list) }
     {
         // The log has at most 2^62 items.
         self.log.bounds();
@@ -281,15 +295,20 @@ impl<
     pub fn get_node(&self, position: Position<F>) -> Option<H::Digest>
         ensures held { IsSome result ↔ Holds F.shape self.now.log.tree position }
         ensures value { (list : List Operation) → ⟦<Self as LaidOut>⟧.stands self.now list
-            → (x : trees.Node) → trees.Shape.birth F.shape x ≤ length list → trees.Shape.position F.shape x ≡ position → IfSome result (λ d. H.Digest.bytes d ≡ trees.digest_of H.hash F.shape (trees.leaves_from H.hash F.shape U.form 0 list) x) }
+            → (x : trees.Node) → trees.Shape.birth F.shape x ≤ length list
+            → trees.Shape.position F.shape x ≡ position
+            → IfSome result (λ d. H.Digest.bytes d
+            ≡ trees.digest_of H.hash F.shape (trees.leaves_from H.hash F.shape U.form 0 list) x) }
     {
         self.log.tree().get_node(position)
     }
 
     /// Whether the batch can be applied: the database is at its boundary or at a kept ancestor's tip. It takes no memory.
     pub fn validate_batch(&self, batch: &MerkleizedBatch<F, H::Digest, U>) -> Result<(), Error>
-        ensures fits { OnOk result (is_at self.now.commitment batch.now.bounds.db batch.now.bounds.ancestors ≡ true) }
-        ensures stale { IfErr result (λ e. (e ≡ Error.StaleBatch) × (is_at self.now.commitment batch.now.bounds.db batch.now.bounds.ancestors ≡ false)) }
+        ensures fits { OnOk result
+            (is_at self.now.commitment batch.now.bounds.db batch.now.bounds.ancestors ≡ true) }
+        ensures stale { IfErr result (λ e. (e ≡ Error.StaleBatch)
+            × (is_at self.now.commitment batch.now.bounds.db batch.now.bounds.ancestors ≡ false)) }
     {
         batch.fits(&self.commitment)
     }
@@ -306,21 +325,36 @@ impl<
     where
         I: Drop,
         H: Drop,
-        ensures stands { (list : List Operation) (chain : Chain) (tip : List Operation) → ⟦<Self as LaidOut>⟧.stands self list
+        ensures stands { (list : List Operation) (chain : Chain) (tip : List Operation)
+            → ⟦<Self as LaidOut>⟧.stands self list
             → IsMade ⟦<Self as LaidOut>⟧.layout.hashing batch.now chain tip → IsOnChain list chain
             → IfOk result (λ next. ⟦<Self as LaidOut>⟧.stands next tip) }
-        ensures fits { OnOk result (is_at self.commitment batch.now.bounds.db batch.now.bounds.ancestors ≡ true) }
-        ensures grown { (chain : Chain) (tip : List Operation) → IsMade ⟦<Self as LaidOut>⟧.layout.hashing batch.now chain tip
-            → IfOk result (λ next. Appended C.Store self.log.store next.log.store (map (spelling U.form) (drop self.commitment.size tip))) }
+        ensures fits { OnOk result
+            (is_at self.commitment batch.now.bounds.db batch.now.bounds.ancestors ≡ true) }
+        ensures grown { (chain : Chain) (tip : List Operation)
+            → IsMade ⟦<Self as LaidOut>⟧.layout.hashing batch.now chain tip
+            → IfOk result (λ next. Appended C.Store self.log.store next.log.store
+            (map (spelling U.form) (drop self.commitment.size tip))) }
         ensures start { C.start (store_after (λ db. db.log.store) result) ≡ C.start self.log.store }
-        ensures beside { beside_items (C.told (store_after (λ db. db.log.store) result)) ≡ beside_items (C.told self.log.store) }
+        ensures beside { beside_items (C.told (store_after (λ db. db.log.store) result))
+            ≡ beside_items (C.told self.log.store) }
         ensures later { IfOk result (λ next. C.faults self.log.store ≤ C.faults next.log.store) }
-        ensures stale { IfErr result (λ r. r.error ≡ Error.StaleBatch → (r.given ≡ Given.Database self) × (is_at self.commitment batch.now.bounds.db batch.now.bounds.ancestors ≡ false)) }
-        ensures part { (chain : Chain) (tip : List Operation) → IsMade ⟦<Self as LaidOut>⟧.layout.hashing batch.now chain tip → IfErr result (λ r. AppendedPart C.Store self.log.store (store_given (λ db. db.log.store) r.given)
-            (if is_at self.commitment batch.now.bounds.db batch.now.bounds.ancestors then map (spelling U.form) (drop self.commitment.size tip) else [])) }
-        ensures back { IfErr result (λ r. (x : Database C H.Digest) → r.given ≡ Given.Database x → (x ≡ self) × ((r.error ≡ Error.StaleBatch) ⊎ (r.error ≡ Error.Memory))) }
-        ensures causes { IfErr result (λ r. (r.error ≡ Error.StaleBatch) ⊎ ((r.error ≡ Error.Memory) ⊎ (r.error ≡ Error.Journal JournalError.Store))) }
-        ensures cause { IfErr result (λ r. IsCause (C.faults self.log.store) (C.faults (store_given (λ db. db.log.store) r.given)) (r.error ≡ Error.Journal JournalError.Store)) }
+        ensures stale { IfErr result (λ r. r.error ≡ Error.StaleBatch
+            → (r.given ≡ Given.Database self)
+            × (is_at self.commitment batch.now.bounds.db batch.now.bounds.ancestors ≡ false)) }
+        ensures part { (chain : Chain) (tip : List Operation)
+            → IsMade ⟦<Self as LaidOut>⟧.layout.hashing batch.now chain tip
+            → IfErr result (λ r.
+            AppendedPart C.Store self.log.store (store_given (λ db. db.log.store) r.given)
+            (if is_at self.commitment batch.now.bounds.db batch.now.bounds.ancestors then map
+            (spelling U.form) (drop self.commitment.size tip) else [])) }
+        ensures back { IfErr result (λ r. (x : Database C H.Digest) → r.given ≡ Given.Database x
+            → (x ≡ self) × ((r.error ≡ Error.StaleBatch) ⊎ (r.error ≡ Error.Memory))) }
+        ensures causes { IfErr result (λ r. (r.error ≡ Error.StaleBatch)
+            ⊎ ((r.error ≡ Error.Memory) ⊎ (r.error ≡ Error.Journal JournalError.Store))) }
+        ensures cause { IfErr result (λ r.
+            IsCause (C.faults self.log.store) (C.faults (store_given (λ db. db.log.store) r.given))
+            (r.error ≡ Error.Journal JournalError.Store)) }
     {
         match batch.lacking(alloc, &self.commitment) {
             Err(error) => Err(Refusal {
@@ -340,20 +374,44 @@ impl<
     where
         I: Drop,
         H: Drop,
-        requires count { self.commitment.size + length lacking.items.items ≡ batch.now.bounds.tip.size }
-        requires reach { Contains (stops batch.now.tree.leaves batch.now.tree.layers) self.commitment.size }
-        ensures log { IfOk result (λ next. (list : List (List ℕ)) (older : List (List (List ℕ))) → logs.IsLog C.Store F.shape H.Digest.bytes H.hash self.log list
-            → IsKeptTree H.Digest.bytes H.hash F.shape batch.now.tree (list ++ map (λ v. v.items) lacking.entry.items.items) older → Contains ((list ++ map (λ v. v.items) lacking.entry.items.items) ∷ older) list
-            → logs.IsLog C.Store F.shape H.Digest.bytes H.hash next.log (list ++ map (λ v. v.items) lacking.entry.items.items)) }
-        ensures index { IfOk result (λ next. (list tip : List Operation) → LeadTo (map (λ d. changes_view U.Key.bytes U.Value.bytes d.value) lacking.entry.diffs.now) list tip → IsIndexed I.index_key self.entries list → IsIndexed I.index_key next.entries tip) }
-        ensures active { IfOk result (λ next. (list tip : List Operation) → LeadTo (map (λ d. changes_view U.Key.bytes U.Value.bytes d.value) lacking.entry.diffs.now) list tip → IsCommitEnded list → batch.now.bounds.tip.size ≡ length tip → all_bits N.LEN self.activity ≡ bits list → all_bits N.LEN next.activity ≡ bits tip) }
-        ensures rest { IfOk result (λ next. (next.commitment ≡ batch.now.bounds.tip) × (next.floor ≡ batch.now.bounds.inactivity_floor) × (next.live ≡ batch.now.live) × (next.metadata ≡ option_map (λ m. U.Value.bytes m.value) lacking.entry.metadata)) }
-        ensures grown { IfOk result (λ next. Appended C.Store self.log.store next.log.store (map (λ v. v.items) lacking.entry.items.items)) }
+        requires count { self.commitment.size + length lacking.items.items
+            ≡ batch.now.bounds.tip.size }
+        requires reach { Contains (stops batch.now.tree.leaves batch.now.tree.layers)
+            self.commitment.size }
+        ensures log { IfOk result (λ next. (list : List (List ℕ)) (older : List (List (List ℕ)))
+            → logs.IsLog C.Store F.shape H.Digest.bytes H.hash self.log list
+            → IsKeptTree H.Digest.bytes H.hash F.shape batch.now.tree
+            (list ++ map (λ v. v.items) lacking.entry.items.items) older
+            → Contains ((list ++ map (λ v. v.items) lacking.entry.items.items) ∷ older) list
+            → logs.IsLog C.Store F.shape H.Digest.bytes H.hash next.log
+            (list ++ map (λ v. v.items) lacking.entry.items.items)) }
+        ensures index { IfOk result (λ next. (list tip : List Operation)
+            → LeadTo
+            (map (λ d. changes_view U.Key.bytes U.Value.bytes d.value) lacking.entry.diffs.now) list
+            tip → IsIndexed I.index_key self.entries list
+            → IsIndexed I.index_key next.entries tip) }
+        ensures active { IfOk result (λ next. (list tip : List Operation)
+            → LeadTo
+            (map (λ d. changes_view U.Key.bytes U.Value.bytes d.value) lacking.entry.diffs.now) list
+            tip → IsCommitEnded list → batch.now.bounds.tip.size ≡ length tip
+            → all_bits N.LEN self.activity ≡ bits list
+            → all_bits N.LEN next.activity ≡ bits tip) }
+        ensures rest { IfOk result (λ next. (next.commitment ≡ batch.now.bounds.tip)
+            × (next.floor ≡ batch.now.bounds.inactivity_floor) × (next.live ≡ batch.now.live)
+            × (next.metadata ≡ option_map (λ m. U.Value.bytes m.value) lacking.entry.metadata)) }
+        ensures grown { IfOk result (λ next. Appended C.Store self.log.store next.log.store
+            (map (λ v. v.items) lacking.entry.items.items)) }
         ensures later { IfOk result (λ next. C.faults self.log.store ≤ C.faults next.log.store) }
-        ensures part { IfErr result (λ r. AppendedPart C.Store self.log.store (store_given (λ db. db.log.store) r.given) (map (λ v. v.items) lacking.entry.items.items)) }
-        ensures back { IfErr result (λ r. (x : Database C H.Digest) → r.given ≡ Given.Database x → (x ≡ self) × (r.error ≡ Error.Memory)) }
-        ensures causes { IfErr result (λ r. (r.error ≡ Error.Memory) ⊎ (r.error ≡ Error.Journal JournalError.Store)) }
-        ensures cause { IfErr result (λ r. IsCause (C.faults self.log.store) (C.faults (store_given (λ db. db.log.store) r.given)) (r.error ≡ Error.Journal JournalError.Store)) }
+        ensures part { IfErr result (λ r.
+            AppendedPart C.Store self.log.store (store_given (λ db. db.log.store) r.given)
+            (map (λ v. v.items) lacking.entry.items.items)) }
+        ensures back { IfErr result (λ r. (x : Database C H.Digest) → r.given ≡ Given.Database x
+            → (x ≡ self) × (r.error ≡ Error.Memory)) }
+        ensures causes { IfErr result (λ r.
+            (r.error ≡ Error.Memory) ⊎ (r.error ≡ Error.Journal JournalError.Store)) }
+        ensures cause { IfErr result (λ r.
+            IsCause (C.faults self.log.store) (C.faults (store_given (λ db. db.log.store) r.given))
+            (r.error ≡ Error.Journal JournalError.Store)) }
     {
         let (log, beside) = self.apart();
         match log.append_tree(&lacking.items, &batch.tree) {
@@ -367,7 +425,9 @@ impl<
 
     /// The value of a key, if it is live. It takes one read of the log for each location in the key's bucket, at most.
     pub fn get(&mut self, alloc: Global, key: &U::Key) -> Result<Option<U::Value>, Error>
-        ensures value { (list : List Operation) → ⟦<Self as LaidOut>⟧.stands self.old list → (IfOk result (λ v. option_map U.Value.bytes v ≡ lives.value_of list (U.Key.bytes key.now))) }
+        ensures value { (list : List Operation) → ⟦<Self as LaidOut>⟧.stands self.old list
+            → (IfOk result (λ v.
+            option_map U.Value.bytes v ≡ lives.value_of list (U.Key.bytes key.now))) }
         ensures reads { Reads C.Store ⟦<Self as LaidOut>⟧.layout self.old self.new result }
     {
         let writes = Writes::new(alloc);
@@ -381,7 +441,8 @@ impl<
         keys: &[U::Key],
     ) -> Result<Vec<Option<U::Value>>, Error>
         ensures values { AtList C.Store ⟦<Self as LaidOut>⟧.layout self.old (λ list.
-            IfOk result (λ v. map (option_map U.Value.bytes) v.items ≡ map (λ k. lives.value_of list (U.Key.bytes k)) keys.now)) }
+            IfOk result (λ v. map (option_map U.Value.bytes) v.items
+            ≡ map (λ k. lives.value_of list (U.Key.bytes k)) keys.now)) }
         ensures reads { Reads C.Store ⟦<Self as LaidOut>⟧.layout self.old self.new result }
     {
         let writes = Writes::new(alloc);
@@ -394,8 +455,8 @@ impl<
         alloc: Global,
         key: &U::Key,
     ) -> Result<Option<(Location<F>, U)>, Error>
-        ensures value { AtList C.Store ⟦<Self as LaidOut>⟧.layout self.old (λ list.
-            IfOk result (λ found. option_map (read_view U.view) found ≡ update_of list (U.Key.bytes key.now))) }
+        ensures value { AtList C.Store ⟦<Self as LaidOut>⟧.layout self.old (λ list. IfOk result
+            (λ found. option_map (read_view U.view) found ≡ update_of list (U.Key.bytes key.now))) }
         ensures reads { Reads C.Store ⟦<Self as LaidOut>⟧.layout self.old self.new result }
     {
         self.find(alloc, &Vec::new(alloc), key)
@@ -409,8 +470,10 @@ impl<
         writes: &Writes<U::Key, U::Value>,
         key: &U::Key,
     ) -> Result<Option<U::Value>, Error>
-        ensures value { (list base : List Operation) → ⟦<Self as LaidOut>⟧.stands self.old list → LeadOver (map (λ l. l.value) steps.now) list base
-            → IfOk result (λ v. option_map U.Value.bytes v ≡ read_through base writes.now (U.Key.bytes key.now)) }
+        ensures value { (list base : List Operation) → ⟦<Self as LaidOut>⟧.stands self.old list
+            → LeadOver (map (λ l. l.value) steps.now) list base
+            → IfOk result (λ v.
+            option_map U.Value.bytes v ≡ read_through base writes.now (U.Key.bytes key.now)) }
         ensures reads { Reads C.Store ⟦<Self as LaidOut>⟧.layout self.old self.new result }
     {
         if let Some(write) = writes.last(key.as_bytes()) {
@@ -430,8 +493,10 @@ impl<
         writes: &Writes<U::Key, U::Value>,
         keys: &[U::Key],
     ) -> Result<Vec<Option<U::Value>>, Error>
-        ensures values { (list base : List Operation) → ⟦<Self as LaidOut>⟧.stands self.old list → LeadOver (map (λ l. l.value) steps.now) list base
-            → IfOk result (λ v. map (option_map U.Value.bytes) v.items ≡ map (λ k. read_through base writes.now (U.Key.bytes k)) keys.now) }
+        ensures values { (list base : List Operation) → ⟦<Self as LaidOut>⟧.stands self.old list
+            → LeadOver (map (λ l. l.value) steps.now) list base
+            → IfOk result (λ v. map (option_map U.Value.bytes) v.items
+            ≡ map (λ k. read_through base writes.now (U.Key.bytes k)) keys.now) }
         ensures reads { Reads C.Store ⟦<Self as LaidOut>⟧.layout self.old self.new result }
     {
         let mut values = Vec::new(alloc);
@@ -449,8 +514,10 @@ impl<
         steps: &[Step<F, U>],
         key: &U::Key,
     ) -> Result<Option<(Location<F>, U)>, Error>
-        ensures value { (list base : List Operation) → ⟦<Self as LaidOut>⟧.stands self.old list → LeadOver (map (λ l. l.value) steps.now) list base
-            → IfOk result (λ found. option_map (read_view U.view) found ≡ update_of base (U.Key.bytes key.now)) }
+        ensures value { (list base : List Operation) → ⟦<Self as LaidOut>⟧.stands self.old list
+            → LeadOver (map (λ l. l.value) steps.now) list base
+            → IfOk result (λ found.
+            option_map (read_view U.view) found ≡ update_of base (U.Key.bytes key.now)) }
         ensures reads { Reads C.Store ⟦<Self as LaidOut>⟧.layout self.old self.new result }
     {
         read_key(alloc, &self.index, &mut self.log, steps, key)
@@ -463,8 +530,10 @@ impl<
         steps: &[Step<F, U>],
         keys: Vec<U::Key>,
     ) -> Result<Vec<Read<F, U>>, Error>
-        ensures keys { IfOk result (λ reads. keys_of U.Key.bytes reads.items ≡ map U.Key.bytes keys.items) }
-        ensures found { (list base : List Operation) → ⟦<Self as LaidOut>⟧.stands self.old list → LeadOver (map (λ l. l.value) steps.now) list base
+        ensures keys { IfOk result (λ reads.
+            keys_of U.Key.bytes reads.items ≡ map U.Key.bytes keys.items) }
+        ensures found { (list base : List Operation) → ⟦<Self as LaidOut>⟧.stands self.old list
+            → LeadOver (map (λ l. l.value) steps.now) list base
             → IfOk result (λ reads. AreReads U.view U.Key.bytes reads.items base) }
         ensures reads { Reads C.Store ⟦<Self as LaidOut>⟧.layout self.old self.new result }
     {
@@ -489,16 +558,33 @@ impl<
         requires few { tree.now.leaves ≤ 2 ^ 62 }
         requires reach { Contains (stops tree.now.leaves tree.now.layers) self.old.commitment.size }
         requires boundary { boundary ≤ self.old.commitment.size }
-        ensures leaves { IfOk result (λ grown. grown.0.leaves ≡ tree.now.leaves + length operations.now) }
-        ensures taken { IfOk result (λ grown. IsSpelled U.form (operation_views U.view U.Key.bytes U.Value.bytes operations.now) grown.0.leaves) }
-        ensures stops { IfOk result (λ grown. stops grown.0.leaves grown.0.layers ≡ grown.0.leaves ∷ stops_since boundary (stops tree.now.leaves tree.now.layers)) }
-        ensures tree { (list base : List Operation) (older : List (List Operation)) → ⟦<Self as LaidOut>⟧.stands self.old list
-            → IsTree ⟦<Self as LaidOut>⟧.layout.hashing tree.now base older → Contains (base ∷ older) list
-            → IfOk result (λ grown. IsKeptTree H.Digest.bytes H.hash F.shape grown.0 (map (spelling U.form) (base ++ operation_views U.view U.Key.bytes U.Value.bytes operations.now)) (lists_since boundary (map (map (spelling U.form)) (base ∷ older)))) }
-        ensures root { (list base : List Operation) (older : List (List Operation)) → ⟦<Self as LaidOut>⟧.stands self.old list
-            → IsTree ⟦<Self as LaidOut>⟧.layout.hashing tree.now base older → Contains (base ∷ older) list
-            → floor ≡ lives.floor (base ++ operation_views U.view U.Key.bytes U.Value.bytes operations.now) → IfOk result (λ grown. H.Digest.bytes grown.1 ≡ ops_root H.hash F.shape U.form (base ++ operation_views U.view U.Key.bytes U.Value.bytes operations.now)) }
-        ensures refused { IfErr result (λ e. (e ≡ Error.Memory) ⊎ IsTooLong (map (spelling U.form) (operation_views U.view U.Key.bytes U.Value.bytes operations.now)) (tree.now.leaves + length operations.now) e) }
+        ensures leaves { IfOk result (λ grown.
+            grown.0.leaves ≡ tree.now.leaves + length operations.now) }
+        ensures taken { IfOk result (λ grown. IsSpelled U.form
+            (operation_views U.view U.Key.bytes U.Value.bytes operations.now) grown.0.leaves) }
+        ensures stops { IfOk result (λ grown. stops grown.0.leaves grown.0.layers
+            ≡ grown.0.leaves ∷ stops_since boundary (stops tree.now.leaves tree.now.layers)) }
+        ensures tree { (list base : List Operation) (older : List (List Operation))
+            → ⟦<Self as LaidOut>⟧.stands self.old list
+            → IsTree ⟦<Self as LaidOut>⟧.layout.hashing tree.now base older
+            → Contains (base ∷ older) list
+            → IfOk result (λ grown.
+            IsKeptTree H.Digest.bytes H.hash F.shape grown.0 (map (spelling U.form)
+            (base ++ operation_views U.view U.Key.bytes U.Value.bytes operations.now))
+            (lists_since boundary (map (map (spelling U.form)) (base ∷ older)))) }
+        ensures root { (list base : List Operation) (older : List (List Operation))
+            → ⟦<Self as LaidOut>⟧.stands self.old list
+            → IsTree ⟦<Self as LaidOut>⟧.layout.hashing tree.now base older
+            → Contains (base ∷ older) list
+            → floor
+            ≡ lives.floor (base ++ operation_views U.view U.Key.bytes U.Value.bytes operations.now)
+            → IfOk result (λ grown. H.Digest.bytes grown.1
+            ≡ ops_root H.hash F.shape U.form
+            (base ++ operation_views U.view U.Key.bytes U.Value.bytes operations.now)) }
+        ensures refused { IfErr result (λ e. (e ≡ Error.Memory)
+            ⊎ IsTooLong (map (spelling U.form)
+            (operation_views U.view U.Key.bytes U.Value.bytes operations.now))
+            (tree.now.leaves + length operations.now) e) }
         ensures same { self.new ≡ self.old }
     {
         let size = tree.leaves();
@@ -635,15 +721,22 @@ impl<
         requires size { base.now.size ≤ 2 ^ 62 }
         requires live { base.now.live ≤ base.now.size }
         requires slots { length wanted.slots.now ≡ length wanted.reads.now }
-        ensures plan { (list known : List Operation) → ⟦<Self as LaidOut>⟧.stands self.old list → IsBase (base_view base.now) list known
-            → HasRing U.form known → AreReads U.view U.Key.bytes wanted.entry.reads.now known
-            → IfOk result (λ plan. IsPlan plan known (stepped U.form P.rules known (wanted_view U.Key.bytes U.Value.bytes wanted.entry) policy.old (option_map U.Value.bytes metadata))) }
-        ensures next { (list known : List Operation) → ⟦<Self as LaidOut>⟧.stands self.old list → IsBase (base_view base.now) list known
-            → HasRing U.form known → AreReads U.view U.Key.bytes wanted.entry.reads.now known
-            → IfOk result (λ _. policy.new ≡ left_after U.form P.rules known (wanted_view U.Key.bytes U.Value.bytes wanted.entry) policy.old) }
+        ensures plan { (list known : List Operation) → ⟦<Self as LaidOut>⟧.stands self.old list
+            → IsBase (base_view base.now) list known → HasRing U.form known
+            → AreReads U.view U.Key.bytes wanted.entry.reads.now known
+            → IfOk result (λ plan. IsPlan plan known (stepped U.form P.rules known
+            (wanted_view U.Key.bytes U.Value.bytes wanted.entry) policy.old
+            (option_map U.Value.bytes metadata))) }
+        ensures next { (list known : List Operation) → ⟦<Self as LaidOut>⟧.stands self.old list
+            → IsBase (base_view base.now) list known → HasRing U.form known
+            → AreReads U.view U.Key.bytes wanted.entry.reads.now known
+            → IfOk result (λ _. policy.new
+            ≡ left_after U.form P.rules known (wanted_view U.Key.bytes U.Value.bytes wanted.entry)
+            policy.old) }
         ensures live { IfOk result (λ plan. plan.live ≤ base.now.size + length plan.operations) }
         ensures error { IfErr result (IsReadError C.Store self.old.log self.new.log) }
-        ensures whole { (list : List Operation) → ⟦<Self as LaidOut>⟧.stands self.old list → NoneBelow self.old.log.tree.start list → self.old.log.tree.start ≤ base.now.floor
+        ensures whole { (list : List Operation) → ⟦<Self as LaidOut>⟧.stands self.old list
+            → NoneBelow self.old.log.tree.start list → self.old.log.tree.start ≤ base.now.floor
             → IfErr result (λ e. (n : ℕ) → e ≢ Error.Journal (JournalError.ItemPruned n)) }
         ensures left { IsLeft C.Store ⟦<Self as LaidOut>⟧.layout.hashing self.old self.new }
     {
@@ -684,7 +777,9 @@ fn value_of<F, U: Update>(
     writes: &Writes<U::Key, U::Value>,
     read: &Read<F, U>,
 ) -> Result<Option<U::Value>, AllocError>
-    ensures { IfOk result (λ value. option_map U.Value.bytes value ≡ read_under writes.now (U.Key.bytes read.now.key) (option_map (read_view U.view) read.now.found)) }
+    ensures { IfOk result (λ value. option_map U.Value.bytes value
+        ≡ read_under writes.now (U.Key.bytes read.now.key)
+        (option_map (read_view U.view) read.now.found)) }
 {
     if let Some(write) = writes.last(read.key.as_bytes()) {
         return twin_option(alloc, &write.value);
@@ -701,7 +796,10 @@ pub(crate) fn values_of<F, U: Update>(
     writes: &Writes<U::Key, U::Value>,
     reads: &[Read<F, U>],
 ) -> Result<Vec<Option<U::Value>>, AllocError>
-    ensures { IfOk result (λ values. map (option_map U.Value.bytes) values.items ≡ map (λ r. read_under writes.now (U.Key.bytes r.key) (option_map (read_view U.view) r.found)) reads.now) }
+    ensures { IfOk result (λ values. map (option_map U.Value.bytes) values.items
+        ≡ map (λ r.
+        read_under writes.now (U.Key.bytes r.key) (option_map (read_view U.view) r.found))
+        reads.now) }
 {
     let mut values = Vec::with_capacity(alloc, reads.len())?;
     for read in reads {
@@ -730,10 +828,20 @@ fn indexed<
     requires grown { beside.commitment.size ≤ log.tree.leaves }
     requires end { C.end log.store ≡ log.tree.leaves }
     ensures log { IfOk result (λ next. next.log ≡ log) }
-    ensures index { IfOk result (λ next. (list tip : List Operation) → LeadTo (map (λ d. changes_view U.Key.bytes U.Value.bytes d.value) diffs.now) list tip → IsIndexed I.index_key beside.entries list → IsIndexed I.index_key next.entries tip) }
-    ensures active { IfOk result (λ next. (list tip : List Operation) → LeadTo (map (λ d. changes_view U.Key.bytes U.Value.bytes d.value) diffs.now) list tip → IsCommitEnded list → batch.now.bounds.tip.size ≡ length tip → all_bits N.LEN beside.activity ≡ bits list → all_bits N.LEN next.activity ≡ bits tip) }
-    ensures rest { IfOk result (λ next. (next.commitment ≡ batch.now.bounds.tip) × (next.floor ≡ batch.now.bounds.inactivity_floor) × (next.live ≡ batch.now.live) × (next.metadata ≡ option_map (λ m. U.Value.bytes m.value) metadata)) }
-    ensures back { IfErr result (λ r. (r.given ≡ Given.Store log.store) × (r.error ≡ Error.Memory)) }
+    ensures index { IfOk result (λ next. (list tip : List Operation)
+        → LeadTo (map (λ d. changes_view U.Key.bytes U.Value.bytes d.value) diffs.now) list tip
+        → IsIndexed I.index_key beside.entries list
+        → IsIndexed I.index_key next.entries tip) }
+    ensures active { IfOk result (λ next. (list tip : List Operation)
+        → LeadTo (map (λ d. changes_view U.Key.bytes U.Value.bytes d.value) diffs.now) list tip
+        → IsCommitEnded list → batch.now.bounds.tip.size ≡ length tip
+        → all_bits N.LEN beside.activity ≡ bits list
+        → all_bits N.LEN next.activity ≡ bits tip) }
+    ensures rest { IfOk result (λ next. (next.commitment ≡ batch.now.bounds.tip)
+        × (next.floor ≡ batch.now.bounds.inactivity_floor) × (next.live ≡ batch.now.live)
+        × (next.metadata ≡ option_map (λ m. U.Value.bytes m.value) metadata)) }
+    ensures back { IfErr result (λ r.
+        (r.given ≡ Given.Store log.store) × (r.error ≡ Error.Memory)) }
 {
     let Beside {
         mut index,
@@ -772,9 +880,15 @@ fn brought_up<
 ) -> Result<(), AllocError>
     requires bits { bit_count N.LEN activity.old ≤ size }
     requires few { size ≤ 2 ^ 62 }
-    ensures index { (list tip : List Operation) → LeadTo (map (λ d. changes_view K.bytes V.bytes d.value) diffs.now) list tip → IsIndexed I.index_key (I.entries index.old) list → OnOk result (IsIndexed I.index_key (I.entries index.new) tip) }
+    ensures index { (list tip : List Operation)
+        → LeadTo (map (λ d. changes_view K.bytes V.bytes d.value) diffs.now) list tip
+        → IsIndexed I.index_key (I.entries index.old) list
+        → OnOk result (IsIndexed I.index_key (I.entries index.new) tip) }
     ensures count { OnOk result (bit_count N.LEN activity.new ≡ size) }
-    ensures active { (list tip : List Operation) → LeadTo (map (λ d. changes_view K.bytes V.bytes d.value) diffs.now) list tip → IsCommitEnded list → size ≡ length tip → all_bits N.LEN activity.old ≡ bits list → OnOk result (all_bits N.LEN activity.new ≡ bits tip) }
+    ensures active { (list tip : List Operation)
+        → LeadTo (map (λ d. changes_view K.bytes V.bytes d.value) diffs.now) list tip
+        → IsCommitEnded list → size ≡ length tip → all_bits N.LEN activity.old ≡ bits list
+        → OnOk result (all_bits N.LEN activity.new ≡ bits tip) }
     ensures err { OnErr result (activity.new ≡ activity.old) }
 {
     apply_diffs(index, diffs)?;
@@ -793,9 +907,11 @@ fn given_back<
     beside: Beside<F, I, H::Digest, U, N>,
     given: LogGiven<AuthLog<F, C, H>, C>,
 ) -> Given<Db<F, C, I, H, U, N>, C>
-    requires { (log : logs.Log C H.Digest) → given ≡ LogGiven.Log log → (beside.commitment.size ≡ log.tree.leaves) × (C.end log.store ≡ log.tree.leaves) }
+    requires { (log : logs.Log C H.Digest) → given ≡ LogGiven.Log log
+        → (beside.commitment.size ≡ log.tree.leaves) × (C.end log.store ≡ log.tree.leaves) }
     ensures store { store_given (λ db. db.log.store) result ≡ logs.store_given given }
-    ensures back { (x : Database C H.Digest) → result ≡ Given.Database x → (given ≡ LogGiven.Log x.log) × (x ≡ over beside x.log) }
+    ensures back { (x : Database C H.Digest) → result ≡ Given.Database x
+        → (given ≡ LogGiven.Log x.log) × (x ≡ over beside x.log) }
 {
     match given {
         LogGiven::Log(log) => Given::Database(beside.over(log)),

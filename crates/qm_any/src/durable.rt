@@ -28,8 +28,10 @@ impl<
     /// Makes the operations stable: from then on a crash leaves them all. It takes one call of the store and no memory. A
     /// refusal gives back the store.
     pub fn commit(self) -> Result<Self, Refusal<Self, C>>
-        ensures stands { (list : List Operation) → ⟦<Self as LaidOut>⟧.stands self list → IfOk result (λ db. ⟦<Self as LaidOut>⟧.stands db list) }
-        ensures committed { IfOk result (HasLasted C.Store ⟦<Self as LaidOut>⟧.layout.hashing settled self) }
+        ensures stands { (list : List Operation) → ⟦<Self as LaidOut>⟧.stands self list
+            → IfOk result (λ db. ⟦<Self as LaidOut>⟧.stands db list) }
+        ensures committed { IfOk result
+            (HasLasted C.Store ⟦<Self as LaidOut>⟧.layout.hashing settled self) }
         ensures refused { IfErr result (IsGivenUp C.Store (HasLeftStable C.Store) self.log.store) }
     {
         let (log, beside) = self.apart();
@@ -38,8 +40,10 @@ impl<
 
     /// Makes all that the store holds stable. It takes one call of the store and no memory. A refusal gives back the store.
     pub fn sync(self) -> Result<Self, Refusal<Self, C>>
-        ensures stands { (list : List Operation) → ⟦<Self as LaidOut>⟧.stands self list → IfOk result (λ db. ⟦<Self as LaidOut>⟧.stands db list) }
-        ensures synced { IfOk result (HasLasted C.Store ⟦<Self as LaidOut>⟧.layout.hashing settled self) }
+        ensures stands { (list : List Operation) → ⟦<Self as LaidOut>⟧.stands self list
+            → IfOk result (λ db. ⟦<Self as LaidOut>⟧.stands db list) }
+        ensures synced { IfOk result
+            (HasLasted C.Store ⟦<Self as LaidOut>⟧.layout.hashing settled self) }
         ensures refused { IfErr result (IsGivenUp C.Store (HasLeftStable C.Store) self.log.store) }
     {
         let (log, beside) = self.apart();
@@ -48,9 +52,12 @@ impl<
 
     /// Replaces the metadata that the store has under a name. A refusal gives back the store.
     pub fn put_meta(self, name: &str, entries: &[MetaEntry]) -> Result<Self, Refusal<Self, C>>
-        ensures stands { (list : List Operation) → ⟦<Self as LaidOut>⟧.stands self list → IfOk result (λ db. ⟦<Self as LaidOut>⟧.stands db list) }
-        ensures put { IfOk result (HasLasted C.Store ⟦<Self as LaidOut>⟧.layout.hashing (with_metadata name.now entries.now) self) }
-        ensures refused { IfErr result (IsGivenUp C.Store (HasLeft C.Store (λ s. ReadsAs s.stable (IsOldOrNew (with_metadata name.now entries.now) s))) self.log.store) }
+        ensures stands { (list : List Operation) → ⟦<Self as LaidOut>⟧.stands self list
+            → IfOk result (λ db. ⟦<Self as LaidOut>⟧.stands db list) }
+        ensures put { IfOk result (HasLasted C.Store ⟦<Self as LaidOut>⟧.layout.hashing
+            (with_metadata name.now entries.now) self) }
+        ensures refused { IfErr result (IsGivenUp C.Store (HasLeft C.Store (λ s.
+            ReadsAs s.stable (IsOldOrNew (with_metadata name.now entries.now) s))) self.log.store) }
     {
         let (log, beside) = self.apart();
         over(beside, log.put_meta(name, entries))
@@ -61,13 +68,23 @@ impl<
     /// pruned. The database comes back as it was where the location is past its boundary; every other refusal gives back the
     /// store.
     pub fn prune(self, alloc: Global, loc: Location<F>) -> Result<Self, Refusal<Self, C>>
-        ensures stands { (list : List Operation) → ⟦<Self as LaidOut>⟧.stands self list → IfOk result (λ db. ⟦<Self as LaidOut>⟧.stands db list) }
-        ensures whole { (list : List Operation) → ⟦<Self as LaidOut>⟧.stands self list → NoneBelow self.log.tree.start list → IfOk result (λ db. NoneBelow db.log.tree.start list) }
-        ensures pruned { IfOk result (HasPruned C.Store ⟦<Self as LaidOut>⟧.layout settled loc self) }
-        ensures boundary { (list : List Operation) → ⟦<Self as LaidOut>⟧.stands self list → boundary_of self ≡ lives.floor list }
+        ensures stands { (list : List Operation) → ⟦<Self as LaidOut>⟧.stands self list
+            → IfOk result (λ db. ⟦<Self as LaidOut>⟧.stands db list) }
+        ensures whole { (list : List Operation) → ⟦<Self as LaidOut>⟧.stands self list
+            → NoneBelow self.log.tree.start list
+            → IfOk result (λ db. NoneBelow db.log.tree.start list) }
+        ensures pruned { IfOk result
+            (HasPruned C.Store ⟦<Self as LaidOut>⟧.layout settled loc self) }
+        ensures boundary { (list : List Operation) → ⟦<Self as LaidOut>⟧.stands self list
+            → boundary_of self ≡ lives.floor list }
         ensures fits { OnOk result (loc ≤ boundary_of self) }
-        ensures beyond { IfErr result (λ r. boundary_of self < loc → (r.given ≡ Given.Database self) × (r.error ≡ Error.PruneBeyondMinRequired loc (boundary_of self))) }
-        ensures refused { IfErr result (λ r. loc ≤ boundary_of self → IsGivenUp C.Store (λ old new. HasLeftStable C.Store old new ⊎ HasLeftPruned C.Store ⟦<Self as LaidOut>⟧.layout.hashing settled loc self.log new) self.log.store r) }
+        ensures beyond { IfErr result (λ r. boundary_of self < loc
+            → (r.given ≡ Given.Database self)
+            × (r.error ≡ Error.PruneBeyondMinRequired loc (boundary_of self))) }
+        ensures refused { IfErr result (λ r. loc ≤ boundary_of self
+            → IsGivenUp C.Store (λ old new. HasLeftStable C.Store old new
+            ⊎ HasLeftPruned C.Store ⟦<Self as LaidOut>⟧.layout.hashing settled loc self.log new)
+            self.log.store r) }
     {
         let boundary = self.sync_boundary().get().min(self.size().get());
         if loc.get() > boundary {
@@ -84,9 +101,14 @@ impl<
     fn cut(self, alloc: Global, to: u64) -> Result<Self, Refusal<Self, C>>
         requires size { to ≤ self.commitment.size }
         requires stable { IfSome (C.told self.log.store) (λ s. s.stable ≡ end_of s) }
-        ensures stands { (list : List Operation) → to ≤ lives.floor list → ⟦<Self as LaidOut>⟧.stands self list → IfOk result (λ db. ⟦<Self as LaidOut>⟧.stands db list) }
-        ensures pruned { IfOk result (HasPruned C.Store ⟦<Self as LaidOut>⟧.layout (λ s. s) to self) }
-        ensures refused { IfErr result (IsGivenUp C.Store (λ _. HasLeftPruned C.Store ⟦<Self as LaidOut>⟧.layout.hashing (λ s. s) to self.log) self.log.store) }
+        ensures stands { (list : List Operation) → to ≤ lives.floor list
+            → ⟦<Self as LaidOut>⟧.stands self list
+            → IfOk result (λ db. ⟦<Self as LaidOut>⟧.stands db list) }
+        ensures pruned { IfOk result
+            (HasPruned C.Store ⟦<Self as LaidOut>⟧.layout (λ s. s) to self) }
+        ensures refused { IfErr result (IsGivenUp C.Store (λ _.
+            HasLeftPruned C.Store ⟦<Self as LaidOut>⟧.layout.hashing (λ s. s) to self.log)
+            self.log.store) }
     {
         self.prune_bits(to).prune_log(alloc, to)
     }
@@ -95,7 +117,9 @@ impl<
     /// memory.
     pub fn prune_bits(self, to: u64) -> Self
         requires size { to ≤ self.commitment.size }
-        ensures stands { (list : List Operation) → to ≤ lives.floor list → ⟦<Self as LaidOut>⟧.stands self list → ⟦<Self as LaidOut>⟧.stands result list }
+        ensures stands { (list : List Operation) → to ≤ lives.floor list
+            → ⟦<Self as LaidOut>⟧.stands self list
+            → ⟦<Self as LaidOut>⟧.stands result list }
         ensures pruned { result ≡ record self { activity = bits_from N.LEN to self.activity } }
     {
         let (log, mut beside) = self.apart();
@@ -108,9 +132,13 @@ impl<
     pub fn prune_log(self, alloc: Global, to: u64) -> Result<Self, Refusal<Self, C>>
         requires size { to ≤ self.commitment.size }
         requires stable { IfSome (C.told self.log.store) (λ s. s.stable ≡ end_of s) }
-        ensures stands { (list : List Operation) → ⟦<Self as LaidOut>⟧.stands self list → IfOk result (λ db. ⟦<Self as LaidOut>⟧.stands db list) }
-        ensures pruned { IfOk result (HasPrunedLog C.Store ⟦<Self as LaidOut>⟧.layout.hashing to self) }
-        ensures refused { IfErr result (IsGivenUp C.Store (λ _. HasLeftPruned C.Store ⟦<Self as LaidOut>⟧.layout.hashing (λ s. s) to self.log) self.log.store) }
+        ensures stands { (list : List Operation) → ⟦<Self as LaidOut>⟧.stands self list
+            → IfOk result (λ db. ⟦<Self as LaidOut>⟧.stands db list) }
+        ensures pruned { IfOk result
+            (HasPrunedLog C.Store ⟦<Self as LaidOut>⟧.layout.hashing to self) }
+        ensures refused { IfErr result (IsGivenUp C.Store (λ _.
+            HasLeftPruned C.Store ⟦<Self as LaidOut>⟧.layout.hashing (λ s. s) to self.log)
+            self.log.store) }
     {
         let (log, beside) = self.apart();
         let (start, _) = log.bounds();
@@ -123,7 +151,8 @@ impl<
     /// Empties the store: a database that is opened on it then is fresh. A refusal gives back the store.
     pub fn destroy(self) -> Result<C, Refusal<Self, C>>
         ensures destroyed { IfOk result (IsDestroyed C.Store self.log.store) }
-        ensures refused { IfErr result (IsGivenUp C.Store (HasLeftDestroyed C.Store) self.log.store) }
+        ensures refused { IfErr result
+            (IsGivenUp C.Store (HasLeftDestroyed C.Store) self.log.store) }
     {
         let mut store = self.close();
         match store.destroy() {
@@ -148,7 +177,8 @@ fn over<
     beside: Beside<F, I, H::Digest, U, N>,
     done: Result<AuthLog<F, C, H>, LogRefusal<AuthLog<F, C, H>, C>>,
 ) -> Result<Db<F, C, I, H, U, N>, Refusal<Db<F, C, I, H, U, N>, C>>
-    requires { IfOk done (λ log. (beside.commitment.size ≡ log.tree.leaves) × (C.end log.store ≡ log.tree.leaves)) }
+    requires { IfOk done (λ log.
+        (beside.commitment.size ≡ log.tree.leaves) × (C.end log.store ≡ log.tree.leaves)) }
     ensures { result ≡ over_log beside done }
 {
     match done {

@@ -10,11 +10,17 @@ use qm_store::Store;
 
 /// Of a database that stands for a list: each bit below its floor is clear.
 pub fn bits_below_the_floor_are_clear<C: Store, D>()
-    ensures { (layout : Layout D) (db : Database C D) (list : List Operation) (i : ℕ) → IsDatabase C.Store layout db list → i < db.floor → slice_index_or (all_bits layout.chunk db.activity) i false ≡ false }
+    ensures { (layout : Layout D) (db : Database C D) (list : List Operation) (i : ℕ)
+        → IsDatabase C.Store layout db list → i < db.floor
+        → slice_index_or (all_bits layout.chunk db.activity) i false ≡ false }
 {}
 
 /// Its floor is a location of the list, and its commit exactly where no key is live.
 pub fn an_empty_database_has_its_floor_at_the_commit<C: Store, D>()
-    ensures within { (layout : Layout D) (db : Database C D) (list : List Operation) → IsDatabase C.Store layout db list → db.floor < db.commitment.size }
-    ensures empty { (layout : Layout D) (db : Database C D) (list : List Operation) → IsDatabase C.Store layout db list → (db.live ≡ 0) ↔ (suc db.floor ≡ db.commitment.size) }
+    ensures within { (layout : Layout D) (db : Database C D) (list : List Operation)
+        → IsDatabase C.Store layout db list
+        → db.floor < db.commitment.size }
+    ensures empty { (layout : Layout D) (db : Database C D) (list : List Operation)
+        → IsDatabase C.Store layout db list → (db.live ≡ 0)
+        ↔ (suc db.floor ≡ db.commitment.size) }
 {}

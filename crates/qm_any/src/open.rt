@@ -41,16 +41,27 @@ pub(crate) fn begin<
 ) -> Result<Db<F, C, I, H, U, N>, Refusal<Db<F, C, I, H, U, N>, C>>
     requires start { C.start store ≡ 0 }
     requires empty { C.end store ≡ 0 }
-    ensures stands { IfSome (C.told store) (λ _. IfOk result (λ db. ⟦<Db<F, C, I, H, U, N> as LaidOut>⟧.stands db fresh)) }
-    ensures became { IfOk result (λ db. Becomes (C.told store) (C.told db.log.store) (λ s. settled (appended (map (spelling U.form) fresh) s))) }
-    ensures left { IfErr result (λ r. Turns (C.told store) (C.told (store_given (λ db. db.log.store) r.given)) (HasAppended (map (spelling U.form) fresh))) }
-    ensures unopened { IfErr result (λ r. IfSome (C.told store) (λ s. IsSome (content_refusal (any_layout U.form F.shape H.Digest.SIZE) (any_found U.form s) None) → IsUnchanged C.Store store (store_given (λ db. db.log.store) r.given))) }
+    ensures stands { IfSome (C.told store) (λ _.
+        IfOk result (λ db. ⟦<Db<F, C, I, H, U, N> as LaidOut>⟧.stands db fresh)) }
+    ensures became { IfOk result (λ db. Becomes (C.told store) (C.told db.log.store)
+        (λ s. settled (appended (map (spelling U.form) fresh) s))) }
+    ensures left { IfErr result (λ r.
+        Turns (C.told store) (C.told (store_given (λ db. db.log.store) r.given))
+        (HasAppended (map (spelling U.form) fresh))) }
+    ensures unopened { IfErr result (λ r. IfSome (C.told store) (λ s.
+        IsSome (content_refusal (any_layout U.form F.shape H.Digest.SIZE) (any_found U.form s) None)
+        → IsUnchanged C.Store store (store_given (λ db. db.log.store) r.given))) }
     ensures pruned { IfOk result (λ db. db.activity.pruned ≡ 0) }
     ensures start { IfOk result (λ db. C.start db.log.store ≡ C.start store) }
     ensures later { IfOk result (λ db. C.faults store ≤ C.faults db.log.store) }
-    ensures accepted { IfSome (C.told store) (λ s. OnOk result (content_refusal (any_layout U.form F.shape H.Digest.SIZE) (any_found U.form s) None ≡ None)) }
-    ensures refused { IfSome (C.told store) (λ s. IfErr result (λ r. IsDue r.error (content_refusal (any_layout U.form F.shape H.Digest.SIZE) (any_found U.form s) None))) }
-    ensures back { IfErr result (λ r. (s : C) × (r.given ≡ Given.Store s) × (C.start s ≡ C.start store) × (IsSome (refusal_of r.error) → IsKept C.Store store s) × IsCause (C.faults store) (C.faults s) (r.error ≡ Error.Journal JournalError.Store)) }
+    ensures accepted { IfSome (C.told store) (λ s. OnOk result (content_refusal
+        (any_layout U.form F.shape H.Digest.SIZE) (any_found U.form s) None
+        ≡ None)) }
+    ensures refused { IfSome (C.told store) (λ s. IfErr result (λ r. IsDue r.error
+        (content_refusal (any_layout U.form F.shape H.Digest.SIZE) (any_found U.form s) None))) }
+    ensures back { IfErr result (λ r. (s : C) × (r.given ≡ Given.Store s)
+        × (C.start s ≡ C.start store) × (IsSome (refusal_of r.error) → IsKept C.Store store s)
+        × IsCause (C.faults store) (C.faults s) (r.error ≡ Error.Journal JournalError.Store)) }
 {
     match fresh_items::<F, U>(alloc) {
         Err(_) => Err(Refusal {
@@ -66,7 +77,8 @@ pub(crate) fn begin<
 
 // The spelling of the commit of a fresh list.
 fn fresh_items<F, U: Update>(alloc: Global) -> Result<Vec<Vec<u8>>, AllocError>
-    ensures items { IfOk result (λ items. map (λ v. v.items) items.items ≡ map (spelling U.form) fresh) }
+    ensures items { IfOk result (λ items.
+        map (λ v. v.items) items.items ≡ map (spelling U.form) fresh) }
     ensures count { IfOk result (λ items. length items.items ≡ 1) }
 {
     let mut list: Vec<Operation<F, U>> = Vec::new(alloc);
@@ -101,14 +113,20 @@ fn begun<
     requires end { C.end log.store ≡ 0 }
     requires items { map (λ v. v.items) items.now ≡ map (spelling U.form) fresh }
     requires count { length items.now ≡ 1 }
-    ensures stands { IfSome (C.told log.store) (λ _. IfOk result (λ db. ⟦<Db<F, C, I, H, U, N> as LaidOut>⟧.stands db fresh)) }
+    ensures stands { IfSome (C.told log.store) (λ _.
+        IfOk result (λ db. ⟦<Db<F, C, I, H, U, N> as LaidOut>⟧.stands db fresh)) }
     ensures pruned { IfOk result (λ db. db.activity.pruned ≡ 0) }
-    ensures grown { IfOk result (λ db. Appended C.Store log.store db.log.store (map (spelling U.form) fresh)) }
+    ensures grown { IfOk result (λ db.
+        Appended C.Store log.store db.log.store (map (spelling U.form) fresh)) }
     ensures later { IfOk result (λ db. C.faults log.store ≤ C.faults db.log.store) }
-    ensures part { IfErr result (λ r. AppendedPart C.Store log.store (store_given (λ db. db.log.store) r.given) (map (spelling U.form) fresh)) }
+    ensures part { IfErr result (λ r. AppendedPart C.Store log.store
+        (store_given (λ db. db.log.store) r.given) (map (spelling U.form) fresh)) }
     ensures back { IfErr result (λ r. (x : Database C H.Digest) → r.given ≢ Given.Database x) }
-    ensures causes { IfErr result (λ r. (r.error ≡ Error.Memory) ⊎ (r.error ≡ Error.Journal JournalError.Store)) }
-    ensures cause { IfErr result (λ r. IsCause (C.faults log.store) (C.faults (store_given (λ db. db.log.store) r.given)) (r.error ≡ Error.Journal JournalError.Store)) }
+    ensures causes { IfErr result (λ r.
+        (r.error ≡ Error.Memory) ⊎ (r.error ≡ Error.Journal JournalError.Store)) }
+    ensures cause { IfErr result (λ r.
+        IsCause (C.faults log.store) (C.faults (store_given (λ db. db.log.store) r.given))
+        (r.error ≡ Error.Journal JournalError.Store)) }
 {
     let mut log = log;
     let inactive = F::inactive_peaks(Location::new(1), Location::new(0));

@@ -29,7 +29,8 @@ pub(crate) fn copy_of<B: ByteString>(
     alloc: Global,
     value: &Option<Rc<B>>,
 ) -> Result<Option<B>, AllocError>
-    ensures { IfOk result (λ copy. option_map B.bytes copy ≡ option_map (λ b. B.bytes b.value) value.now) }
+    ensures { IfOk result (λ copy.
+        option_map B.bytes copy ≡ option_map (λ b. B.bytes b.value) value.now) }
 {
     match value {
         None => Ok(None),
@@ -42,7 +43,8 @@ pub(crate) fn copy_of<B: ByteString>(
 
 /// The value, shared with whoever has it.
 pub(crate) fn share<B: ByteString>(value: &Option<Rc<B>>) -> Result<Option<Rc<B>>, AllocError>
-    ensures { IfOk result (λ shared. option_map (λ b. B.bytes b.value) shared ≡ option_map (λ b. B.bytes b.value) value.now) }
+    ensures { IfOk result (λ shared.
+        option_map (λ b. B.bytes b.value) shared ≡ option_map (λ b. B.bytes b.value) value.now) }
 {
     match value {
         None => Ok(None),
@@ -58,7 +60,8 @@ pub(crate) fn shared_twin<B: ByteString>(
     alloc: Global,
     value: &Option<B>,
 ) -> Result<Option<Rc<B>>, AllocError>
-    ensures { IfOk result (λ shared. option_map (λ b. B.bytes b.value) shared ≡ option_map B.bytes value.now) }
+    ensures { IfOk result (λ shared.
+        option_map (λ b. B.bytes b.value) shared ≡ option_map B.bytes value.now) }
 {
     match value {
         None => Ok(None),
@@ -75,8 +78,13 @@ fn spell<F, U: Update>(
     operations: &[Operation<F, U>],
     items: &mut Vec<Vec<u8>>,
 ) -> Result<(), AllocError>
-    ensures of { OnOk result (All IsLow (operation_views U.view U.Key.bytes U.Value.bytes operations.now) → All (IsOf U.form) (operation_views U.view U.Key.bytes U.Value.bytes operations.now)) }
-    ensures items { OnOk result (map (λ v. v.items) items.new.items ≡ map (λ v. v.items) items.old.items ++ map (spelling U.form) (operation_views U.view U.Key.bytes U.Value.bytes operations.now)) }
+    ensures of { OnOk result (All IsLow
+        (operation_views U.view U.Key.bytes U.Value.bytes operations.now)
+        → All (IsOf U.form) (operation_views U.view U.Key.bytes U.Value.bytes operations.now)) }
+    ensures items { OnOk result (map (λ v. v.items) items.new.items
+        ≡ map (λ v. v.items) items.old.items
+        ++ map (spelling U.form)
+        (operation_views U.view U.Key.bytes U.Value.bytes operations.now)) }
 {
     for operation in operations {
         let item = operation.encode(alloc)?;
@@ -90,8 +98,11 @@ pub(crate) fn spelled<F, U: Update>(
     alloc: Global,
     operations: &[Operation<F, U>],
 ) -> Result<Vec<Vec<u8>>, AllocError>
-    ensures of { IfOk result (λ _. All IsLow (operation_views U.view U.Key.bytes U.Value.bytes operations.now) → All (IsOf U.form) (operation_views U.view U.Key.bytes U.Value.bytes operations.now)) }
-    ensures items { IfOk result (λ items. map (λ v. v.items) items.items ≡ map (spelling U.form) (operation_views U.view U.Key.bytes U.Value.bytes operations.now)) }
+    ensures of { IfOk result (λ _.
+        All IsLow (operation_views U.view U.Key.bytes U.Value.bytes operations.now)
+        → All (IsOf U.form) (operation_views U.view U.Key.bytes U.Value.bytes operations.now)) }
+    ensures items { IfOk result (λ items. map (λ v. v.items) items.items
+        ≡ map (spelling U.form) (operation_views U.view U.Key.bytes U.Value.bytes operations.now)) }
 {
     let mut items = Vec::new(alloc);
     spell(alloc, operations, &mut items)?;
@@ -105,9 +116,15 @@ pub(crate) fn spelled_behind<F, U: Update>(
     size: u64,
 ) -> Result<Vec<Vec<u8>>, Error>
     requires { size ≤ 2 ^ 62 }
-    ensures items { IfOk result (λ items. map (λ v. v.items) items.items ≡ map (spelling U.form) (operation_views U.view U.Key.bytes U.Value.bytes operations.now)) }
-    ensures taken { IfOk result (λ items. IsSpelled U.form (operation_views U.view U.Key.bytes U.Value.bytes operations.now) (size + length items.items)) }
-    ensures refused { IfErr result (λ e. (e ≡ Error.Memory) ⊎ IsTooLong (map (spelling U.form) (operation_views U.view U.Key.bytes U.Value.bytes operations.now)) (size + length operations.now) e) }
+    ensures items { IfOk result (λ items. map (λ v. v.items) items.items
+        ≡ map (spelling U.form) (operation_views U.view U.Key.bytes U.Value.bytes operations.now)) }
+    ensures taken { IfOk result (λ items.
+        IsSpelled U.form (operation_views U.view U.Key.bytes U.Value.bytes operations.now)
+        (size + length items.items)) }
+    ensures refused { IfErr result (λ e. (e ≡ Error.Memory)
+        ⊎ IsTooLong
+        (map (spelling U.form) (operation_views U.view U.Key.bytes U.Value.bytes operations.now))
+        (size + length operations.now) e) }
 {
     let items = spelled(alloc, operations)?;
     refuse(&items, size + items.len() as u64)?;
@@ -150,7 +167,8 @@ pub(crate) fn spelled_steps<F, U: Update>(
     alloc: Global,
     steps: &[Step<F, U>],
 ) -> Result<Vec<Vec<u8>>, AllocError>
-    ensures { IfOk result (λ items. map (λ v. v.items) items.items ≡ map (spelling U.form) (operations_in (map (λ l. l.value) steps.now))) }
+    ensures { IfOk result (λ items. map (λ v. v.items) items.items
+        ≡ map (spelling U.form) (operations_in (map (λ l. l.value) steps.now))) }
 {
     let mut items = Vec::new(alloc);
     for at in (0..steps.len()).rev() {
@@ -164,7 +182,9 @@ pub(crate) fn diffs_of<F, U: Update>(
     alloc: Global,
     steps: &[Step<F, U>],
 ) -> Result<Vec<Rc<Diff<F, U::Key, U::Value>>>, AllocError>
-    ensures { IfOk result (λ diffs. map (λ d. changes_view U.Key.bytes U.Value.bytes d.value) diffs.items ≡ map (λ l. l.changes) (map (λ l. l.value) steps.now)) }
+    ensures { IfOk result (λ diffs.
+        map (λ d. changes_view U.Key.bytes U.Value.bytes d.value) diffs.items
+        ≡ map (λ l. l.changes) (map (λ l. l.value) steps.now)) }
 {
     let mut diffs = Vec::new(alloc);
     for step in steps {

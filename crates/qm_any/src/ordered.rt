@@ -40,7 +40,8 @@ impl<
         key: &U::Key,
     ) -> Result<Option<(Location<F>, U)>, Error>
         requires { U.form.ordered ≡ true }
-        ensures value { AtList C.Store ⟦<Self as LaidOut>⟧.layout self.old (λ list. IfOk result (λ found. option_map (read_view U.view) found ≡ holder_of list (U.Key.bytes key.now))) }
+        ensures value { AtList C.Store ⟦<Self as LaidOut>⟧.layout self.old (λ list. IfOk result
+            (λ found. option_map (read_view U.view) found ≡ holder_of list (U.Key.bytes key.now))) }
         ensures reads { Reads C.Store ⟦<Self as LaidOut>⟧.layout self.old self.new result }
     {
         holder(alloc, &self.index, &mut self.log, &Vec::new(alloc), key)
@@ -55,7 +56,10 @@ impl<
     ) -> Result<Option<(U::Value, U::Key)>, Error>
         requires { U.form.ordered ≡ true }
         ensures value { (list : List Operation) → ⟦<Self as LaidOut>⟧.stands self.old list
-            → IfOk result (λ found. option_map {U = Bytes × Option Bytes} (λ p. (U.Value.bytes p.0, Some (U.Key.bytes p.1))) found ≡ option_map {U = Bytes × Option Bytes} (λ e. (e.value, e.next)) (live_of (live list) (U.Key.bytes key.now))) }
+            → IfOk result (λ found. option_map {U = Bytes × Option Bytes}
+            (λ p. (U.Value.bytes p.0, Some (U.Key.bytes p.1))) found
+            ≡ option_map {U = Bytes × Option Bytes} (λ e. (e.value, e.next))
+            (live_of (live list) (U.Key.bytes key.now))) }
         ensures reads { Reads C.Store ⟦<Self as LaidOut>⟧.layout self.old self.new result }
     {
         let steps: Vec<Step<F, U>> = Vec::new(alloc);
@@ -66,7 +70,9 @@ impl<
     /// The nearest live key above this one, which does not go round. It takes the reads of two buckets at most.
     pub fn get_next_key(&mut self, alloc: Global, key: &U::Key) -> Result<Option<U::Key>, Error>
         requires { U.form.ordered ≡ true }
-        ensures value { AtList C.Store ⟦<Self as LaidOut>⟧.layout self.old (λ list. IfOk result (λ found. option_map U.Key.bytes found ≡ key_above (live_keys list) (U.Key.bytes key.now))) }
+        ensures value { AtList C.Store ⟦<Self as LaidOut>⟧.layout self.old (λ list.
+            IfOk result (λ found.
+            option_map U.Key.bytes found ≡ key_above (live_keys list) (U.Key.bytes key.now))) }
         ensures reads { Reads C.Store ⟦<Self as LaidOut>⟧.layout self.old self.new result }
     {
         self.next_over(alloc, &Vec::new(alloc), key)
@@ -75,7 +81,9 @@ impl<
     /// The nearest live key below this one, which does not go round. It takes the reads of two buckets at most.
     pub fn get_prev_key(&mut self, alloc: Global, key: &U::Key) -> Result<Option<U::Key>, Error>
         requires { U.form.ordered ≡ true }
-        ensures value { AtList C.Store ⟦<Self as LaidOut>⟧.layout self.old (λ list. IfOk result (λ found. option_map U.Key.bytes found ≡ key_below (live_keys list) (U.Key.bytes key.now))) }
+        ensures value { AtList C.Store ⟦<Self as LaidOut>⟧.layout self.old (λ list.
+            IfOk result (λ found.
+            option_map U.Key.bytes found ≡ key_below (live_keys list) (U.Key.bytes key.now))) }
         ensures reads { Reads C.Store ⟦<Self as LaidOut>⟧.layout self.old self.new result }
     {
         self.previous_over(alloc, &Vec::new(alloc), key)
@@ -89,8 +97,10 @@ impl<
         key: &U::Key,
     ) -> Result<Option<U::Key>, Error>
         requires { U.form.ordered ≡ true }
-        ensures value { (list base : List Operation) → ⟦<Self as LaidOut>⟧.stands self.old list → LeadOver (map (λ l. l.value) steps.now) list base → IsRing base
-            → IfOk result (λ found. option_map U.Key.bytes found ≡ key_above (live_keys base) (U.Key.bytes key.now)) }
+        ensures value { (list base : List Operation) → ⟦<Self as LaidOut>⟧.stands self.old list
+            → LeadOver (map (λ l. l.value) steps.now) list base → IsRing base
+            → IfOk result (λ found.
+            option_map U.Key.bytes found ≡ key_above (live_keys base) (U.Key.bytes key.now)) }
         ensures reads { Reads C.Store ⟦<Self as LaidOut>⟧.layout self.old self.new result }
     {
         next_key(alloc, &self.index, &mut self.log, steps, key)
@@ -104,8 +114,10 @@ impl<
         key: &U::Key,
     ) -> Result<Option<U::Key>, Error>
         requires { U.form.ordered ≡ true }
-        ensures value { (list base : List Operation) → ⟦<Self as LaidOut>⟧.stands self.old list → LeadOver (map (λ l. l.value) steps.now) list base → IsRing base
-            → IfOk result (λ found. option_map U.Key.bytes found ≡ key_below (live_keys base) (U.Key.bytes key.now)) }
+        ensures value { (list base : List Operation) → ⟦<Self as LaidOut>⟧.stands self.old list
+            → LeadOver (map (λ l. l.value) steps.now) list base → IsRing base
+            → IfOk result (λ found.
+            option_map U.Key.bytes found ≡ key_below (live_keys base) (U.Key.bytes key.now)) }
         ensures reads { Reads C.Store ⟦<Self as LaidOut>⟧.layout self.old self.new result }
     {
         previous_key(alloc, &self.index, &mut self.log, steps, key)
@@ -129,9 +141,11 @@ impl<F: Family, D: Digest, U: Update> MerkleizedBatch<F, D, U> {
     where
         U: Steps<F, I>,
         requires { U.form.ordered ≡ true }
-        ensures value { AtMade C.Store ⟦<Db<F, C, I, H, U, N> as LaidOut>⟧.layout db.old self.now (λ chain tip.
-            IfOk result (λ found. option_map U.Key.bytes found ≡ key_above (live_keys tip) (U.Key.bytes key.now))) }
-        ensures reads { ReadsThrough C.Store ⟦<Db<F, C, I, H, U, N> as LaidOut>⟧.layout db.old db.new result self.now.bounds }
+        ensures value { AtMade C.Store ⟦<Db<F, C, I, H, U, N> as LaidOut>⟧.layout db.old self.now
+            (λ chain tip. IfOk result (λ found.
+            option_map U.Key.bytes found ≡ key_above (live_keys tip) (U.Key.bytes key.now))) }
+        ensures reads { ReadsThrough C.Store ⟦<Db<F, C, I, H, U, N> as LaidOut>⟧.layout db.old
+            db.new result self.now.bounds }
     {
         self.known(db.commitment())?;
         db.next_over(alloc, &self.steps, key)
@@ -153,9 +167,11 @@ impl<F: Family, D: Digest, U: Update> MerkleizedBatch<F, D, U> {
     where
         U: Steps<F, I>,
         requires { U.form.ordered ≡ true }
-        ensures value { AtMade C.Store ⟦<Db<F, C, I, H, U, N> as LaidOut>⟧.layout db.old self.now (λ chain tip.
-            IfOk result (λ found. option_map U.Key.bytes found ≡ key_below (live_keys tip) (U.Key.bytes key.now))) }
-        ensures reads { ReadsThrough C.Store ⟦<Db<F, C, I, H, U, N> as LaidOut>⟧.layout db.old db.new result self.now.bounds }
+        ensures value { AtMade C.Store ⟦<Db<F, C, I, H, U, N> as LaidOut>⟧.layout db.old self.now
+            (λ chain tip. IfOk result (λ found.
+            option_map U.Key.bytes found ≡ key_below (live_keys tip) (U.Key.bytes key.now))) }
+        ensures reads { ReadsThrough C.Store ⟦<Db<F, C, I, H, U, N> as LaidOut>⟧.layout db.old
+            db.new result self.now.bounds }
     {
         self.known(db.commitment())?;
         db.previous_over(alloc, &self.steps, key)
@@ -164,8 +180,12 @@ impl<F: Family, D: Digest, U: Update> MerkleizedBatch<F, D, U> {
 
 // What a live update says of its key: the value and the next key, where it names one.
 fn value_and_next<F, U: Update>(found: Option<(Location<F>, U)>) -> Option<(U::Value, U::Key)>
-    ensures { U.form.ordered ≡ true → option_map {U = Bytes × Option Bytes} (λ p. (U.Value.bytes p.0, Some (U.Key.bytes p.1))) result
-        ≡ option_and_then (λ p. option_map {U = Bytes × Option Bytes} (λ value. (value, next_in p.1)) (value_of p.1)) (option_map (read_view U.view) found) }
+    ensures { U.form.ordered ≡ true
+        → option_map {U = Bytes × Option Bytes} (λ p. (U.Value.bytes p.0, Some (U.Key.bytes p.1)))
+        result
+        ≡ option_and_then (λ p.
+        option_map {U = Bytes × Option Bytes} (λ value. (value, next_in p.1)) (value_of p.1))
+        (option_map (read_view U.view) found) }
 {
     let (_, update) = found?;
     let (_, value, next) = update.into_parts();

@@ -48,16 +48,27 @@ impl<
         start: Location<F>,
         max: NonZeroU64,
     ) -> Result<(Proof<H::Digest>, Vec<Operation<F, U>>), Error>
-        ensures offered { (list : List operations.Operation) → ⟦<Self as LaidOut>⟧.stands self.old list → OnOk result (proof_refusal (C.start self.old.log.store) list size start ≡ None) }
+        ensures offered { (list : List operations.Operation)
+            → ⟦<Self as LaidOut>⟧.stands self.old list
+            → OnOk result (proof_refusal (C.start self.old.log.store) list size start ≡ None) }
         ensures kept { OnOk result (C.start self.old.log.store ≤ start) }
-        ensures proof { (list : List operations.Operation) → ⟦<Self as LaidOut>⟧.stands self.old list
-            → IfOk result (λ shown. proof_view H.Digest.bytes shown.0 ≡ ops_proof H.hash F.shape U.form (take size list) start (start + proof_count size start (non_zero_u64_get max))) }
-        ensures operations { (list : List operations.Operation) → ⟦<Self as LaidOut>⟧.stands self.old list
-            → IfOk result (λ shown. operation_views U.view U.Key.bytes U.Value.bytes shown.1.items ≡ take (proof_count size start (non_zero_u64_get max)) (drop start list)) }
-        ensures refused { (list : List operations.Operation) → ⟦<Self as LaidOut>⟧.stands self.old list → IfErr result (λ e. IsDue e (proof_refusal (C.start self.old.log.store) list size start)) }
+        ensures proof { (list : List operations.Operation)
+            → ⟦<Self as LaidOut>⟧.stands self.old list
+            → IfOk result (λ shown. proof_view H.Digest.bytes shown.0
+            ≡ ops_proof H.hash F.shape U.form (take size list) start
+            (start + proof_count size start (non_zero_u64_get max))) }
+        ensures operations { (list : List operations.Operation)
+            → ⟦<Self as LaidOut>⟧.stands self.old list
+            → IfOk result (λ shown. operation_views U.view U.Key.bytes U.Value.bytes shown.1.items
+            ≡ take (proof_count size start (non_zero_u64_get max)) (drop start list)) }
+        ensures refused { (list : List operations.Operation)
+            → ⟦<Self as LaidOut>⟧.stands self.old list
+            → IfErr result (λ e.
+            IsDue e (proof_refusal (C.start self.old.log.store) list size start)) }
         ensures causes { IfErr result (λ e. IsAmong e (proof_reasons size start)) }
         ensures never { IfErr result (λ e. e ≢ Error.StaleBatch) }
-        ensures cause { IfErr result (λ e. e ≡ Error.Journal JournalError.Store → Rose (C.faults self.old.log.store) (C.faults self.new.log.store)) }
+        ensures cause { IfErr result (λ e. e ≡ Error.Journal JournalError.Store
+            → Rose (C.faults self.old.log.store) (C.faults self.new.log.store)) }
         ensures left { IsLeft C.Store ⟦<Self as LaidOut>⟧.layout.hashing self.old self.new }
     {
         proved_over(alloc, &mut self.log, size.get(), start.get(), max)
@@ -70,17 +81,29 @@ impl<
         start: Location<F>,
         max: NonZeroU64,
     ) -> Result<(Proof<H::Digest>, Vec<Operation<F, U>>), Error>
-        ensures offered { (list : List operations.Operation) → ⟦<Self as LaidOut>⟧.stands self.old list → OnOk result (proof_refusal (C.start self.old.log.store) list (length list) start ≡ None) }
+        ensures offered { (list : List operations.Operation)
+            → ⟦<Self as LaidOut>⟧.stands self.old list
+            → OnOk result
+            (proof_refusal (C.start self.old.log.store) list (length list) start ≡ None) }
         ensures kept { OnOk result (C.start self.old.log.store ≤ start) }
-        ensures proof { (list : List operations.Operation) → ⟦<Self as LaidOut>⟧.stands self.old list
-            → IfOk result (λ shown. proof_view H.Digest.bytes shown.0 ≡ ops_proof H.hash F.shape U.form list start (start + proof_count (length list) start (non_zero_u64_get max))) }
-        ensures operations { (list : List operations.Operation) → ⟦<Self as LaidOut>⟧.stands self.old list
-            → IfOk result (λ shown. operation_views U.view U.Key.bytes U.Value.bytes shown.1.items ≡ take (proof_count (length list) start (non_zero_u64_get max)) (drop start list)) }
-        ensures refused { (list : List operations.Operation) → ⟦<Self as LaidOut>⟧.stands self.old list
-            → IfErr result (λ e. IsDue e (proof_refusal (C.start self.old.log.store) list (length list) start)) }
-        ensures causes { IfErr result (λ e. IsAmong e (proof_reasons self.old.commitment.size start)) }
+        ensures proof { (list : List operations.Operation)
+            → ⟦<Self as LaidOut>⟧.stands self.old list
+            → IfOk result (λ shown. proof_view H.Digest.bytes shown.0
+            ≡ ops_proof H.hash F.shape U.form list start
+            (start + proof_count (length list) start (non_zero_u64_get max))) }
+        ensures operations { (list : List operations.Operation)
+            → ⟦<Self as LaidOut>⟧.stands self.old list
+            → IfOk result (λ shown. operation_views U.view U.Key.bytes U.Value.bytes shown.1.items
+            ≡ take (proof_count (length list) start (non_zero_u64_get max)) (drop start list)) }
+        ensures refused { (list : List operations.Operation)
+            → ⟦<Self as LaidOut>⟧.stands self.old list
+            → IfErr result (λ e.
+            IsDue e (proof_refusal (C.start self.old.log.store) list (length list) start)) }
+        ensures causes { IfErr result (λ e.
+            IsAmong e (proof_reasons self.old.commitment.size start)) }
         ensures never { IfErr result (λ e. e ≢ Error.StaleBatch) }
-        ensures cause { IfErr result (λ e. e ≡ Error.Journal JournalError.Store → Rose (C.faults self.old.log.store) (C.faults self.new.log.store)) }
+        ensures cause { IfErr result (λ e. e ≡ Error.Journal JournalError.Store
+            → Rose (C.faults self.old.log.store) (C.faults self.new.log.store)) }
         ensures left { IsLeft C.Store ⟦<Self as LaidOut>⟧.layout.hashing self.old self.new }
     {
         let size = self.size();
@@ -94,14 +117,27 @@ impl<
         alloc: Global,
         count: Location<F>,
     ) -> Result<Vec<H::Digest>, Error>
-        ensures offered { (list : List operations.Operation) → ⟦<Self as LaidOut>⟧.stands self.now list → OnOk result (pins_refusal list count ≡ None) }
-        ensures pins { (list : List operations.Operation) → ⟦<Self as LaidOut>⟧.stands self.now list → IfOk result (λ pins. map H.Digest.bytes pins.items ≡ pins_at H.hash F.shape U.form list count) }
-        ensures refused { C.start self.now.log.store ≤ count → (list : List operations.Operation) → ⟦<Self as LaidOut>⟧.stands self.now list → IfErr result (λ e. IsDue e (pins_refusal list count)) }
-        ensures range { self.now.commitment.size < count → result ≡ Err (Error.Merkle (MerkleError.RangeOutOfBounds count)) }
-        ensures held { OnOk result (first_lacked (node_at F.shape self.now.log.tree) (peak_positions F.shape count) ≡ None) }
-        ensures cause { count ≤ self.now.commitment.size → IfErr result (IsLacked (node_at F.shape self.now.log.tree) (peak_positions F.shape count)) }
-        ensures whole { C.start self.now.log.store ≤ count → count ≤ self.now.commitment.size → IfErr result (λ e. e ≡ Error.Memory) }
-        ensures never { IfErr result (λ e. (e ≢ Error.StaleBatch) × (e ≢ Error.Journal JournalError.Store)) }
+        ensures offered { (list : List operations.Operation)
+            → ⟦<Self as LaidOut>⟧.stands self.now list
+            → OnOk result (pins_refusal list count ≡ None) }
+        ensures pins { (list : List operations.Operation) → ⟦<Self as LaidOut>⟧.stands self.now list
+            → IfOk result (λ pins.
+            map H.Digest.bytes pins.items ≡ pins_at H.hash F.shape U.form list count) }
+        ensures refused { C.start self.now.log.store ≤ count → (list : List operations.Operation)
+            → ⟦<Self as LaidOut>⟧.stands self.now list
+            → IfErr result (λ e. IsDue e (pins_refusal list count)) }
+        ensures range { self.now.commitment.size < count
+            → result ≡ Err (Error.Merkle (MerkleError.RangeOutOfBounds count)) }
+        ensures held { OnOk result (first_lacked (node_at F.shape self.now.log.tree)
+            (peak_positions F.shape count)
+            ≡ None) }
+        ensures cause { count ≤ self.now.commitment.size
+            → IfErr result
+            (IsLacked (node_at F.shape self.now.log.tree) (peak_positions F.shape count)) }
+        ensures whole { C.start self.now.log.store ≤ count → count ≤ self.now.commitment.size
+            → IfErr result (λ e. e ≡ Error.Memory) }
+        ensures never { IfErr result (λ e.
+            (e ≢ Error.StaleBatch) × (e ≢ Error.Journal JournalError.Store)) }
     {
         // The log is kept from where its store is.
         self.log.bounds();

@@ -61,15 +61,27 @@ fn settled<
     requires bits { bit_count N.LEN opened.activity ≡ selected.size }
     requires live { opened.live ≤ selected.size }
     requires stable { IfSome (C.told opened.log.store) (λ s. s.stable ≤ end_of s) }
-    ensures stands { (list : List Operation) → IsOpened C.Store F.shape H.Digest.bytes H.hash U.form I.index_key N.LEN opened.log (I.entries opened.index) opened.live opened.activity (H.Digest.bytes opened.root) (option_map U.Value.bytes opened.metadata) list
-        → IsGood list → HasRing U.form list → selected.floor ≡ lives.floor list → IfSome (C.told opened.log.store) (λ _. IfOk result (λ db. ⟦<Db<F, C, I, H, U, N> as LaidOut>⟧.stands db list)) }
-    ensures became { IfOk result (λ db. Becomes (C.told opened.log.store) (C.told db.log.store) (rewound selected.size)) }
-    ensures left { IfErr result (λ r. Turns (C.told opened.log.store) (C.told (store_given (λ db. db.log.store) r.given)) (λ s. ReadsAs (min s.stable selected.size) (RewindLeaves selected.size s))) }
+    ensures stands { (list : List Operation)
+        → IsOpened C.Store F.shape H.Digest.bytes H.hash U.form I.index_key N.LEN opened.log
+        (I.entries opened.index) opened.live opened.activity (H.Digest.bytes opened.root)
+        (option_map U.Value.bytes opened.metadata) list → IsGood list → HasRing U.form list
+        → selected.floor ≡ lives.floor list
+        → IfSome (C.told opened.log.store) (λ _.
+        IfOk result (λ db. ⟦<Db<F, C, I, H, U, N> as LaidOut>⟧.stands db list)) }
+    ensures became { IfOk result (λ db.
+        Becomes (C.told opened.log.store) (C.told db.log.store) (rewound selected.size)) }
+    ensures left { IfErr result (λ r.
+        Turns (C.told opened.log.store) (C.told (store_given (λ db. db.log.store) r.given))
+        (λ s. ReadsAs (min s.stable selected.size) (RewindLeaves selected.size s))) }
     ensures activity { IfOk result (λ db. db.activity ≡ opened.activity) }
     ensures start { IfOk result (λ db. C.start db.log.store ≡ C.start opened.log.store) }
     ensures later { IfOk result (λ db. C.faults opened.log.store ≤ C.faults db.log.store) }
-    ensures back { IfErr result (λ r. (s : C) × (r.given ≡ Given.Store s) × (C.start s ≡ C.start opened.log.store) × IsCause (C.faults opened.log.store) (C.faults s) (r.error ≡ Error.Journal JournalError.Store)) }
-    ensures never { IfErr result (λ r. (r.error ≡ Error.Memory) ⊎ (r.error ≡ Error.Journal JournalError.Store)) }
+    ensures back { IfErr result (λ r.
+        (s : C) × (r.given ≡ Given.Store s) × (C.start s ≡ C.start opened.log.store)
+        × IsCause (C.faults opened.log.store) (C.faults s)
+        (r.error ≡ Error.Journal JournalError.Store)) }
+    ensures never { IfErr result (λ r.
+        (r.error ≡ Error.Memory) ⊎ (r.error ≡ Error.Journal JournalError.Store)) }
 {
     let Opened {
         log,
@@ -121,17 +133,32 @@ fn open_list<
     requires floor { selected.floor < selected.size }
     requires end { selected.size ≤ C.end store }
     requires stable { IfSome (C.told store) (λ s. s.stable ≤ end_of s) }
-    ensures stands { IfSome (C.told store) (λ s. (list : List Operation) → HasList ⟦<Db<F, C, I, H, U, N> as LaidOut>⟧.layout.hashing s selected.size list → selected.floor ≡ lives.floor list
+    ensures stands { IfSome (C.told store) (λ s. (list : List Operation)
+        → HasList ⟦<Db<F, C, I, H, U, N> as LaidOut>⟧.layout.hashing s selected.size list
+        → selected.floor ≡ lives.floor list
         → IfOk result (λ db. ⟦<Db<F, C, I, H, U, N> as LaidOut>⟧.stands db list)) }
-    ensures became { IfOk result (λ db. Becomes (C.told store) (C.told db.log.store) (λ s. settled (rewound selected.size s))) }
-    ensures left { IfErr result (λ r. Turns (C.told store) (C.told (store_given (λ db. db.log.store) r.given)) (λ s. ReadsAs (min s.stable selected.size) (RewindLeaves selected.size s))) }
-    ensures unopened { IfErr result (λ r. IfSome (C.told store) (λ s. IsSome (content_refusal (any_layout U.form F.shape H.Digest.SIZE) (any_found U.form s) (Some (selected_view selected))) → IsUnchanged C.Store store (store_given (λ db. db.log.store) r.given))) }
+    ensures became { IfOk result (λ db.
+        Becomes (C.told store) (C.told db.log.store) (λ s. settled (rewound selected.size s))) }
+    ensures left { IfErr result (λ r.
+        Turns (C.told store) (C.told (store_given (λ db. db.log.store) r.given))
+        (λ s. ReadsAs (min s.stable selected.size) (RewindLeaves selected.size s))) }
+    ensures unopened { IfErr result (λ r. IfSome (C.told store) (λ s.
+        IsSome (content_refusal (any_layout U.form F.shape H.Digest.SIZE) (any_found U.form s)
+        (Some (selected_view selected)))
+        → IsUnchanged C.Store store (store_given (λ db. db.log.store) r.given))) }
     ensures pruned { IfOk result (λ db. db.activity.pruned ≡ chunks) }
     ensures start { IfOk result (λ db. C.start db.log.store ≡ C.start store) }
     ensures later { IfOk result (λ db. C.faults store ≤ C.faults db.log.store) }
-    ensures accepted { IfSome (C.told store) (λ s. OnOk result (content_refusal (any_layout U.form F.shape H.Digest.SIZE) (any_found U.form s) (Some (selected_view selected)) ≡ None)) }
-    ensures refused { IfSome (C.told store) (λ s. IfErr result (λ r. IsDue r.error (content_refusal (any_layout U.form F.shape H.Digest.SIZE) (any_found U.form s) (Some (selected_view selected))))) }
-    ensures back { IfErr result (λ r. (s : C) × (r.given ≡ Given.Store s) × (C.start s ≡ C.start store) × (IsSome (refusal_of r.error) → IsKept C.Store store s) × IsCause (C.faults store) (C.faults s) (r.error ≡ Error.Journal JournalError.Store)) }
+    ensures accepted { IfSome (C.told store) (λ s.
+        OnOk result (content_refusal (any_layout U.form F.shape H.Digest.SIZE) (any_found U.form s)
+        (Some (selected_view selected))
+        ≡ None)) }
+    ensures refused { IfSome (C.told store) (λ s.
+        IfErr result (λ r. IsDue r.error (content_refusal (any_layout U.form F.shape H.Digest.SIZE)
+        (any_found U.form s) (Some (selected_view selected))))) }
+    ensures back { IfErr result (λ r. (s : C) × (r.given ≡ Given.Store s)
+        × (C.start s ≡ C.start store) × (IsSome (refusal_of r.error) → IsKept C.Store store s)
+        × IsCause (C.faults store) (C.faults s) (r.error ≡ Error.Journal JournalError.Store)) }
 {
     let opened = open_checked(
         alloc, store, hasher, translator, kept_keys, selected, chunks,
@@ -205,17 +232,35 @@ pub fn init<
     max_size: Option<u64>,
 ) -> Result<Db<F, C, I, H, U, N>, Refusal<Db<F, C, I, H, U, N>, C>>
     ensures keys { ⟦<Db<F, C, I, H, U, N> as LaidOut>⟧.layout.index_key ≡ I.Translator.index_key }
-    ensures stands { IfSome (C.told store) (λ s. (list : List Operation) → HasList ⟦<Db<F, C, I, H, U, N> as LaidOut>⟧.layout.hashing s (selected_size ⟦<Db<F, C, I, H, U, N> as LaidOut>⟧.layout.hashing max_size s) list
+    ensures stands { IfSome (C.told store) (λ s. (list : List Operation)
+        → HasList ⟦<Db<F, C, I, H, U, N> as LaidOut>⟧.layout.hashing s
+        (selected_size ⟦<Db<F, C, I, H, U, N> as LaidOut>⟧.layout.hashing max_size s) list
         → IfOk result (λ db. ⟦<Db<F, C, I, H, U, N> as LaidOut>⟧.stands db list)) }
-    ensures fresh { IfSome (C.told store) (λ s. selected_size ⟦<Db<F, C, I, H, U, N> as LaidOut>⟧.layout.hashing max_size s ≡ 0 → IfOk result (λ db. ⟦<Db<F, C, I, H, U, N> as LaidOut>⟧.stands db fresh)) }
-    ensures accepted { IfSome (C.told store) (λ s. OnOk result (opening_refusal (any_layout U.form F.shape H.Digest.SIZE) (any_found U.form s) max_size ≡ None)) }
-    ensures refused { IfSome (C.told store) (λ s. IfErr result (λ r. IsDue r.error (opening_refusal (any_layout U.form F.shape H.Digest.SIZE) (any_found U.form s) max_size))) }
-    ensures became { IfOk result (λ db. Turns (C.told store) (C.told db.log.store) (λ s new. new ≡ taken ⟦<Db<F, C, I, H, U, N> as LaidOut>⟧.layout.hashing (selected_size ⟦<Db<F, C, I, H, U, N> as LaidOut>⟧.layout.hashing max_size s) s)) }
-    ensures left { IfErr result (λ r. Turns (C.told store) (C.told (store_given (λ db. db.log.store) r.given)) (λ s new. LeavesOpening ⟦<Db<F, C, I, H, U, N> as LaidOut>⟧.layout.hashing (selected_size ⟦<Db<F, C, I, H, U, N> as LaidOut>⟧.layout.hashing max_size s) s new)) }
-    ensures unopened { IfErr result (λ r. IfSome (C.told store) (λ s. IsSome (opening_refusal (any_layout U.form F.shape H.Digest.SIZE) (any_found U.form s) max_size) → IsUnchanged C.Store store (store_given (λ db. db.log.store) r.given))) }
+    ensures fresh { IfSome (C.told store) (λ s.
+        selected_size ⟦<Db<F, C, I, H, U, N> as LaidOut>⟧.layout.hashing max_size s ≡ 0
+        → IfOk result (λ db. ⟦<Db<F, C, I, H, U, N> as LaidOut>⟧.stands db fresh)) }
+    ensures accepted { IfSome (C.told store) (λ s. OnOk result (opening_refusal
+        (any_layout U.form F.shape H.Digest.SIZE) (any_found U.form s) max_size
+        ≡ None)) }
+    ensures refused { IfSome (C.told store) (λ s.
+        IfErr result (λ r. IsDue r.error (opening_refusal (any_layout U.form F.shape H.Digest.SIZE)
+        (any_found U.form s) max_size))) }
+    ensures became { IfOk result (λ db.
+        Turns (C.told store) (C.told db.log.store) (λ s new. new
+        ≡ taken ⟦<Db<F, C, I, H, U, N> as LaidOut>⟧.layout.hashing
+        (selected_size ⟦<Db<F, C, I, H, U, N> as LaidOut>⟧.layout.hashing max_size s) s)) }
+    ensures left { IfErr result (λ r.
+        Turns (C.told store) (C.told (store_given (λ db. db.log.store) r.given))
+        (λ s new. LeavesOpening ⟦<Db<F, C, I, H, U, N> as LaidOut>⟧.layout.hashing
+        (selected_size ⟦<Db<F, C, I, H, U, N> as LaidOut>⟧.layout.hashing max_size s) s new)) }
+    ensures unopened { IfErr result (λ r. IfSome (C.told store) (λ s. IsSome
+        (opening_refusal (any_layout U.form F.shape H.Digest.SIZE) (any_found U.form s) max_size)
+        → IsUnchanged C.Store store (store_given (λ db. db.log.store) r.given))) }
     ensures start { IfOk result (λ db. C.start db.log.store ≡ C.start store) }
     ensures later { IfOk result (λ db. C.faults store ≤ C.faults db.log.store) }
-    ensures back { IfErr result (λ r. (s : C) × (r.given ≡ Given.Store s) × (C.start s ≡ C.start store) × (IsSome (refusal_of r.error) → IsKept C.Store store s) × IsCause (C.faults store) (C.faults s) (r.error ≡ Error.Journal JournalError.Store)) }
+    ensures back { IfErr result (λ r. (s : C) × (r.given ≡ Given.Store s)
+        × (C.start s ≡ C.start store) × (IsSome (refusal_of r.error) → IsKept C.Store store s)
+        × IsCause (C.faults store) (C.faults s) (r.error ≡ Error.Journal JournalError.Store)) }
 {
     init_with(alloc, store, hasher, config, max_size, None)
 }
@@ -241,20 +286,42 @@ pub fn init_with<
     pruned: Option<(u64, Option<u64>)>,
 ) -> Result<Db<F, C, I, H, U, N>, Refusal<Db<F, C, I, H, U, N>, C>>
     requires few { IfSome pruned (λ p. p.0 * (8 * N.LEN) ≤ 2 ^ 62) }
-    requires threshold { IfSome pruned (λ p. p.1 ≡ pair_absorption_threshold F.shape (height_of N.LEN) p.0) }
+    requires threshold { IfSome pruned (λ p.
+        p.1 ≡ pair_absorption_threshold F.shape (height_of N.LEN) p.0) }
     ensures keys { ⟦<Db<F, C, I, H, U, N> as LaidOut>⟧.layout.index_key ≡ I.Translator.index_key }
-    ensures stands { IfSome (C.told store) (λ s. (list : List Operation) → HasList ⟦<Db<F, C, I, H, U, N> as LaidOut>⟧.layout.hashing s (selected_size ⟦<Db<F, C, I, H, U, N> as LaidOut>⟧.layout.hashing max_size s) list
+    ensures stands { IfSome (C.told store) (λ s. (list : List Operation)
+        → HasList ⟦<Db<F, C, I, H, U, N> as LaidOut>⟧.layout.hashing s
+        (selected_size ⟦<Db<F, C, I, H, U, N> as LaidOut>⟧.layout.hashing max_size s) list
         → IfOk result (λ db. ⟦<Db<F, C, I, H, U, N> as LaidOut>⟧.stands db list)) }
-    ensures fresh { IfSome (C.told store) (λ s. selected_size ⟦<Db<F, C, I, H, U, N> as LaidOut>⟧.layout.hashing max_size s ≡ 0 → IfOk result (λ db. ⟦<Db<F, C, I, H, U, N> as LaidOut>⟧.stands db fresh)) }
-    ensures accepted { IfSome (C.told store) (λ s. OnOk result (opening_refusal (layout_of U.form F.shape H.Digest.SIZE (option_map (pruned_view N.LEN) pruned)) (found_of U.form s (option_map (pruned_view N.LEN) pruned)) max_size ≡ None)) }
-    ensures refused { IfSome (C.told store) (λ s. IfErr result (λ r. IsDue r.error (opening_refusal (layout_of U.form F.shape H.Digest.SIZE (option_map (pruned_view N.LEN) pruned)) (found_of U.form s (option_map (pruned_view N.LEN) pruned)) max_size))) }
-    ensures became { IfOk result (λ db. Turns (C.told store) (C.told db.log.store) (λ s new. new ≡ taken ⟦<Db<F, C, I, H, U, N> as LaidOut>⟧.layout.hashing (selected_size ⟦<Db<F, C, I, H, U, N> as LaidOut>⟧.layout.hashing max_size s) s)) }
-    ensures left { IfErr result (λ r. Turns (C.told store) (C.told (store_given (λ db. db.log.store) r.given)) (λ s new. LeavesOpening ⟦<Db<F, C, I, H, U, N> as LaidOut>⟧.layout.hashing (selected_size ⟦<Db<F, C, I, H, U, N> as LaidOut>⟧.layout.hashing max_size s) s new)) }
-    ensures unopened { IfErr result (λ r. IfSome (C.told store) (λ s. IsSome (opening_refusal (layout_of U.form F.shape H.Digest.SIZE (option_map (pruned_view N.LEN) pruned)) (found_of U.form s (option_map (pruned_view N.LEN) pruned)) max_size) → IsUnchanged C.Store store (store_given (λ db. db.log.store) r.given))) }
+    ensures fresh { IfSome (C.told store) (λ s.
+        selected_size ⟦<Db<F, C, I, H, U, N> as LaidOut>⟧.layout.hashing max_size s ≡ 0
+        → IfOk result (λ db. ⟦<Db<F, C, I, H, U, N> as LaidOut>⟧.stands db fresh)) }
+    ensures accepted { IfSome (C.told store) (λ s. OnOk result (opening_refusal
+        (layout_of U.form F.shape H.Digest.SIZE (option_map (pruned_view N.LEN) pruned))
+        (found_of U.form s (option_map (pruned_view N.LEN) pruned)) max_size
+        ≡ None)) }
+    ensures refused { IfSome (C.told store) (λ s.
+        IfErr result (λ r. IsDue r.error (opening_refusal
+        (layout_of U.form F.shape H.Digest.SIZE (option_map (pruned_view N.LEN) pruned))
+        (found_of U.form s (option_map (pruned_view N.LEN) pruned)) max_size))) }
+    ensures became { IfOk result (λ db.
+        Turns (C.told store) (C.told db.log.store) (λ s new. new
+        ≡ taken ⟦<Db<F, C, I, H, U, N> as LaidOut>⟧.layout.hashing
+        (selected_size ⟦<Db<F, C, I, H, U, N> as LaidOut>⟧.layout.hashing max_size s) s)) }
+    ensures left { IfErr result (λ r.
+        Turns (C.told store) (C.told (store_given (λ db. db.log.store) r.given))
+        (λ s new. LeavesOpening ⟦<Db<F, C, I, H, U, N> as LaidOut>⟧.layout.hashing
+        (selected_size ⟦<Db<F, C, I, H, U, N> as LaidOut>⟧.layout.hashing max_size s) s new)) }
+    ensures unopened { IfErr result (λ r. IfSome (C.told store) (λ s. IsSome (opening_refusal
+        (layout_of U.form F.shape H.Digest.SIZE (option_map (pruned_view N.LEN) pruned))
+        (found_of U.form s (option_map (pruned_view N.LEN) pruned)) max_size)
+        → IsUnchanged C.Store store (store_given (λ db. db.log.store) r.given))) }
     ensures pruned { IfOk result (λ db. IfSome pruned (λ p. db.activity.pruned ≡ p.0)) }
     ensures start { IfOk result (λ db. C.start db.log.store ≡ C.start store) }
     ensures later { IfOk result (λ db. C.faults store ≤ C.faults db.log.store) }
-    ensures back { IfErr result (λ r. (s : C) × (r.given ≡ Given.Store s) × (C.start s ≡ C.start store) × (IsSome (refusal_of r.error) → IsKept C.Store store s) × IsCause (C.faults store) (C.faults s) (r.error ≡ Error.Journal JournalError.Store)) }
+    ensures back { IfErr result (λ r. (s : C) × (r.given ≡ Given.Store s)
+        × (C.start s ≡ C.start store) × (IsSome (refusal_of r.error) → IsKept C.Store store s)
+        × IsCause (C.faults store) (C.faults s) (r.error ≡ Error.Journal JournalError.Store)) }
 {
     // What is stable of it are items that it has.
     store.bounds();

@@ -67,7 +67,9 @@ impl<
         low: Bound<U::Key>,
         high: Bound<U::Key>,
     ) -> RangeScan<'_, F, C, I, H, U, N>
-        ensures value { (list : List Operation) → pairs_left I.index_key result list ≡ pairs_in (limit_of U.Key.bytes low) (limit_of U.Key.bytes high) list }
+        ensures value { (list : List Operation)
+            → pairs_left I.index_key result list
+            ≡ pairs_in (limit_of U.Key.bytes low) (limit_of U.Key.bytes high) list }
         ensures lent { (lent_to result).now ≡ self.old }
         ensures same { (lent_to result).ghost_name ≡ self.entry.ghost_name }
     {
@@ -86,7 +88,9 @@ impl<
         low: Bound<U::Key>,
         high: Bound<U::Key>,
     ) -> KeyScan<'_, F, C, I, H, U, N>
-        ensures value { (list : List Operation) → keys_left I.index_key result list ≡ keys_in (limit_of U.Key.bytes low) (limit_of U.Key.bytes high) list }
+        ensures value { (list : List Operation)
+            → keys_left I.index_key result list
+            ≡ keys_in (limit_of U.Key.bytes low) (limit_of U.Key.bytes high) list }
         ensures lent { (lent_to_keys result).now ≡ self.old }
         ensures same { (lent_to_keys result).ghost_name ≡ self.entry.ghost_name }
     {
@@ -103,12 +107,19 @@ impl<
         scan: &mut Scan<U>,
     ) -> Option<Result<(U::Key, U::Value), Error>>
         requires { U.form.ordered ≡ true }
-        ensures value { (list : List Operation) → ⟦<Db<F, C, I, H, U, N> as LaidOut>⟧.stands self.old list
-            → IsStep (pair_view U.Key.bytes U.Value.bytes) (left_of I.index_key scan.old list) (left_of I.index_key scan.new list) result }
-        ensures error { IfSome result (λ r. IfErr r (IsReadError C.Store self.old.log self.new.log)) }
-        ensures whole { (list : List Operation) → ⟦<Db<F, C, I, H, U, N> as LaidOut>⟧.stands self.old list → NoneBelow self.old.log.tree.start list
-            → IfSome result (λ r. IfErr r (λ e. (n : ℕ) → e ≢ Error.Journal (JournalError.ItemPruned n))) }
-        ensures left { IsLeft C.Store ⟦<Db<F, C, I, H, U, N> as LaidOut>⟧.layout.hashing self.old self.new }
+        ensures value { (list : List Operation)
+            → ⟦<Db<F, C, I, H, U, N> as LaidOut>⟧.stands self.old list
+            → IsStep (pair_view U.Key.bytes U.Value.bytes) (left_of I.index_key scan.old list)
+            (left_of I.index_key scan.new list) result }
+        ensures error { IfSome result (λ r.
+            IfErr r (IsReadError C.Store self.old.log self.new.log)) }
+        ensures whole { (list : List Operation)
+            → ⟦<Db<F, C, I, H, U, N> as LaidOut>⟧.stands self.old list
+            → NoneBelow self.old.log.tree.start list
+            → IfSome result (λ r.
+            IfErr r (λ e. (n : ℕ) → e ≢ Error.Journal (JournalError.ItemPruned n))) }
+        ensures left { IsLeft C.Store ⟦<Db<F, C, I, H, U, N> as LaidOut>⟧.layout.hashing self.old
+            self.new }
     {
         scan.next(alloc, &self.index, &mut self.log)
     }
@@ -127,12 +138,19 @@ impl<
     /// once where no read is refused.
     pub fn next(&mut self) -> Option<Result<(U::Key, U::Value), Error>>
         requires { U.form.ordered ≡ true }
-        ensures value { (list : List Operation) → ⟦<Db<F, C, I, H, U, N> as LaidOut>⟧.stands (lent_to self.old).now list
-            → IsStep (pair_view U.Key.bytes U.Value.bytes) (pairs_left I.index_key self.old list) (pairs_left I.index_key self.new list) result }
-        ensures error { IfSome result (λ r. IfErr r (IsReadError C.Store (lent_to self.old).now.log (lent_to self.new).now.log)) }
-        ensures whole { (list : List Operation) → ⟦<Db<F, C, I, H, U, N> as LaidOut>⟧.stands (lent_to self.old).now list → NoneBelow (lent_to self.old).now.log.tree.start list
-            → IfSome result (λ r. IfErr r (λ e. (n : ℕ) → e ≢ Error.Journal (JournalError.ItemPruned n))) }
-        ensures left { IsLeft C.Store ⟦<Db<F, C, I, H, U, N> as LaidOut>⟧.layout.hashing (lent_to self.old).now (lent_to self.new).now }
+        ensures value { (list : List Operation)
+            → ⟦<Db<F, C, I, H, U, N> as LaidOut>⟧.stands (lent_to self.old).now list
+            → IsStep (pair_view U.Key.bytes U.Value.bytes) (pairs_left I.index_key self.old list)
+            (pairs_left I.index_key self.new list) result }
+        ensures error { IfSome result (λ r.
+            IfErr r (IsReadError C.Store (lent_to self.old).now.log (lent_to self.new).now.log)) }
+        ensures whole { (list : List Operation)
+            → ⟦<Db<F, C, I, H, U, N> as LaidOut>⟧.stands (lent_to self.old).now list
+            → NoneBelow (lent_to self.old).now.log.tree.start list
+            → IfSome result (λ r.
+            IfErr r (λ e. (n : ℕ) → e ≢ Error.Journal (JournalError.ItemPruned n))) }
+        ensures left { IsLeft C.Store ⟦<Db<F, C, I, H, U, N> as LaidOut>⟧.layout.hashing
+            (lent_to self.old).now (lent_to self.new).now }
         ensures same { (lent_to self.new).ghost_name ≡ (lent_to self.old).ghost_name }
     {
         self.db.scan_next(self.alloc, &mut self.scan)
@@ -150,12 +168,19 @@ impl<
     /// The next live key of the range, or nothing behind the last. It reads as `RangeScan::next` does.
     pub fn next(&mut self) -> Option<Result<U::Key, Error>>
         requires { U.form.ordered ≡ true }
-        ensures value { (list : List Operation) → ⟦<Db<F, C, I, H, U, N> as LaidOut>⟧.stands (lent_to_keys self.old).now list
-            → IsStep U.Key.bytes (keys_left I.index_key self.old list) (keys_left I.index_key self.new list) result }
-        ensures error { IfSome result (λ r. IfErr r (IsReadError C.Store (lent_to_keys self.old).now.log (lent_to_keys self.new).now.log)) }
-        ensures whole { (list : List Operation) → ⟦<Db<F, C, I, H, U, N> as LaidOut>⟧.stands (lent_to_keys self.old).now list → NoneBelow (lent_to_keys self.old).now.log.tree.start list
-            → IfSome result (λ r. IfErr r (λ e. (n : ℕ) → e ≢ Error.Journal (JournalError.ItemPruned n))) }
-        ensures left { IsLeft C.Store ⟦<Db<F, C, I, H, U, N> as LaidOut>⟧.layout.hashing (lent_to_keys self.old).now (lent_to_keys self.new).now }
+        ensures value { (list : List Operation)
+            → ⟦<Db<F, C, I, H, U, N> as LaidOut>⟧.stands (lent_to_keys self.old).now list
+            → IsStep U.Key.bytes (keys_left I.index_key self.old list)
+            (keys_left I.index_key self.new list) result }
+        ensures error { IfSome result (λ r. IfErr r
+            (IsReadError C.Store (lent_to_keys self.old).now.log (lent_to_keys self.new).now.log)) }
+        ensures whole { (list : List Operation)
+            → ⟦<Db<F, C, I, H, U, N> as LaidOut>⟧.stands (lent_to_keys self.old).now list
+            → NoneBelow (lent_to_keys self.old).now.log.tree.start list
+            → IfSome result (λ r.
+            IfErr r (λ e. (n : ℕ) → e ≢ Error.Journal (JournalError.ItemPruned n))) }
+        ensures left { IsLeft C.Store ⟦<Db<F, C, I, H, U, N> as LaidOut>⟧.layout.hashing
+            (lent_to_keys self.old).now (lent_to_keys self.new).now }
         ensures same { (lent_to_keys self.new).ghost_name ≡ (lent_to_keys self.old).ghost_name }
     {
         match self.pairs.next() {

@@ -66,13 +66,16 @@ impl<F: Family, D: Digest, U: Update> UnmerkleizedBatch<F, D, U> {
         keys: Vec<U::Key>,
         db: &mut Db<F, C, I, H, U, N>,
     ) -> Result<(Vec<Option<U::Value>>, Staged<F, D, U>), Error>
-        ensures values { AtBegun C.Store ⟦<Db<F, C, I, H, U, N> as LaidOut>⟧.layout db.old self (λ chain above.
-            IfOk result (λ r. map (option_map U.Value.bytes) r.0.items ≡ map (λ k. read_through chain.base self.writes (U.Key.bytes k)) keys.items)) }
-        ensures staged { AtBegun C.Store ⟦<Db<F, C, I, H, U, N> as LaidOut>⟧.layout db.old self (λ chain above.
-            IfOk result (λ r. IsStaged ⟦<Db<F, C, I, H, U, N> as LaidOut>⟧.layout.hashing r.1 chain above)) }
+        ensures values { AtBegun C.Store ⟦<Db<F, C, I, H, U, N> as LaidOut>⟧.layout db.old self
+            (λ chain above. IfOk result (λ r. map (option_map U.Value.bytes) r.0.items
+            ≡ map (λ k. read_through chain.base self.writes (U.Key.bytes k)) keys.items)) }
+        ensures staged { AtBegun C.Store ⟦<Db<F, C, I, H, U, N> as LaidOut>⟧.layout db.old self
+            (λ chain above. IfOk result (λ r.
+            IsStaged ⟦<Db<F, C, I, H, U, N> as LaidOut>⟧.layout.hashing r.1 chain above)) }
         ensures batch { IfOk result (λ r. r.1.batch ≡ self) }
         ensures keys { IfOk result (λ r. staged_keys r.1 ≡ map U.Key.bytes keys.items) }
-        ensures reads { ReadsThrough C.Store ⟦<Db<F, C, I, H, U, N> as LaidOut>⟧.layout db.old db.new result self.parent.bounds }
+        ensures reads { ReadsThrough C.Store ⟦<Db<F, C, I, H, U, N> as LaidOut>⟧.layout db.old
+            db.new result self.parent.bounds }
     {
         let staged = Staged {
             batch: self,
@@ -106,27 +109,49 @@ impl<F: Family, D: Digest, U: Update> UnmerkleizedBatch<F, D, U> {
     where
         U: Steps<F, I>,
         ensures fits { OnOk result (is_on db.old.commitment self ≡ true) }
-        ensures made { (list : List Operation) (chain above : Chain) → ⟦<Db<F, C, I, H, U, N> as LaidOut>⟧.stands db.old list
-            → IsBegun ⟦<Db<F, C, I, H, U, N> as LaidOut>⟧.layout.hashing self chain above → IsOnChain list chain
-            → IfOk result (λ b. IsMade ⟦<Db<F, C, I, H, U, N> as LaidOut>⟧.layout.hashing b.value chain (stepped U.form P.rules chain.base self.writes policy.old (option_map U.Value.bytes metadata))) }
-        ensures taken { (list : List Operation) (chain above : Chain) → ⟦<Db<F, C, I, H, U, N> as LaidOut>⟧.stands db.old list
-            → IsBegun ⟦<Db<F, C, I, H, U, N> as LaidOut>⟧.layout.hashing self chain above → IsOnChain list chain
-            → OnOk result (IsTaken U.form chain.base (stepped U.form P.rules chain.base self.writes policy.old (option_map U.Value.bytes metadata))) }
-        ensures refused { (list : List Operation) (chain above : Chain) → ⟦<Db<F, C, I, H, U, N> as LaidOut>⟧.stands db.old list
-            → IsBegun ⟦<Db<F, C, I, H, U, N> as LaidOut>⟧.layout.hashing self chain above → IsOnChain list chain
-            → IfErr result (λ e. IsRefused U.form chain.base (stepped U.form P.rules chain.base self.writes policy.old (option_map U.Value.bytes metadata)) e ⊎ IsReadError C.Store db.old.log db.new.log e) }
-        ensures next { (list : List Operation) (chain above : Chain) → ⟦<Db<F, C, I, H, U, N> as LaidOut>⟧.stands db.old list
-            → IsBegun ⟦<Db<F, C, I, H, U, N> as LaidOut>⟧.layout.hashing self chain above → IsOnChain list chain
-            → OnOk result (policy.new ≡ left_after U.form P.rules chain.base self.writes policy.old) }
-        ensures above { IfOk result (λ b. All (λ n. b.value.bounds.db.size ≤ n) (stops b.value.tree.leaves b.value.tree.layers)) }
-        ensures stale { IfErr result (λ e. e ≡ Error.StaleBatch → is_on db.old.commitment self ≡ false) }
-        ensures order { IfErr result (λ e. e ≢ Error.Memory → e ≢ Error.StaleBatch → is_on db.old.commitment self ≡ true) }
-        ensures causes { IfErr result (λ e. (e ≡ Error.StaleBatch) ⊎ IsMakingError C.Store db.old.log db.new.log e) }
-        ensures whole { (list : List Operation) → ⟦<Db<F, C, I, H, U, N> as LaidOut>⟧.stands db.old list
-            → NoneBelow db.old.log.tree.start list → db.old.log.tree.start ≤ self.parent.bounds.inactivity_floor
+        ensures made { (list : List Operation) (chain above : Chain)
+            → ⟦<Db<F, C, I, H, U, N> as LaidOut>⟧.stands db.old list
+            → IsBegun ⟦<Db<F, C, I, H, U, N> as LaidOut>⟧.layout.hashing self chain above
+            → IsOnChain list chain
+            → IfOk result (λ b. IsMade ⟦<Db<F, C, I, H, U, N> as LaidOut>⟧.layout.hashing b.value
+            chain (stepped U.form P.rules chain.base self.writes policy.old
+            (option_map U.Value.bytes metadata))) }
+        ensures taken { (list : List Operation) (chain above : Chain)
+            → ⟦<Db<F, C, I, H, U, N> as LaidOut>⟧.stands db.old list
+            → IsBegun ⟦<Db<F, C, I, H, U, N> as LaidOut>⟧.layout.hashing self chain above
+            → IsOnChain list chain
+            → OnOk result (IsTaken U.form chain.base (stepped U.form P.rules chain.base self.writes
+            policy.old (option_map U.Value.bytes metadata))) }
+        ensures refused { (list : List Operation) (chain above : Chain)
+            → ⟦<Db<F, C, I, H, U, N> as LaidOut>⟧.stands db.old list
+            → IsBegun ⟦<Db<F, C, I, H, U, N> as LaidOut>⟧.layout.hashing self chain above
+            → IsOnChain list chain
+            → IfErr result (λ e. IsRefused U.form chain.base (stepped U.form P.rules chain.base
+            self.writes policy.old (option_map U.Value.bytes metadata)) e
+            ⊎ IsReadError C.Store db.old.log db.new.log e) }
+        ensures next { (list : List Operation) (chain above : Chain)
+            → ⟦<Db<F, C, I, H, U, N> as LaidOut>⟧.stands db.old list
+            → IsBegun ⟦<Db<F, C, I, H, U, N> as LaidOut>⟧.layout.hashing self chain above
+            → IsOnChain list chain
+            → OnOk result
+            (policy.new ≡ left_after U.form P.rules chain.base self.writes policy.old) }
+        ensures above { IfOk result (λ b.
+            All (λ n. b.value.bounds.db.size ≤ n) (stops b.value.tree.leaves b.value.tree.layers)) }
+        ensures stale { IfErr result (λ e.
+            e ≡ Error.StaleBatch → is_on db.old.commitment self ≡ false) }
+        ensures order { IfErr result (λ e.
+            e ≢ Error.Memory → e ≢ Error.StaleBatch → is_on db.old.commitment self ≡ true) }
+        ensures causes { IfErr result (λ e.
+            (e ≡ Error.StaleBatch) ⊎ IsMakingError C.Store db.old.log db.new.log e) }
+        ensures whole { (list : List Operation)
+            → ⟦<Db<F, C, I, H, U, N> as LaidOut>⟧.stands db.old list
+            → NoneBelow db.old.log.tree.start list
+            → db.old.log.tree.start ≤ self.parent.bounds.inactivity_floor
             → IfErr result (λ e. (n : ℕ) → e ≢ Error.Journal (JournalError.ItemPruned n)) }
-        ensures cause { IfErr result (λ e. e ≡ Error.Journal JournalError.Store → Rose (C.faults db.old.log.store) (C.faults db.new.log.store)) }
-        ensures left { IsLeft C.Store ⟦<Db<F, C, I, H, U, N> as LaidOut>⟧.layout.hashing db.old db.new }
+        ensures cause { IfErr result (λ e. e ≡ Error.Journal JournalError.Store
+            → Rose (C.faults db.old.log.store) (C.faults db.new.log.store)) }
+        ensures left { IsLeft C.Store ⟦<Db<F, C, I, H, U, N> as LaidOut>⟧.layout.hashing db.old
+            db.new }
     {
         let staged = Staged {
             batch: self,
@@ -165,16 +190,25 @@ impl<F: Family, D: Digest, U: Update> Staged<F, D, U> {
         keys: Vec<U::Key>,
         db: &mut Db<F, C, I, H, U, N>,
     ) -> Result<(Range<usize>, Vec<Option<U::Value>>, Self), Error>
-        ensures range { IfOk result (λ r. (r.0.start ≡ length (staged_keys self)) × (r.0.end ≡ length (staged_keys self) + length keys.items)) }
-        ensures values { (list : List Operation) (chain above : Chain) → ⟦<Db<F, C, I, H, U, N> as LaidOut>⟧.stands db.old list
-            → IsStaged ⟦<Db<F, C, I, H, U, N> as LaidOut>⟧.layout.hashing self chain above → IsKnown list above chain.base
-            → IfOk result (λ r. map (option_map U.Value.bytes) r.1.items ≡ map (λ k. read_through chain.base self.batch.writes (U.Key.bytes k)) keys.items) }
-        ensures staged { (list : List Operation) (chain above : Chain) → ⟦<Db<F, C, I, H, U, N> as LaidOut>⟧.stands db.old list
-            → IsStaged ⟦<Db<F, C, I, H, U, N> as LaidOut>⟧.layout.hashing self chain above → IsKnown list above chain.base
-            → IfOk result (λ r. IsStaged ⟦<Db<F, C, I, H, U, N> as LaidOut>⟧.layout.hashing r.2 chain above) }
+        ensures range { IfOk result (λ r. (r.0.start ≡ length (staged_keys self))
+            × (r.0.end ≡ length (staged_keys self) + length keys.items)) }
+        ensures values { (list : List Operation) (chain above : Chain)
+            → ⟦<Db<F, C, I, H, U, N> as LaidOut>⟧.stands db.old list
+            → IsStaged ⟦<Db<F, C, I, H, U, N> as LaidOut>⟧.layout.hashing self chain above
+            → IsKnown list above chain.base
+            → IfOk result (λ r. map (option_map U.Value.bytes) r.1.items
+            ≡ map (λ k. read_through chain.base self.batch.writes (U.Key.bytes k)) keys.items) }
+        ensures staged { (list : List Operation) (chain above : Chain)
+            → ⟦<Db<F, C, I, H, U, N> as LaidOut>⟧.stands db.old list
+            → IsStaged ⟦<Db<F, C, I, H, U, N> as LaidOut>⟧.layout.hashing self chain above
+            → IsKnown list above chain.base
+            → IfOk result (λ r.
+            IsStaged ⟦<Db<F, C, I, H, U, N> as LaidOut>⟧.layout.hashing r.2 chain above) }
         ensures batch { IfOk result (λ r. r.2.batch ≡ self.batch) }
-        ensures keys { IfOk result (λ r. staged_keys r.2 ≡ staged_keys self ++ map U.Key.bytes keys.items) }
-        ensures reads { ReadsThrough C.Store ⟦<Db<F, C, I, H, U, N> as LaidOut>⟧.layout db.old db.new result self.batch.parent.bounds }
+        ensures keys { IfOk result (λ r.
+            staged_keys r.2 ≡ staged_keys self ++ map U.Key.bytes keys.items) }
+        ensures reads { ReadsThrough C.Store ⟦<Db<F, C, I, H, U, N> as LaidOut>⟧.layout db.old
+            db.new result self.batch.parent.bounds }
     {
         let (found, values) = self.batch.located(alloc, keys, db)?;
         let start = self.len();
@@ -186,7 +220,8 @@ impl<F: Family, D: Digest, U: Update> Staged<F, D, U> {
     // The staged batch, with the reads that were found behind those that it has.
     fn with(self, found: Vec<Read<F, U>>) -> Result<Self, AllocError>
         ensures batch { IfOk result (λ s. s.batch ≡ self.batch) }
-        ensures reads { IfOk result (λ s. s.reads ≡ self.reads ++ reads_view U.view U.Key.bytes found.items) }
+        ensures reads { IfOk result (λ s.
+            s.reads ≡ self.reads ++ reads_view U.view U.Key.bytes found.items) }
     {
         let Staged { batch, reads } = self;
         let (mut reads, mut found) = (reads, found);
@@ -218,27 +253,56 @@ impl<F: Family, D: Digest, U: Update> Staged<F, D, U> {
         U: Steps<F, I>,
         requires { length slots.now ≡ length (staged_keys self) }
         ensures fits { OnOk result (is_on db.old.commitment self.batch ≡ true) }
-        ensures made { (list : List Operation) (chain above : Chain) → ⟦<Db<F, C, I, H, U, N> as LaidOut>⟧.stands db.old list
-            → IsStaged ⟦<Db<F, C, I, H, U, N> as LaidOut>⟧.layout.hashing self chain above → IsOnChain list chain
-            → IfOk result (λ b. IsMade ⟦<Db<F, C, I, H, U, N> as LaidOut>⟧.layout.hashing b.value chain (stepped U.form P.rules chain.base (slotted self.batch.writes (staged_keys self) (slot_views U.Value.bytes slots.now) (write_views U.Key.bytes U.Value.bytes others.now)) policy.old (option_map U.Value.bytes metadata))) }
-        ensures taken { (list : List Operation) (chain above : Chain) → ⟦<Db<F, C, I, H, U, N> as LaidOut>⟧.stands db.old list
-            → IsStaged ⟦<Db<F, C, I, H, U, N> as LaidOut>⟧.layout.hashing self chain above → IsOnChain list chain
-            → OnOk result (IsTaken U.form chain.base (stepped U.form P.rules chain.base (slotted self.batch.writes (staged_keys self) (slot_views U.Value.bytes slots.now) (write_views U.Key.bytes U.Value.bytes others.now)) policy.old (option_map U.Value.bytes metadata))) }
-        ensures refused { (list : List Operation) (chain above : Chain) → ⟦<Db<F, C, I, H, U, N> as LaidOut>⟧.stands db.old list
-            → IsStaged ⟦<Db<F, C, I, H, U, N> as LaidOut>⟧.layout.hashing self chain above → IsOnChain list chain
-            → IfErr result (λ e. IsRefused U.form chain.base (stepped U.form P.rules chain.base (slotted self.batch.writes (staged_keys self) (slot_views U.Value.bytes slots.now) (write_views U.Key.bytes U.Value.bytes others.now)) policy.old (option_map U.Value.bytes metadata)) e ⊎ IsReadError C.Store db.old.log db.new.log e) }
-        ensures next { (list : List Operation) (chain above : Chain) → ⟦<Db<F, C, I, H, U, N> as LaidOut>⟧.stands db.old list
-            → IsStaged ⟦<Db<F, C, I, H, U, N> as LaidOut>⟧.layout.hashing self chain above → IsOnChain list chain
-            → OnOk result (policy.new ≡ left_after U.form P.rules chain.base (slotted self.batch.writes (staged_keys self) (slot_views U.Value.bytes slots.now) (write_views U.Key.bytes U.Value.bytes others.now)) policy.old) }
-        ensures above { IfOk result (λ b. All (λ n. b.value.bounds.db.size ≤ n) (stops b.value.tree.leaves b.value.tree.layers)) }
-        ensures stale { IfErr result (λ e. e ≡ Error.StaleBatch → is_on db.old.commitment self.batch ≡ false) }
-        ensures order { IfErr result (λ e. e ≢ Error.Memory → e ≢ Error.StaleBatch → is_on db.old.commitment self.batch ≡ true) }
-        ensures causes { IfErr result (λ e. (e ≡ Error.StaleBatch) ⊎ IsMakingError C.Store db.old.log db.new.log e) }
-        ensures whole { (list : List Operation) → ⟦<Db<F, C, I, H, U, N> as LaidOut>⟧.stands db.old list
-            → NoneBelow db.old.log.tree.start list → db.old.log.tree.start ≤ self.batch.parent.bounds.inactivity_floor
+        ensures made { (list : List Operation) (chain above : Chain)
+            → ⟦<Db<F, C, I, H, U, N> as LaidOut>⟧.stands db.old list
+            → IsStaged ⟦<Db<F, C, I, H, U, N> as LaidOut>⟧.layout.hashing self chain above
+            → IsOnChain list chain
+            → IfOk result (λ b. IsMade ⟦<Db<F, C, I, H, U, N> as LaidOut>⟧.layout.hashing b.value
+            chain (stepped U.form P.rules chain.base (slotted self.batch.writes (staged_keys self)
+            (slot_views U.Value.bytes slots.now) (write_views U.Key.bytes U.Value.bytes others.now))
+            policy.old (option_map U.Value.bytes metadata))) }
+        ensures taken { (list : List Operation) (chain above : Chain)
+            → ⟦<Db<F, C, I, H, U, N> as LaidOut>⟧.stands db.old list
+            → IsStaged ⟦<Db<F, C, I, H, U, N> as LaidOut>⟧.layout.hashing self chain above
+            → IsOnChain list chain
+            → OnOk result (IsTaken U.form chain.base (stepped U.form P.rules chain.base
+            (slotted self.batch.writes (staged_keys self) (slot_views U.Value.bytes slots.now)
+            (write_views U.Key.bytes U.Value.bytes others.now)) policy.old
+            (option_map U.Value.bytes metadata))) }
+        ensures refused { (list : List Operation) (chain above : Chain)
+            → ⟦<Db<F, C, I, H, U, N> as LaidOut>⟧.stands db.old list
+            → IsStaged ⟦<Db<F, C, I, H, U, N> as LaidOut>⟧.layout.hashing self chain above
+            → IsOnChain list chain
+            → IfErr result (λ e. IsRefused U.form chain.base (stepped U.form P.rules chain.base
+            (slotted self.batch.writes (staged_keys self) (slot_views U.Value.bytes slots.now)
+            (write_views U.Key.bytes U.Value.bytes others.now)) policy.old
+            (option_map U.Value.bytes metadata)) e
+            ⊎ IsReadError C.Store db.old.log db.new.log e) }
+        ensures next { (list : List Operation) (chain above : Chain)
+            → ⟦<Db<F, C, I, H, U, N> as LaidOut>⟧.stands db.old list
+            → IsStaged ⟦<Db<F, C, I, H, U, N> as LaidOut>⟧.layout.hashing self chain above
+            → IsOnChain list chain
+            → OnOk result (policy.new
+            ≡ left_after U.form P.rules chain.base (slotted self.batch.writes (staged_keys self)
+            (slot_views U.Value.bytes slots.now) (write_views U.Key.bytes U.Value.bytes others.now))
+            policy.old) }
+        ensures above { IfOk result (λ b.
+            All (λ n. b.value.bounds.db.size ≤ n) (stops b.value.tree.leaves b.value.tree.layers)) }
+        ensures stale { IfErr result (λ e.
+            e ≡ Error.StaleBatch → is_on db.old.commitment self.batch ≡ false) }
+        ensures order { IfErr result (λ e.
+            e ≢ Error.Memory → e ≢ Error.StaleBatch → is_on db.old.commitment self.batch ≡ true) }
+        ensures causes { IfErr result (λ e.
+            (e ≡ Error.StaleBatch) ⊎ IsMakingError C.Store db.old.log db.new.log e) }
+        ensures whole { (list : List Operation)
+            → ⟦<Db<F, C, I, H, U, N> as LaidOut>⟧.stands db.old list
+            → NoneBelow db.old.log.tree.start list
+            → db.old.log.tree.start ≤ self.batch.parent.bounds.inactivity_floor
             → IfErr result (λ e. (n : ℕ) → e ≢ Error.Journal (JournalError.ItemPruned n)) }
-        ensures cause { IfErr result (λ e. e ≡ Error.Journal JournalError.Store → Rose (C.faults db.old.log.store) (C.faults db.new.log.store)) }
-        ensures left { IsLeft C.Store ⟦<Db<F, C, I, H, U, N> as LaidOut>⟧.layout.hashing db.old db.new }
+        ensures cause { IfErr result (λ e. e ≡ Error.Journal JournalError.Store
+            → Rose (C.faults db.old.log.store) (C.faults db.new.log.store)) }
+        ensures left { IsLeft C.Store ⟦<Db<F, C, I, H, U, N> as LaidOut>⟧.layout.hashing db.old
+            db.new }
     {
         let (parent, keep, writes) = self.batch.parts();
         let child = parent.child(alloc, keep, db.commitment(), &metadata)?;

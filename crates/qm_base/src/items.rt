@@ -14,10 +14,12 @@ pub trait Items {
     /// The item at a location, where there is one.
     fn read_item(&mut self, at: u64) -> Result<Option<Vec<u8>>, Error>
         ensures value { (items : List (List ℕ)) → reads.logged self.old items
-            → IfSome (reads.told self.old) (λ _. IfOk result (λ item. option_map (λ v. v.items) item ≡ slice_get items at)) }
+            → IfSome (reads.told self.old) (λ _.
+            IfOk result (λ item. option_map (λ v. v.items) item ≡ slice_get items at)) }
         ensures read { IsRead reads self.old self.new }
         ensures error { IfErr result (IsReadError reads self.old self.new) }
-        ensures pruned { reads.start self.old ≤ at → IfErr result (λ e. (n : ℕ) → e ≢ Error.Journal (JournalError.ItemPruned n)) };
+        ensures pruned { reads.start self.old ≤ at
+            → IfErr result (λ e. (n : ℕ) → e ≢ Error.Journal (JournalError.ItemPruned n)) };
 
     ghost unread: { (a : Self) → reads.keeps a a };
 

@@ -39,11 +39,16 @@ pub fn previous<F, I: qm_index::Unordered<Value = Location<F>>, L: Items, U: Ste
     key: &U::Key,
 ) -> Result<Option<(Location<F>, U)>, Error>
     requires { U.form.ordered ≡ true }
-    ensures value { (lent base : List model.Operation) → IsLent L.reads U.form I.index_key (I.entries index.now) log.old lent → LeadOver (map (λ l. l.value) layers.now) lent base
-        → IsRing lent → IsRing base → IfSome (L.reads.told log.old) (λ _. IfOk result (λ found. option_map (read_view U.view) found ≡ previous_of base (U.Key.bytes key.now))) }
+    ensures value { (lent base : List model.Operation)
+        → IsLent L.reads U.form I.index_key (I.entries index.now) log.old lent
+        → LeadOver (map (λ l. l.value) layers.now) lent base → IsRing lent → IsRing base
+        → IfSome (L.reads.told log.old) (λ _. IfOk result (λ found.
+        option_map (read_view U.view) found ≡ previous_of base (U.Key.bytes key.now))) }
     ensures read { IsRead L.reads log.old log.new }
     ensures error { IfErr result (IsReadError L.reads log.old log.new) }
-    ensures whole { (lent : List model.Operation) → IsLent L.reads U.form I.index_key (I.entries index.now) log.old lent → NoneBelow (L.reads.start log.old) lent
+    ensures whole { (lent : List model.Operation)
+        → IsLent L.reads U.form I.index_key (I.entries index.now) log.old lent
+        → NoneBelow (L.reads.start log.old) lent
         → IfErr result (λ e. (n : ℕ) → e ≢ Error.Journal (JournalError.ItemPruned n)) }
 {
     let lent = last_lent(
@@ -66,11 +71,16 @@ pub fn holder<F, I: qm_index::Unordered<Value = Location<F>>, L: Items, U: Steps
     key: &U::Key,
 ) -> Result<Option<(Location<F>, U)>, Error>
     requires { U.form.ordered ≡ true }
-    ensures value { (lent base : List model.Operation) → IsLent L.reads U.form I.index_key (I.entries index.now) log.old lent → LeadOver (map (λ l. l.value) layers.now) lent base
-        → IsRing lent → IsRing base → IfSome (L.reads.told log.old) (λ _. IfOk result (λ found. option_map (read_view U.view) found ≡ holder_of base (U.Key.bytes key.now))) }
+    ensures value { (lent base : List model.Operation)
+        → IsLent L.reads U.form I.index_key (I.entries index.now) log.old lent
+        → LeadOver (map (λ l. l.value) layers.now) lent base → IsRing lent → IsRing base
+        → IfSome (L.reads.told log.old) (λ _. IfOk result (λ found.
+        option_map (read_view U.view) found ≡ holder_of base (U.Key.bytes key.now))) }
     ensures read { IsRead L.reads log.old log.new }
     ensures error { IfErr result (IsReadError L.reads log.old log.new) }
-    ensures whole { (lent : List model.Operation) → IsLent L.reads U.form I.index_key (I.entries index.now) log.old lent → NoneBelow (L.reads.start log.old) lent
+    ensures whole { (lent : List model.Operation)
+        → IsLent L.reads U.form I.index_key (I.entries index.now) log.old lent
+        → NoneBelow (L.reads.start log.old) lent
         → IfErr result (λ e. (n : ℕ) → e ≢ Error.Journal (JournalError.ItemPruned n)) }
 {
     match newest(layers, key.as_bytes()) {
@@ -100,11 +110,16 @@ pub fn next_key<F, I: qm_index::Unordered<Value = Location<F>>, L: Items, U: Ste
     key: &U::Key,
 ) -> Result<Option<U::Key>, Error>
     requires { U.form.ordered ≡ true }
-    ensures value { (lent base : List model.Operation) → IsLent L.reads U.form I.index_key (I.entries index.now) log.old lent → LeadOver (map (λ l. l.value) layers.now) lent base
-        → IsRing lent → IsRing base → IfSome (L.reads.told log.old) (λ _. IfOk result (λ found. option_map U.Key.bytes found ≡ key_above (live_keys base) (U.Key.bytes key.now))) }
+    ensures value { (lent base : List model.Operation)
+        → IsLent L.reads U.form I.index_key (I.entries index.now) log.old lent
+        → LeadOver (map (λ l. l.value) layers.now) lent base → IsRing lent → IsRing base
+        → IfSome (L.reads.told log.old) (λ _. IfOk result (λ found.
+        option_map U.Key.bytes found ≡ key_above (live_keys base) (U.Key.bytes key.now))) }
     ensures read { IsRead L.reads log.old log.new }
     ensures error { IfErr result (IsReadError L.reads log.old log.new) }
-    ensures whole { (lent : List model.Operation) → IsLent L.reads U.form I.index_key (I.entries index.now) log.old lent → NoneBelow (L.reads.start log.old) lent
+    ensures whole { (lent : List model.Operation)
+        → IsLent L.reads U.form I.index_key (I.entries index.now) log.old lent
+        → NoneBelow (L.reads.start log.old) lent
         → IfErr result (λ e. (n : ℕ) → e ≢ Error.Journal (JournalError.ItemPruned n)) }
 {
     let found = holder(alloc, index, log, layers, key)?;
@@ -120,11 +135,16 @@ pub fn previous_key<F, I: qm_index::Unordered<Value = Location<F>>, L: Items, U:
     key: &U::Key,
 ) -> Result<Option<U::Key>, Error>
     requires { U.form.ordered ≡ true }
-    ensures value { (lent base : List model.Operation) → IsLent L.reads U.form I.index_key (I.entries index.now) log.old lent → LeadOver (map (λ l. l.value) layers.now) lent base
-        → IsRing lent → IsRing base → IfSome (L.reads.told log.old) (λ _. IfOk result (λ found. option_map U.Key.bytes found ≡ key_below (live_keys base) (U.Key.bytes key.now))) }
+    ensures value { (lent base : List model.Operation)
+        → IsLent L.reads U.form I.index_key (I.entries index.now) log.old lent
+        → LeadOver (map (λ l. l.value) layers.now) lent base → IsRing lent → IsRing base
+        → IfSome (L.reads.told log.old) (λ _. IfOk result (λ found.
+        option_map U.Key.bytes found ≡ key_below (live_keys base) (U.Key.bytes key.now))) }
     ensures read { IsRead L.reads log.old log.new }
     ensures error { IfErr result (IsReadError L.reads log.old log.new) }
-    ensures whole { (lent : List model.Operation) → IsLent L.reads U.form I.index_key (I.entries index.now) log.old lent → NoneBelow (L.reads.start log.old) lent
+    ensures whole { (lent : List model.Operation)
+        → IsLent L.reads U.form I.index_key (I.entries index.now) log.old lent
+        → NoneBelow (L.reads.start log.old) lent
         → IfErr result (λ e. (n : ℕ) → e ≢ Error.Journal (JournalError.ItemPruned n)) }
 {
     let found = previous(alloc, index, log, layers, key)?;
@@ -138,7 +158,8 @@ fn nearer<F, U: Update>(
     key: &[u8],
     lent: Option<(Location<F>, U)>,
 ) -> Result<Option<(Location<F>, U)>, Error>
-    ensures value { IfOk result (λ found. option_map (read_view U.view) found ≡ nearer_of (map (λ l. l.value) layers.now) key.now (option_map (read_view U.view) lent)) }
+    ensures value { IfOk result (λ found. option_map (read_view U.view) found
+        ≡ nearer_of (map (λ l. l.value) layers.now) key.now (option_map (read_view U.view) lent)) }
     ensures memory { IfErr result (λ e. e ≡ Error.Memory) }
 {
     let left = left_before(layers, key);
@@ -160,7 +181,9 @@ fn is_nearest<F, U: Update>(
     left: Option<&[u8]>,
     own: &[u8],
 ) -> bool
-    ensures { result ≡ is_nearest (map (λ l. l.value) layers.now) key.now (option_map (λ k. k.now) left.entry) own.now }
+    ensures { result
+        ≡ is_nearest (map (λ l. l.value) layers.now) key.now (option_map (λ k. k.now) left.entry)
+        own.now }
 {
     if newest(layers, own).is_some() {
         return false;
@@ -178,7 +201,9 @@ fn own_or_nearer<F, U: Update>(
     key: &[u8],
     lent: Option<(Location<F>, U)>,
 ) -> Result<Option<(Location<F>, U)>, Error>
-    ensures value { IfOk result (λ found. option_map (read_view U.view) found ≡ own_or_nearer (map (λ l. l.value) layers.now) key.now (option_map (read_view U.view) lent)) }
+    ensures value { IfOk result (λ found. option_map (read_view U.view) found
+        ≡ own_or_nearer (map (λ l. l.value) layers.now) key.now
+        (option_map (read_view U.view) lent)) }
     ensures memory { IfErr result (λ e. e ≡ Error.Memory) }
 {
     match lent {

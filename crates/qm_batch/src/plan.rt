@@ -88,7 +88,9 @@ fn stood<F, U: Update>(touches: &[Touch<F, U>]) -> usize
 
 // How many of the operations are updates.
 fn updated<F, U: Update>(touches: &[Touch<F, U>]) -> usize
-    ensures count { result ≡ count_by (λ t. parts.is_update (operation_view U.view U.Key.bytes U.Value.bytes t.operation)) touches.now }
+    ensures count { result
+        ≡ count_by (λ t.
+        parts.is_update (operation_view U.view U.Key.bytes U.Value.bytes t.operation)) touches.now }
     ensures bound { result ≤ length touches.now }
 {
     let mut count = 0;
@@ -103,7 +105,9 @@ fn updated<F, U: Update>(touches: &[Touch<F, U>]) -> usize
 // How many keys are live behind the operations of writes, where so many were live before them.
 fn live_behind<F, U: Update>(touches: &[Touch<F, U>], live: u64) -> u64
     requires { live ≤ 2 ^ 62 }
-    ensures value { result ≡ live - count_by (λ t. is_some t.before) touches.now + count_by (λ t. parts.is_update (operation_view U.view U.Key.bytes U.Value.bytes t.operation)) touches.now }
+    ensures value { result
+        ≡ live - count_by (λ t. is_some t.before) touches.now + count_by (λ t.
+        parts.is_update (operation_view U.view U.Key.bytes U.Value.bytes t.operation)) touches.now }
     ensures bound { result ≤ live + length touches.now }
 {
     live.saturating_sub(stood(touches) as u64) + updated(touches) as u64
@@ -129,19 +133,31 @@ fn own_of<F, I: qm_index::Unordered<Value = Location<F>>, L: Items, U: Steps<F, 
     behind: u64,
 ) -> Result<Own<F, U>, Error>
     requires { base.now.size ≤ 2 ^ 62 }
-    ensures touches { (lent list : List model.Operation) (ws : List writes.Write) → IsLent L.reads U.form I.index_key (I.entries index.now) log.old lent
-        → IsBase (base_view base.now) lent list → AreWritten (kind_of U.form) list ws (touch_views U.view U.Key.bytes U.Value.bytes made.items) → HasRing U.form lent → HasRing U.form list
-        → All (IsDecided list (list ++ (kind_of U.form).writes list ws)) (decided_views U.Key.bytes U.Value.bytes walked.decided.items)
-        → IsDistinct bytes_eq (map (λ d. d.key) (map write_for (decided_views U.Key.bytes U.Value.bytes walked.decided.items)))
-        → IfSome (L.reads.told log.old) (λ _. IfOk result (λ own. touch_views U.view U.Key.bytes U.Value.bytes own.touches.items ≡ touch_views U.view U.Key.bytes U.Value.bytes made.items
-        ++ map (touch_in list) ((kind_of U.form).moves (list ++ (kind_of U.form).writes list ws) (map write_for (decided_views U.Key.bytes U.Value.bytes walked.decided.items))))) }
+    ensures touches { (lent list : List model.Operation) (ws : List writes.Write)
+        → IsLent L.reads U.form I.index_key (I.entries index.now) log.old lent
+        → IsBase (base_view base.now) lent list
+        → AreWritten (kind_of U.form) list ws
+        (touch_views U.view U.Key.bytes U.Value.bytes made.items) → HasRing U.form lent
+        → HasRing U.form list
+        → All (IsDecided list (list ++ (kind_of U.form).writes list ws))
+        (decided_views U.Key.bytes U.Value.bytes walked.decided.items)
+        → IsDistinct bytes_eq (map (λ d. d.key)
+        (map write_for (decided_views U.Key.bytes U.Value.bytes walked.decided.items)))
+        → IfSome (L.reads.told log.old) (λ _.
+        IfOk result (λ own. touch_views U.view U.Key.bytes U.Value.bytes own.touches.items
+        ≡ touch_views U.view U.Key.bytes U.Value.bytes made.items
+        ++ map (touch_in list) ((kind_of U.form).moves (list ++ (kind_of U.form).writes list ws)
+        (map write_for (decided_views U.Key.bytes U.Value.bytes walked.decided.items))))) }
     ensures moves { IfOk result (λ _. CountsMoves (kind_of U.form).moves) }
-    ensures live { IfOk result (λ own. own.live ≡ behind - count_by (λ d. is_none d.value) walked.decided.items) }
+    ensures live { IfOk result (λ own.
+        own.live ≡ behind - count_by (λ d. is_none d.value) walked.decided.items) }
     ensures floor { IfOk result (λ own. own.floor ≡ walked.floor) }
     ensures count { IfOk result (λ own. length made.items ≤ length own.touches.items) }
     ensures read { IsRead L.reads log.old log.new }
     ensures error { IfErr result (IsReadError L.reads log.old log.new) }
-    ensures whole { (lent : List model.Operation) → IsLent L.reads U.form I.index_key (I.entries index.now) log.old lent → NoneBelow (L.reads.start log.old) lent
+    ensures whole { (lent : List model.Operation)
+        → IsLent L.reads U.form I.index_key (I.entries index.now) log.old lent
+        → NoneBelow (L.reads.start log.old) lent
         → IfErr result (λ e. (n : ℕ) → e ≢ Error.Journal (JournalError.ItemPruned n)) }
 {
     let Walked { decided, floor } = walked;
@@ -174,14 +190,22 @@ fn own_along<
 ) -> Result<Own<F, U>, Error>
     requires size { base.now.size ≤ 2 ^ 62 }
     requires live { base.now.live ≤ base.now.size }
-    ensures own { (lent list : List model.Operation) (ws : List writes.Write) → IsLent L.reads U.form I.index_key (I.entries index.now) log.old lent → B.activity candidates.now ≡ bits lent
-        → IsBase (base_view base.now) lent list → AreWritten (kind_of U.form) list ws (touch_views U.view U.Key.bytes U.Value.bytes made.items) → HasRing U.form lent → HasRing U.form list
-        → IfSome (L.reads.told log.old) (λ _. IfOk result (λ own. AreOwn (kind_of U.form) P.rules policy.old policy.new (touch_views U.view U.Key.bytes U.Value.bytes own.touches.items) own.live own.floor list ws)) }
+    ensures own { (lent list : List model.Operation) (ws : List writes.Write)
+        → IsLent L.reads U.form I.index_key (I.entries index.now) log.old lent
+        → B.activity candidates.now ≡ bits lent → IsBase (base_view base.now) lent list
+        → AreWritten (kind_of U.form) list ws
+        (touch_views U.view U.Key.bytes U.Value.bytes made.items) → HasRing U.form lent
+        → HasRing U.form list
+        → IfSome (L.reads.told log.old) (λ _. IfOk result (λ own. AreOwn (kind_of U.form) P.rules
+        policy.old policy.new (touch_views U.view U.Key.bytes U.Value.bytes own.touches.items)
+        own.live own.floor list ws)) }
     ensures count { IfOk result (λ own. own.live ≤ base.now.size + length own.touches.items) }
     ensures read { IsRead L.reads log.old log.new }
     ensures error { IfErr result (IsReadError L.reads log.old log.new) }
-    ensures whole { (lent : List model.Operation) → IsLent L.reads U.form I.index_key (I.entries index.now) log.old lent → NoneBelow (L.reads.start log.old) lent
-        → L.reads.start log.old ≤ base.now.floor → IfErr result (λ e. (n : ℕ) → e ≢ Error.Journal (JournalError.ItemPruned n)) }
+    ensures whole { (lent : List model.Operation)
+        → IsLent L.reads U.form I.index_key (I.entries index.now) log.old lent
+        → NoneBelow (L.reads.start log.old) lent → L.reads.start log.old ≤ base.now.floor
+        → IfErr result (λ e. (n : ℕ) → e ≢ Error.Journal (JournalError.ItemPruned n)) }
 {
     let behind = live_behind(&made, base.live);
     let limits = policy.limits(made_inactive(&made, base.live, behind));
@@ -208,14 +232,21 @@ fn own_operations<
 ) -> Result<Own<F, U>, Error>
     requires size { base.now.size ≤ 2 ^ 62 }
     requires live { base.now.live ≤ base.now.size }
-    ensures own { (lent list : List model.Operation) → IsLent L.reads U.form I.index_key (I.entries index.now) log.old lent → B.activity candidates.now ≡ bits lent → IsBase (base_view base.now) lent list → HasRing U.form lent → HasRing U.form list
+    ensures own { (lent list : List model.Operation)
+        → IsLent L.reads U.form I.index_key (I.entries index.now) log.old lent
+        → B.activity candidates.now ≡ bits lent → IsBase (base_view base.now) lent list
+        → HasRing U.form lent → HasRing U.form list
         → AreReads U.view U.Key.bytes wanted.now.reads.now list
-        → IfSome (L.reads.told log.old) (λ _. IfOk result (λ own. AreOwn (kind_of U.form) P.rules policy.old policy.new (touch_views U.view U.Key.bytes U.Value.bytes own.touches.items) own.live own.floor list (wanted_view U.Key.bytes U.Value.bytes wanted.now))) }
+        → IfSome (L.reads.told log.old) (λ _. IfOk result (λ own. AreOwn (kind_of U.form) P.rules
+        policy.old policy.new (touch_views U.view U.Key.bytes U.Value.bytes own.touches.items)
+        own.live own.floor list (wanted_view U.Key.bytes U.Value.bytes wanted.now))) }
     ensures count { IfOk result (λ own. own.live ≤ base.now.size + length own.touches.items) }
     ensures read { IsRead L.reads log.old log.new }
     ensures error { IfErr result (IsReadError L.reads log.old log.new) }
-    ensures whole { (lent : List model.Operation) → IsLent L.reads U.form I.index_key (I.entries index.now) log.old lent → NoneBelow (L.reads.start log.old) lent
-        → L.reads.start log.old ≤ base.now.floor → IfErr result (λ e. (n : ℕ) → e ≢ Error.Journal (JournalError.ItemPruned n)) }
+    ensures whole { (lent : List model.Operation)
+        → IsLent L.reads U.form I.index_key (I.entries index.now) log.old lent
+        → NoneBelow (L.reads.start log.old) lent → L.reads.start log.old ≤ base.now.floor
+        → IfErr result (λ e. (n : ℕ) → e ≢ Error.Journal (JournalError.ItemPruned n)) }
 {
     let made = {
         let last = last_writes(alloc, wanted)?;
@@ -236,7 +267,8 @@ fn operations_in<F, U: Update>(
     alloc: Global,
     touches: Vec<Touch<F, U>>,
 ) -> Result<Vec<Operation<F, U>>, AllocError>
-    ensures operations { IfOk result (λ operations. operations.items ≡ map (λ t. t.operation) touches.items) }
+    ensures operations { IfOk result (λ operations.
+        operations.items ≡ map (λ t. t.operation) touches.items) }
     ensures room { IfOk result (λ operations. length operations.items < vec_capacity operations) }
 {
     let mut operations = Vec::with_capacity(alloc, touches.len() + 1)?;
@@ -256,9 +288,14 @@ fn planned<F, U: Update>(
     requires { size ≤ 2 ^ 62 }
     ensures count { IfOk result (λ plan. length plan.operations ≡ length own.touches.items + 1) }
     ensures live { IfOk result (λ plan. plan.live ≡ own.live) }
-    ensures plan { IfOk result (λ plan. (base : List model.Operation) → size ≡ length base → All (IsFrom base) (touch_views U.view U.Key.bytes U.Value.bytes own.touches.items)
-        → own.live ≡ length (lives.live (base ++ operations_of (touch_views U.view U.Key.bytes U.Value.bytes own.touches.items)))
-        → IsPlan plan base (committed (base ++ operations_of (touch_views U.view U.Key.bytes U.Value.bytes own.touches.items)) own.floor (option_map U.Value.bytes metadata))) }
+    ensures plan { IfOk result (λ plan. (base : List model.Operation) → size ≡ length base
+        → All (IsFrom base) (touch_views U.view U.Key.bytes U.Value.bytes own.touches.items)
+        → own.live
+        ≡ length (lives.live
+        (base ++ operations_of (touch_views U.view U.Key.bytes U.Value.bytes own.touches.items)))
+        → IsPlan plan base (committed
+        (base ++ operations_of (touch_views U.view U.Key.bytes U.Value.bytes own.touches.items))
+        own.floor (option_map U.Value.bytes metadata))) }
     ensures memory { IfErr result (λ e. e ≡ Error.Memory) }
 {
     let diff = diff_of_touches(alloc, size, &own.touches)?;
@@ -297,15 +334,27 @@ pub fn plain<
 ) -> Result<Plan<F, U>, Error>
     requires size { base.now.size ≤ 2 ^ 62 }
     requires live { base.now.live ≤ base.now.size }
-    ensures plan { (lent list : List model.Operation) → IsLent L.reads U.form I.index_key (I.entries index.now) log.old lent → B.activity candidates.now ≡ bits lent → IsBase (base_view base.now) lent list → HasRing U.form lent → HasRing U.form list
-        → IfSome (L.reads.told log.old) (λ _. IfOk result (λ plan. IsPlan plan list (step (kind_of U.form) P.rules list (map (write_view U.Key.bytes U.Value.bytes) writes.now) policy.old (option_map U.Value.bytes metadata)))) }
-    ensures next { (lent list : List model.Operation) → IsLent L.reads U.form I.index_key (I.entries index.now) log.old lent → B.activity candidates.now ≡ bits lent → IsBase (base_view base.now) lent list → HasRing U.form lent → HasRing U.form list
-        → IfSome (L.reads.told log.old) (λ _. IfOk result (λ _. policy.new ≡ policy_after (kind_of U.form) P.rules list (map (write_view U.Key.bytes U.Value.bytes) writes.now) policy.old)) }
+    ensures plan { (lent list : List model.Operation)
+        → IsLent L.reads U.form I.index_key (I.entries index.now) log.old lent
+        → B.activity candidates.now ≡ bits lent → IsBase (base_view base.now) lent list
+        → HasRing U.form lent → HasRing U.form list
+        → IfSome (L.reads.told log.old) (λ _. IfOk result (λ plan. IsPlan plan list
+        (step (kind_of U.form) P.rules list (map (write_view U.Key.bytes U.Value.bytes) writes.now)
+        policy.old (option_map U.Value.bytes metadata)))) }
+    ensures next { (lent list : List model.Operation)
+        → IsLent L.reads U.form I.index_key (I.entries index.now) log.old lent
+        → B.activity candidates.now ≡ bits lent → IsBase (base_view base.now) lent list
+        → HasRing U.form lent → HasRing U.form list
+        → IfSome (L.reads.told log.old) (λ _. IfOk result (λ _. policy.new
+        ≡ policy_after (kind_of U.form) P.rules list
+        (map (write_view U.Key.bytes U.Value.bytes) writes.now) policy.old)) }
     ensures live { IfOk result (λ plan. plan.live ≤ base.now.size + length plan.operations) }
     ensures read { IsRead L.reads log.old log.new }
     ensures error { IfErr result (IsReadError L.reads log.old log.new) }
-    ensures whole { (lent : List model.Operation) → IsLent L.reads U.form I.index_key (I.entries index.now) log.old lent → NoneBelow (L.reads.start log.old) lent
-        → L.reads.start log.old ≤ base.now.floor → IfErr result (λ e. (n : ℕ) → e ≢ Error.Journal (JournalError.ItemPruned n)) }
+    ensures whole { (lent : List model.Operation)
+        → IsLent L.reads U.form I.index_key (I.entries index.now) log.old lent
+        → NoneBelow (L.reads.start log.old) lent → L.reads.start log.old ≤ base.now.floor
+        → IfErr result (λ e. (n : ℕ) → e ≢ Error.Journal (JournalError.ItemPruned n)) }
 {
     let wanted = Wanted {
         writes,
@@ -341,17 +390,29 @@ pub fn staged<
     requires size { base.now.size ≤ 2 ^ 62 }
     requires live { base.now.live ≤ base.now.size }
     requires slots { length wanted.slots.now ≡ length wanted.reads.now }
-    ensures plan { (lent list : List model.Operation) → IsLent L.reads U.form I.index_key (I.entries index.now) log.old lent → B.activity candidates.now ≡ bits lent → IsBase (base_view base.now) lent list → HasRing U.form lent → HasRing U.form list
+    ensures plan { (lent list : List model.Operation)
+        → IsLent L.reads U.form I.index_key (I.entries index.now) log.old lent
+        → B.activity candidates.now ≡ bits lent → IsBase (base_view base.now) lent list
+        → HasRing U.form lent → HasRing U.form list
         → AreReads U.view U.Key.bytes wanted.entry.reads.now list
-        → IfSome (L.reads.told log.old) (λ _. IfOk result (λ plan. IsPlan plan list (step (kind_of U.form) P.rules list (wanted_view U.Key.bytes U.Value.bytes wanted.entry) policy.old (option_map U.Value.bytes metadata)))) }
-    ensures next { (lent list : List model.Operation) → IsLent L.reads U.form I.index_key (I.entries index.now) log.old lent → B.activity candidates.now ≡ bits lent → IsBase (base_view base.now) lent list → HasRing U.form lent → HasRing U.form list
+        → IfSome (L.reads.told log.old) (λ _. IfOk result (λ plan. IsPlan plan list
+        (step (kind_of U.form) P.rules list (wanted_view U.Key.bytes U.Value.bytes wanted.entry)
+        policy.old (option_map U.Value.bytes metadata)))) }
+    ensures next { (lent list : List model.Operation)
+        → IsLent L.reads U.form I.index_key (I.entries index.now) log.old lent
+        → B.activity candidates.now ≡ bits lent → IsBase (base_view base.now) lent list
+        → HasRing U.form lent → HasRing U.form list
         → AreReads U.view U.Key.bytes wanted.entry.reads.now list
-        → IfSome (L.reads.told log.old) (λ _. IfOk result (λ _. policy.new ≡ policy_after (kind_of U.form) P.rules list (wanted_view U.Key.bytes U.Value.bytes wanted.entry) policy.old)) }
+        → IfSome (L.reads.told log.old) (λ _. IfOk result (λ _. policy.new
+        ≡ policy_after (kind_of U.form) P.rules list
+        (wanted_view U.Key.bytes U.Value.bytes wanted.entry) policy.old)) }
     ensures live { IfOk result (λ plan. plan.live ≤ base.now.size + length plan.operations) }
     ensures read { IsRead L.reads log.old log.new }
     ensures error { IfErr result (IsReadError L.reads log.old log.new) }
-    ensures whole { (lent : List model.Operation) → IsLent L.reads U.form I.index_key (I.entries index.now) log.old lent → NoneBelow (L.reads.start log.old) lent
-        → L.reads.start log.old ≤ base.now.floor → IfErr result (λ e. (n : ℕ) → e ≢ Error.Journal (JournalError.ItemPruned n)) }
+    ensures whole { (lent : List model.Operation)
+        → IsLent L.reads U.form I.index_key (I.entries index.now) log.old lent
+        → NoneBelow (L.reads.start log.old) lent → L.reads.start log.old ≤ base.now.floor
+        → IfErr result (λ e. (n : ℕ) → e ≢ Error.Journal (JournalError.ItemPruned n)) }
 {
     match own_operations(alloc, index, candidates, log, base, &wanted, policy) {
         Ok(own) => planned(alloc, base.size, own, metadata),

@@ -59,7 +59,14 @@ impl<U: Update> Model for Scan<U> {
 impl<U: Update> Scan<U> {
     /// A scan of a range, of which nothing is read yet.
     pub fn new(alloc: Global, low: Bound<U::Key>, high: Bound<U::Key>) -> Self
-        ensures { result ≡ record { low = limit_of U.Key.bytes low; high = limit_of U.Key.bytes high; place = beginning; ready = [] } }
+        ensures { result
+            ≡ record {
+              low = limit_of U.Key.bytes low;
+              high = limit_of U.Key.bytes high;
+              place =
+                  beginning;
+              ready = [];
+            } }
     {
         Scan {
             low,
@@ -81,11 +88,17 @@ impl<U: Update> Scan<U> {
     where
         U: Steps<F, I>,
         requires { U.form.ordered ≡ true }
-        ensures value { (list : List Operation) → IsLent L.reads U.form I.index_key (I.entries index.now) log.old list → IfSome (L.reads.told log.old) (λ _. IsStep (pair_view U.Key.bytes U.Value.bytes) (left_of I.index_key self.old list) (left_of I.index_key self.new list) result) }
+        ensures value { (list : List Operation)
+            → IsLent L.reads U.form I.index_key (I.entries index.now) log.old list
+            → IfSome (L.reads.told log.old) (λ _. IsStep (pair_view U.Key.bytes U.Value.bytes)
+            (left_of I.index_key self.old list) (left_of I.index_key self.new list) result) }
         ensures read { IsRead L.reads log.old log.new }
         ensures error { IfSome result (λ r. IfErr r (IsReadError L.reads log.old log.new)) }
-        ensures whole { (list : List Operation) → IsLent L.reads U.form I.index_key (I.entries index.now) log.old list → NoneBelow (L.reads.start log.old) list
-            → IfSome result (λ r. IfErr r (λ e. (n : ℕ) → e ≢ Error.Journal (JournalError.ItemPruned n))) }
+        ensures whole { (list : List Operation)
+            → IsLent L.reads U.form I.index_key (I.entries index.now) log.old list
+            → NoneBelow (L.reads.start log.old) list
+            → IfSome result (λ r.
+            IfErr r (λ e. (n : ℕ) → e ≢ Error.Journal (JournalError.ItemPruned n))) }
     {
         if let Some(pair) = self.take() {
             return Some(Ok(pair));
@@ -111,11 +124,17 @@ impl<U: Update> Scan<U> {
         requires ordered { U.form.ordered ≡ true }
         requires begun { self.old.place ≢ beginning }
         requires empty { self.old.ready ≡ [] }
-        ensures value { (list : List Operation) → IsLent L.reads U.form I.index_key (I.entries index.now) log.old list → IfSome (L.reads.told log.old) (λ _. IsStep (pair_view U.Key.bytes U.Value.bytes) (left_of I.index_key self.old list) (left_of I.index_key self.new list) result) }
+        ensures value { (list : List Operation)
+            → IsLent L.reads U.form I.index_key (I.entries index.now) log.old list
+            → IfSome (L.reads.told log.old) (λ _. IsStep (pair_view U.Key.bytes U.Value.bytes)
+            (left_of I.index_key self.old list) (left_of I.index_key self.new list) result) }
         ensures read { IsRead L.reads log.old log.new }
         ensures error { IfSome result (λ r. IfErr r (IsReadError L.reads log.old log.new)) }
-        ensures whole { (list : List Operation) → IsLent L.reads U.form I.index_key (I.entries index.now) log.old list → NoneBelow (L.reads.start log.old) list
-            → IfSome result (λ r. IfErr r (λ e. (n : ℕ) → e ≢ Error.Journal (JournalError.ItemPruned n))) }
+        ensures whole { (list : List Operation)
+            → IsLent L.reads U.form I.index_key (I.entries index.now) log.old list
+            → NoneBelow (L.reads.start log.old) list
+            → IfSome result (λ r.
+            IfErr r (λ e. (n : ℕ) → e ≢ Error.Journal (JournalError.ItemPruned n))) }
     {
         match self.read_on(alloc, index, log) {
             Ok(()) => match self.take() {
@@ -144,12 +163,21 @@ impl<U: Update> Scan<U> {
         U: Steps<F, I>,
         requires ordered { U.form.ordered ≡ true }
         requires empty { self.old.ready ≡ [] }
-        ensures value { (list : List Operation) → IsLent L.reads U.form I.index_key (I.entries index.now) log.old list → IfSome (L.reads.told log.old) (λ _. left_of I.index_key self.new list ≡ left_of I.index_key self.old list) }
-        ensures over { (list : List Operation) → IsLent L.reads U.form I.index_key (I.entries index.now) log.old list → IfSome (L.reads.told log.old) (λ _. OnOk result (self.old.place ≢ beginning → self.new.ready ≡ [] → left_of I.index_key self.new list ≡ [])) }
+        ensures value { (list : List Operation)
+            → IsLent L.reads U.form I.index_key (I.entries index.now) log.old list
+            → IfSome (L.reads.told log.old) (λ _.
+            left_of I.index_key self.new list ≡ left_of I.index_key self.old list) }
+        ensures over { (list : List Operation)
+            → IsLent L.reads U.form I.index_key (I.entries index.now) log.old list
+            → IfSome (L.reads.told log.old) (λ _.
+            OnOk result (self.old.place ≢ beginning → self.new.ready ≡ []
+            → left_of I.index_key self.new list ≡ [])) }
         ensures begun { OnOk result (self.new.place ≢ beginning) }
         ensures read { IsRead L.reads log.old log.new }
         ensures error { IfErr result (IsReadError L.reads log.old log.new) }
-        ensures whole { (list : List Operation) → IsLent L.reads U.form I.index_key (I.entries index.now) log.old list → NoneBelow (L.reads.start log.old) list
+        ensures whole { (list : List Operation)
+            → IsLent L.reads U.form I.index_key (I.entries index.now) log.old list
+            → NoneBelow (L.reads.start log.old) list
             → IfErr result (λ e. (n : ℕ) → e ≢ Error.Journal (JournalError.ItemPruned n)) }
     {
         let found: Found<U> = read_at(alloc, index, log, &self.place, &self.low, &self.high)?;
@@ -169,12 +197,22 @@ fn read_at<F, I: qm_index::Unordered<Value = Location<F>>, L: Items, U: Steps<F,
     high: &Bound<U::Key>,
 ) -> Result<Found<U>, Error>
     requires { U.form.ordered ≡ true }
-    ensures value { (list : List Operation) → IsLent L.reads U.form I.index_key (I.entries index.now) log.old list → IfSome (L.reads.told log.old) (λ _. IfOk result (λ found. AreNext I.index_key (limit_of U.Key.bytes low.now) (limit_of U.Key.bytes high.now) list (place_view U.Key.bytes place.now) (map (pair_view U.Key.bytes U.Value.bytes) found.pairs.items) (place_view U.Key.bytes found.place))) }
-    ensures over { IfOk result (λ found. place_view U.Key.bytes place.now ≢ beginning → map (pair_view U.Key.bytes U.Value.bytes) found.pairs.items ≡ [] → place_view U.Key.bytes found.place ≡ nowhere) }
+    ensures value { (list : List Operation)
+        → IsLent L.reads U.form I.index_key (I.entries index.now) log.old list
+        → IfSome (L.reads.told log.old) (λ _.
+        IfOk result (λ found. AreNext I.index_key (limit_of U.Key.bytes low.now)
+        (limit_of U.Key.bytes high.now) list (place_view U.Key.bytes place.now)
+        (map (pair_view U.Key.bytes U.Value.bytes) found.pairs.items)
+        (place_view U.Key.bytes found.place))) }
+    ensures over { IfOk result (λ found. place_view U.Key.bytes place.now ≢ beginning
+        → map (pair_view U.Key.bytes U.Value.bytes) found.pairs.items ≡ []
+        → place_view U.Key.bytes found.place ≡ nowhere) }
     ensures begun { IfOk result (λ found. place_view U.Key.bytes found.place ≢ beginning) }
     ensures read { IsRead L.reads log.old log.new }
     ensures error { IfErr result (IsReadError L.reads log.old log.new) }
-    ensures whole { (list : List Operation) → IsLent L.reads U.form I.index_key (I.entries index.now) log.old list → NoneBelow (L.reads.start log.old) list
+    ensures whole { (list : List Operation)
+        → IsLent L.reads U.form I.index_key (I.entries index.now) log.old list
+        → NoneBelow (L.reads.start log.old) list
         → IfErr result (λ e. (n : ℕ) → e ≢ Error.Journal (JournalError.ItemPruned n)) }
 {
     match place {
@@ -193,11 +231,18 @@ fn read_beginning<F, I: qm_index::Unordered<Value = Location<F>>, L: Items, U: S
     high: &Bound<U::Key>,
 ) -> Result<Found<U>, Error>
     requires { U.form.ordered ≡ true }
-    ensures value { (list : List Operation) → IsLent L.reads U.form I.index_key (I.entries index.now) log.old list → IfSome (L.reads.told log.old) (λ _. IfOk result (λ found. AreNext I.index_key (limit_of U.Key.bytes low.now) (limit_of U.Key.bytes high.now) list beginning (map (pair_view U.Key.bytes U.Value.bytes) found.pairs.items) (place_view U.Key.bytes found.place))) }
+    ensures value { (list : List Operation)
+        → IsLent L.reads U.form I.index_key (I.entries index.now) log.old list
+        → IfSome (L.reads.told log.old) (λ _. IfOk result (λ found.
+        AreNext I.index_key (limit_of U.Key.bytes low.now) (limit_of U.Key.bytes high.now) list
+        beginning (map (pair_view U.Key.bytes U.Value.bytes) found.pairs.items)
+        (place_view U.Key.bytes found.place))) }
     ensures begun { IfOk result (λ found. place_view U.Key.bytes found.place ≢ beginning) }
     ensures read { IsRead L.reads log.old log.new }
     ensures error { IfErr result (IsReadError L.reads log.old log.new) }
-    ensures whole { (list : List Operation) → IsLent L.reads U.form I.index_key (I.entries index.now) log.old list → NoneBelow (L.reads.start log.old) list
+    ensures whole { (list : List Operation)
+        → IsLent L.reads U.form I.index_key (I.entries index.now) log.old list
+        → NoneBelow (L.reads.start log.old) list
         → IfErr result (λ e. (n : ℕ) → e ≢ Error.Journal (JournalError.ItemPruned n)) }
 {
     match low {
@@ -218,12 +263,19 @@ fn read_own<F, I: qm_index::Unordered<Value = Location<F>>, L: Items, U: Steps<F
     high: Bound<&[u8]>,
 ) -> Result<Found<U>, Error>
     requires { U.form.ordered ≡ true }
-    ensures value { (list : List Operation) → IsLent L.reads U.form I.index_key (I.entries index.now) log.old list → BeginsAt (U.Key.bytes key.now) (limit_view low.entry)
-        → IfSome (L.reads.told log.old) (λ _. IfOk result (λ found. AreNext I.index_key (limit_view low.entry) (limit_view high.entry) list beginning (map (pair_view U.Key.bytes U.Value.bytes) found.pairs.items) (place_view U.Key.bytes found.place))) }
+    ensures value { (list : List Operation)
+        → IsLent L.reads U.form I.index_key (I.entries index.now) log.old list
+        → BeginsAt (U.Key.bytes key.now) (limit_view low.entry)
+        → IfSome (L.reads.told log.old) (λ _.
+        IfOk result (λ found. AreNext I.index_key (limit_view low.entry) (limit_view high.entry)
+        list beginning (map (pair_view U.Key.bytes U.Value.bytes) found.pairs.items)
+        (place_view U.Key.bytes found.place))) }
     ensures begun { IfOk result (λ found. place_view U.Key.bytes found.place ≢ beginning) }
     ensures read { IsRead L.reads log.old log.new }
     ensures error { IfErr result (IsReadError L.reads log.old log.new) }
-    ensures whole { (list : List Operation) → IsLent L.reads U.form I.index_key (I.entries index.now) log.old list → NoneBelow (L.reads.start log.old) list
+    ensures whole { (list : List Operation)
+        → IsLent L.reads U.form I.index_key (I.entries index.now) log.old list
+        → NoneBelow (L.reads.start log.old) list
         → IfErr result (λ e. (n : ℕ) → e ≢ Error.Journal (JournalError.ItemPruned n)) }
 {
     let pairs = pairs_at::<F, L, U>(alloc, log, index.bucket(key.as_bytes()), low, high)?;
@@ -242,11 +294,18 @@ fn read_first<F, I: qm_index::Unordered<Value = Location<F>>, L: Items, U: Steps
     high: Bound<&[u8]>,
 ) -> Result<Found<U>, Error>
     requires { U.form.ordered ≡ true }
-    ensures value { (list : List Operation) → IsLent L.reads U.form I.index_key (I.entries index.now) log.old list → IfSome (L.reads.told log.old) (λ _. IfOk result (λ found. AreNext I.index_key unlimited (limit_view high.entry) list beginning (map (pair_view U.Key.bytes U.Value.bytes) found.pairs.items) (place_view U.Key.bytes found.place))) }
+    ensures value { (list : List Operation)
+        → IsLent L.reads U.form I.index_key (I.entries index.now) log.old list
+        → IfSome (L.reads.told log.old) (λ _.
+        IfOk result (λ found. AreNext I.index_key unlimited (limit_view high.entry) list beginning
+        (map (pair_view U.Key.bytes U.Value.bytes) found.pairs.items)
+        (place_view U.Key.bytes found.place))) }
     ensures begun { IfOk result (λ found. place_view U.Key.bytes found.place ≢ beginning) }
     ensures read { IsRead L.reads log.old log.new }
     ensures error { IfErr result (IsReadError L.reads log.old log.new) }
-    ensures whole { (list : List Operation) → IsLent L.reads U.form I.index_key (I.entries index.now) log.old list → NoneBelow (L.reads.start log.old) list
+    ensures whole { (list : List Operation)
+        → IsLent L.reads U.form I.index_key (I.entries index.now) log.old list
+        → NoneBelow (L.reads.start log.old) list
         → IfErr result (λ e. (n : ℕ) → e ≢ Error.Journal (JournalError.ItemPruned n)) }
 {
     match U::first_bucket(index) {
@@ -264,12 +323,21 @@ fn read_next<F, I: qm_index::Unordered<Value = Location<F>>, L: Items, U: Steps<
     high: &Bound<U::Key>,
 ) -> Result<Found<U>, Error>
     requires { U.form.ordered ≡ true }
-    ensures value { (list : List Operation) (low : Limit) → IsLent L.reads U.form I.index_key (I.entries index.now) log.old list → IfSome (L.reads.told log.old) (λ _. IfOk result (λ found. AreNext I.index_key low (limit_of U.Key.bytes high.now) list (behind (U.Key.bytes key.now)) (map (pair_view U.Key.bytes U.Value.bytes) found.pairs.items) (place_view U.Key.bytes found.place))) }
-    ensures over { IfOk result (λ found. map (pair_view U.Key.bytes U.Value.bytes) found.pairs.items ≡ [] → place_view U.Key.bytes found.place ≡ nowhere) }
+    ensures value { (list : List Operation) (low : Limit)
+        → IsLent L.reads U.form I.index_key (I.entries index.now) log.old list
+        → IfSome (L.reads.told log.old) (λ _.
+        IfOk result (λ found. AreNext I.index_key low (limit_of U.Key.bytes high.now) list
+        (behind (U.Key.bytes key.now)) (map (pair_view U.Key.bytes U.Value.bytes) found.pairs.items)
+        (place_view U.Key.bytes found.place))) }
+    ensures over { IfOk result (λ found.
+        map (pair_view U.Key.bytes U.Value.bytes) found.pairs.items ≡ []
+        → place_view U.Key.bytes found.place ≡ nowhere) }
     ensures begun { IfOk result (λ found. place_view U.Key.bytes found.place ≢ beginning) }
     ensures read { IsRead L.reads log.old log.new }
     ensures error { IfErr result (IsReadError L.reads log.old log.new) }
-    ensures whole { (list : List Operation) → IsLent L.reads U.form I.index_key (I.entries index.now) log.old list → NoneBelow (L.reads.start log.old) list
+    ensures whole { (list : List Operation)
+        → IsLent L.reads U.form I.index_key (I.entries index.now) log.old list
+        → NoneBelow (L.reads.start log.old) list
         → IfErr result (λ e. (n : ℕ) → e ≢ Error.Journal (JournalError.ItemPruned n)) }
 {
     match unwrapped(U::bucket_behind(index, key.as_bytes())) {
@@ -280,7 +348,8 @@ fn read_next<F, I: qm_index::Unordered<Value = Location<F>>, L: Items, U: Steps<
 
 // The bucket behind a key's, unless the way there goes round.
 fn unwrapped<F>(found: Option<(&[Location<F>], bool)>) -> Option<&[Location<F>]>
-    ensures { option_map (λ b. b.now) result ≡ unwrapped (option_map (λ b. (b.0.now, b.1)) found.entry) }
+    ensures { option_map (λ b. b.now) result
+        ≡ unwrapped (option_map (λ b. (b.0.now, b.1)) found.entry) }
 {
     match found {
         Some((_, true)) => None,
@@ -296,12 +365,17 @@ fn read_bucket<F, L: Items, U: Update>(
     locations: &[Location<F>],
     high: Bound<&[u8]>,
 ) -> Result<Found<U>, Error>
-    ensures value { (list : List Operation) → L.reads.logged log.old (map (spelling U.form) list) → All (IsOf U.form) list
-        → IfSome (L.reads.told log.old) (λ _. IfOk result (λ found. map (pair_view U.Key.bytes U.Value.bytes) found.pairs.items ≡ fold (put_at unlimited (limit_view high.entry) list) [] locations.now)) }
-    ensures place { IfOk result (λ found. place_view U.Key.bytes found.place ≡ behind_first (map (pair_view U.Key.bytes U.Value.bytes) found.pairs.items)) }
+    ensures value { (list : List Operation) → L.reads.logged log.old (map (spelling U.form) list)
+        → All (IsOf U.form) list
+        → IfSome (L.reads.told log.old) (λ _.
+        IfOk result (λ found. map (pair_view U.Key.bytes U.Value.bytes) found.pairs.items
+        ≡ fold (put_at unlimited (limit_view high.entry) list) [] locations.now)) }
+    ensures place { IfOk result (λ found. place_view U.Key.bytes found.place
+        ≡ behind_first (map (pair_view U.Key.bytes U.Value.bytes) found.pairs.items)) }
     ensures read { IsRead L.reads log.old log.new }
     ensures error { IfErr result (IsReadError L.reads log.old log.new) }
-    ensures pruned { All (λ at. L.reads.start log.old ≤ at) locations.now → IfErr result (λ e. (n : ℕ) → e ≢ Error.Journal (JournalError.ItemPruned n)) }
+    ensures pruned { All (λ at. L.reads.start log.old ≤ at) locations.now
+        → IfErr result (λ e. (n : ℕ) → e ≢ Error.Journal (JournalError.ItemPruned n)) }
 {
     let pairs = pairs_at::<F, L, U>(alloc, log, locations, Bound::Unbounded, high)?;
     let place = behind(alloc, &pairs)?;
@@ -313,7 +387,8 @@ fn behind<K: ByteString, V: ByteString>(
     alloc: Global,
     pairs: &[(K, V)],
 ) -> Result<Place<K>, AllocError>
-    ensures { IfOk result (λ place. place_view K.bytes place ≡ behind_first (map (pair_view K.bytes V.bytes) pairs.now)) }
+    ensures { IfOk result (λ place.
+        place_view K.bytes place ≡ behind_first (map (pair_view K.bytes V.bytes) pairs.now)) }
 {
     match pairs.first() {
         Some((key, _)) => {

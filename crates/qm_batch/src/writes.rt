@@ -44,7 +44,8 @@ impl<K: ByteString, V: ByteString> Writes<K, V> {
     /// Puts a write behind the others: a value for the key, or its end. It takes one descent of the map of keys. Where
     /// memory lacks the writes are gone.
     pub fn push(self, key: K, value: Option<V>) -> Result<Writes<K, V>, AllocError>
-        ensures { IfOk result (λ writes. writes ≡ self ++ record { key = K.bytes key; value = option_map V.bytes value } ∷ []) }
+        ensures { IfOk result (λ writes.
+            writes ≡ self ++ record { key = K.bytes key; value = option_map V.bytes value } ∷ []) }
     {
         let Writes {
             mut list,
@@ -65,7 +66,8 @@ impl<K: ByteString, V: ByteString> Writes<K, V> {
 
     /// The last write of a key. It takes one descent of the map of keys.
     pub fn last(&self, key: &[u8]) -> Option<&Write<K, V>>
-        ensures { option_map (λ w. write_view K.bytes V.bytes w.now) result ≡ write_of (last_writes self.now) key.now }
+        ensures { option_map (λ w. write_view K.bytes V.bytes w.now) result
+            ≡ write_of (last_writes self.now) key.now }
     {
         match self.places.get(key) {
             Some(place) => self.list.get(*place),

@@ -112,7 +112,8 @@ impl BitMap {
         count: usize,
     ) -> Result<Vec<u8>, AllocError>
         requires { first + count ≤ 2 ^ 60 }
-        ensures { IfOk result (λ bytes. bytes.items ≡ packed (8 * count) (drop (64 * first) self.now)) }
+        ensures { IfOk result (λ bytes.
+            bytes.items ≡ packed (8 * count) (drop (64 * first) self.now)) }
     {
         words::bytes(alloc, &self.words, first, count)
     }

@@ -18,7 +18,8 @@ pub trait Candidates<F> {
     fn next_candidate(&self, from: u64, tip: u64) -> u64
         requires { from ≤ tip }
         ensures between { (from ≤ result) × (result ≤ tip) }
-        ensures clear { (i : ℕ) → from ≤ i → i < result → is_candidate (activity self.now) i ≡ false }
+        ensures clear { (i : ℕ) → from ≤ i → i < result
+            → is_candidate (activity self.now) i ≡ false }
         ensures found { result < tip → is_candidate (activity self.now) result ≡ true };
 
     /// Puts the locations from `floor` on, up to and without `tip`, behind the others in order, until these are `limit`: of those that have a bit the set ones, of the later ones each. It answers where to go on: at the tip, or where `limit` was met. Want of memory is the only error; what was put there until then stays.
@@ -29,10 +30,14 @@ pub trait Candidates<F> {
         limit: usize,
         out: &mut Vec<Location<F>>,
     ) -> Result<Location<F>, AllocError>
-        ensures ok { IfOk result (λ next. IsFilled (activity self.now) floor tip limit out.old.items out.new.items next) }
-        ensures rest { IfOk result (λ next. candidates (activity self.now) floor tip ≡ candidates (activity self.now) floor next ++ candidates (activity self.now) next tip) }
+        ensures ok { IfOk result (λ next.
+            IsFilled (activity self.now) floor tip limit out.old.items out.new.items next) }
+        ensures rest { IfOk result (λ next. candidates (activity self.now) floor tip
+            ≡ candidates (activity self.now) floor next
+            ++ candidates (activity self.now) next tip) }
         ensures whole { IfOk result (λ next. length out.new.items < limit → next ≡ max floor tip) }
-        ensures err { OnErr result ((next : ℕ) × IsFilled (activity self.now) floor tip limit out.old.items out.new.items next) }
+        ensures err { OnErr result ((next : ℕ)
+            × IsFilled (activity self.now) floor tip limit out.old.items out.new.items next) }
     {
         let tip = tip.get();
         let mut at = floor.get();

@@ -85,7 +85,12 @@ impl<N: Chunks> Prunable<N> {
     pub fn set_bit(&mut self, at: u64, value: bool)
         requires kept { start N.LEN self.old ≤ at }
         requires within { at < bit_count N.LEN self.old }
-        ensures { self.new ≡ record { pruned = self.old.pruned; kept = set self.old.kept (at - start N.LEN self.old) value } }
+        ensures { self.new
+            ≡ record {
+              pruned = self.old.pruned;
+              kept = set self.old.kept
+                  (at - start N.LEN self.old) value;
+            } }
     {
         let place = at - self.start();
         self.bits.set_bit(place, value);
@@ -95,7 +100,8 @@ impl<N: Chunks> Prunable<N> {
     pub fn mark(&mut self, at: u64)
         ensures pruned { self.new.pruned ≡ self.old.pruned }
         ensures count { bit_count N.LEN self.new ≡ bit_count N.LEN self.old }
-        ensures bits { start N.LEN self.old ≤ at → all_bits N.LEN self.new ≡ set (all_bits N.LEN self.old) at true }
+        ensures bits { start N.LEN self.old ≤ at
+            → all_bits N.LEN self.new ≡ set (all_bits N.LEN self.old) at true }
     {
         if self.is_kept(at) {
             self.set_bit(at, true);
@@ -115,8 +121,10 @@ impl<N: Chunks> Prunable<N> {
 
     // Whether the bit at a place is kept.
     fn is_kept(&self, at: u64) -> bool
-        ensures yes { result ≡ true → (start N.LEN self.now ≤ at) × (at < bit_count N.LEN self.now) }
-        ensures no { result ≡ false → (at < start N.LEN self.now) ⊎ (bit_count N.LEN self.now ≤ at) }
+        ensures yes { result ≡ true
+            → (start N.LEN self.now ≤ at) × (at < bit_count N.LEN self.now) }
+        ensures no { result ≡ false
+            → (at < start N.LEN self.now) ⊎ (bit_count N.LEN self.now ≤ at) }
     {
         self.start() <= at && at < self.len()
     }
@@ -124,7 +132,8 @@ impl<N: Chunks> Prunable<N> {
     /// Puts a bit behind the others. Want of memory is the only error, and leaves them as they were.
     pub fn push(&mut self, value: bool) -> Result<(), AllocError>
         requires { bit_count N.LEN self.old < 2 ^ 62 }
-        ensures ok { OnOk result (self.new ≡ record { pruned = self.old.pruned; kept = self.old.kept ++ value ∷ [] }) }
+        ensures ok { OnOk result
+            (self.new ≡ record { pruned = self.old.pruned; kept = self.old.kept ++ value ∷ [] }) }
         ensures err { OnErr result (self.new ≡ self.old) }
     {
         self.bits.push(value)
@@ -134,7 +143,12 @@ impl<N: Chunks> Prunable<N> {
     pub fn extend_to(&mut self, len: u64) -> Result<(), AllocError>
         requires not_below { bit_count N.LEN self.old ≤ len }
         requires bounded { len ≤ 2 ^ 62 }
-        ensures ok { OnOk result (self.new ≡ record { pruned = self.old.pruned; kept = self.old.kept ++ replicate (len - bit_count N.LEN self.old) false }) }
+        ensures ok { OnOk result (self.new
+            ≡ record {
+              pruned = self.old.pruned;
+              kept = self.old.kept
+                  ++ replicate (len - bit_count N.LEN self.old) false;
+            }) }
         ensures err { OnErr result (self.new ≡ self.old) }
     {
         let length = len - self.start();
@@ -144,7 +158,12 @@ impl<N: Chunks> Prunable<N> {
     /// Prunes the chunks that end at or before a place; those that are pruned already stay pruned. It takes no memory.
     pub fn prune_to_bit(&mut self, at: u64)
         requires { at ≤ bit_count N.LEN self.old }
-        ensures { self.new ≡ record { pruned = max self.old.pruned (at / (8 * N.LEN)); kept = drop ((at / (8 * N.LEN) - self.old.pruned) * (8 * N.LEN)) self.old.kept } }
+        ensures { self.new
+            ≡ record {
+              pruned = max self.old.pruned (at / (8 * N.LEN));
+              kept = drop
+                  ((at / (8 * N.LEN) - self.old.pruned) * (8 * N.LEN)) self.old.kept;
+            } }
     {
         let span = N::span();
         let chunks = (at / span) as usize;
@@ -159,7 +178,8 @@ impl<N: Chunks> Prunable<N> {
     pub(crate) fn next_candidate(&self, from: u64, tip: u64) -> u64
         requires { from ≤ tip }
         ensures between { (from ≤ result) × (result ≤ tip) }
-        ensures clear { (i : ℕ) → from ≤ i → i < result → is_candidate (all_bits N.LEN self.now) i ≡ false }
+        ensures clear { (i : ℕ) → from ≤ i → i < result
+            → is_candidate (all_bits N.LEN self.now) i ≡ false }
         ensures found { result < tip → is_candidate (all_bits N.LEN self.now) result ≡ true }
     {
         let start = self.start();

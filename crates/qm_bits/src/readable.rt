@@ -28,12 +28,16 @@ pub trait Readable<N: Chunks> {
     fn get_chunk(&self, alloc: Global, at: usize) -> Result<Vec<u8>, AllocError>
         requires not_pruned { (bitmap self.now).pruned ≤ at }
         requires complete { at < bit_count N.LEN (bitmap self.now) / (8 * N.LEN) }
-        ensures { IfOk result (λ bytes. bytes.items ≡ chunk N.LEN (all_bits N.LEN (bitmap self.now)) at) };
+        ensures { IfOk result (λ bytes.
+            bytes.items ≡ chunk N.LEN (all_bits N.LEN (bitmap self.now)) at) };
 
     /// The bytes of the chunk behind the complete ones, zeros behind its bits, and how many bits it has: none where the bits end with a chunk. Want of memory is the only error.
     fn last_chunk(&self, alloc: Global) -> Result<(Vec<u8>, u64), AllocError>
-        ensures bytes { IfOk result (λ last. last.0.items ≡ chunk N.LEN (all_bits N.LEN (bitmap self.now)) (bit_count N.LEN (bitmap self.now) / (8 * N.LEN))) }
-        ensures bits { IfOk result (λ last. last.1 ≡ bit_count N.LEN (bitmap self.now) % (8 * N.LEN)) };
+        ensures bytes { IfOk result (λ last. last.0.items
+            ≡ chunk N.LEN (all_bits N.LEN (bitmap self.now))
+            (bit_count N.LEN (bitmap self.now) / (8 * N.LEN))) }
+        ensures bits { IfOk result (λ last.
+            last.1 ≡ bit_count N.LEN (bitmap self.now) % (8 * N.LEN)) };
 }
 
 impl<N: Chunks> Readable<N> for Prunable<N> {
@@ -66,7 +70,8 @@ impl<N: Chunks> Readable<N> for Prunable<N> {
     }
 
     fn last_chunk(&self, alloc: Global) -> Result<(Vec<u8>, u64), AllocError>
-        ensures bytes { IfOk result (λ last. last.0.items ≡ chunk N.LEN (all_bits N.LEN self.now) (bit_count N.LEN self.now / (8 * N.LEN))) }
+        ensures bytes { IfOk result (λ last. last.0.items
+            ≡ chunk N.LEN (all_bits N.LEN self.now) (bit_count N.LEN self.now / (8 * N.LEN))) }
         ensures bits { IfOk result (λ last. last.1 ≡ bit_count N.LEN self.now % (8 * N.LEN)) }
     {
         let len = Prunable::len(self);

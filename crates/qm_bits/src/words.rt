@@ -96,7 +96,10 @@ pub(crate) fn bytes(
     count: usize,
 ) -> Result<Vec<u8>, AllocError>
     requires { first + count ≤ 2 ^ 60 }
-    ensures { IfOk result (λ bytes. (bits : List Bool) → ((i : ℕ) → i < 64 * count → slice_index_or bits i false ≡ is_set words.now (64 * first + i)) → bytes.items ≡ packed (8 * count) bits) }
+    ensures { IfOk result (λ bytes. (bits : List Bool)
+        → ((i : ℕ) → i < 64 * count
+        → slice_index_or bits i false ≡ is_set words.now (64 * first + i))
+        → bytes.items ≡ packed (8 * count) bits) }
 {
     let mut bytes = Vec::with_capacity(alloc, count * 8)?;
     for k in 0..count {

@@ -46,13 +46,22 @@ pub fn build_snapshot<
     requires empty { I.entries index.old ≡ [] }
     requires kept { log.old.tree.start ≤ floor }
     requires below { floor < log.old.tree.leaves }
-    ensures built { (ops : List model.Operation) → HasOperations C.Store F.shape H.Digest.bytes H.hash U.form log.old ops → NoneBelow floor ops
-        → IfSome (C.told log.old.store) (λ _. IfOk result (λ s. IsBuilt I.index_key (I.entries index.new) s.live s.activity floor ops)) }
-    ensures decodes { (ops : List model.Operation) → HasOperations C.Store F.shape H.Digest.bytes H.hash U.form log.old ops
-        → IfSome (C.told log.old.store) (λ _. IfErr result (λ e. e ≢ Error.DataCorrupted Corrupt.ItemDoesNotDecode)) }
-    ensures long { IfOk result (λ s. (floor + length s.activity ≡ log.old.tree.leaves) × (s.live ≤ length s.activity)) }
-    ensures decoded { IfSome (C.told log.old.store) (λ s. OnOk result (list_any is_none (items_within U.form s floor log.old.tree.leaves) ≡ false)) }
-    ensures corrupt { IfSome (C.told log.old.store) (λ s. IfErr result (λ e. e ≡ Error.DataCorrupted Corrupt.ItemDoesNotDecode → list_any is_none (items_within U.form s floor log.old.tree.leaves) ≡ true)) }
+    ensures built { (ops : List model.Operation)
+        → HasOperations C.Store F.shape H.Digest.bytes H.hash U.form log.old ops
+        → NoneBelow floor ops
+        → IfSome (C.told log.old.store) (λ _.
+        IfOk result (λ s. IsBuilt I.index_key (I.entries index.new) s.live s.activity floor ops)) }
+    ensures decodes { (ops : List model.Operation)
+        → HasOperations C.Store F.shape H.Digest.bytes H.hash U.form log.old ops
+        → IfSome (C.told log.old.store) (λ _.
+        IfErr result (λ e. e ≢ Error.DataCorrupted Corrupt.ItemDoesNotDecode)) }
+    ensures long { IfOk result (λ s.
+        (floor + length s.activity ≡ log.old.tree.leaves) × (s.live ≤ length s.activity)) }
+    ensures decoded { IfSome (C.told log.old.store) (λ s.
+        OnOk result (list_any is_none (items_within U.form s floor log.old.tree.leaves) ≡ false)) }
+    ensures corrupt { IfSome (C.told log.old.store) (λ s.
+        IfErr result (λ e. e ≡ Error.DataCorrupted Corrupt.ItemDoesNotDecode
+        → list_any is_none (items_within U.form s floor log.old.tree.leaves) ≡ true)) }
     ensures read { IsRead C.Store F.shape H.Digest.bytes H.hash log.old log.new }
     ensures error { IfErr result (IsReadError C.Store log.old log.new) }
 {
@@ -88,9 +97,15 @@ fn put<F: Family, I: qm_index::Unordered<Value = Location<F>>, C: Store, H: Hash
     requires here { at ≡ floor + length snapshot.old.activity }
     requires within { AreWithin floor at (I.entries index.old) }
     requires counted { snapshot.old.live ≤ length snapshot.old.activity }
-    ensures placed { (ops : List model.Operation) → HasOperations C.Store F.shape H.Digest.bytes H.hash U.form log.old ops → slice_get ops at ≡ Some (operation_view U.view U.Key.bytes U.Value.bytes operation)
-        → ArePlaced I.index_key (I.entries index.old) snapshot.old.live snapshot.old.activity floor (between floor at ops) → AreKeys U.Key.bytes ops cache.old
-        → IfSome (C.told log.old.store) (λ _. OnOk result (ArePlaced I.index_key (I.entries index.new) snapshot.new.live snapshot.new.activity floor (between floor (at + 1) ops) × AreKeys U.Key.bytes ops cache.new)) }
+    ensures placed { (ops : List model.Operation)
+        → HasOperations C.Store F.shape H.Digest.bytes H.hash U.form log.old ops
+        → slice_get ops at ≡ Some (operation_view U.view U.Key.bytes U.Value.bytes operation)
+        → ArePlaced I.index_key (I.entries index.old) snapshot.old.live snapshot.old.activity floor
+        (between floor at ops) → AreKeys U.Key.bytes ops cache.old
+        → IfSome (C.told log.old.store) (λ _.
+        OnOk result (ArePlaced I.index_key (I.entries index.new) snapshot.new.live
+        snapshot.new.activity floor (between floor (at + 1) ops)
+        × AreKeys U.Key.bytes ops cache.new)) }
     ensures long { OnOk result (length snapshot.new.activity ≡ length snapshot.old.activity + 1) }
     ensures within { OnOk result (AreWithin floor (at + 1) (I.entries index.new)) }
     ensures counted { OnOk result (snapshot.new.live ≤ length snapshot.new.activity) }
@@ -110,7 +125,8 @@ fn put<F: Family, I: qm_index::Unordered<Value = Location<F>>, C: Store, H: Hash
 
 // Keeps the key of an update, and lets go of that of the update that was found.
 fn keep<K: Drop>(cache: &mut Cache<K>, at: u64, key: K, found: Option<Found>, is_update: bool)
-    ensures { (l : ℕ) (k : K) → Holds cache.new l k → ((is_update ≡ true) × ((l ≡ at) × (k ≡ key))) ⊎ Holds cache.old l k }
+    ensures { (l : ℕ) (k : K) → Holds cache.new l k
+        → ((is_update ≡ true) × ((l ≡ at) × (k ≡ key))) ⊎ Holds cache.old l k }
 {
     let_go(cache, found);
     if is_update {

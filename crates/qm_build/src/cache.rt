@@ -52,7 +52,8 @@ impl<K: Drop> Cache<K> {
 
     /// Puts in the key for a location.
     pub fn put(&mut self, location: u64, key: K)
-        ensures { (at : ℕ) (k : K) → Holds self.new at k → ((at ≡ location) × (k ≡ key)) ⊎ ((at ≢ location) × Holds self.old at k) }
+        ensures { (at : ℕ) (k : K) → Holds self.new at k
+            → ((at ≡ location) × (k ≡ key)) ⊎ ((at ≢ location) × Holds self.old at k) }
     {
         let first = set_of(self.sets, location) * self.ways;
         let end = first + self.ways;
@@ -123,8 +124,11 @@ fn clear_in<K: Drop>(slots: &mut Vec<Option<(u64, K)>>, first: usize, end: usize
     requires order { first ≤ end }
     requires within { end ≤ length slots.old.items }
     ensures long { length slots.new.items ≡ length slots.old.items }
-    ensures kept { (i : ℕ) → (slice_index_or slots.new.items i None ≡ None) ⊎ (slice_index_or slots.new.items i None ≡ slice_index_or slots.old.items i None) }
-    ensures clear { (i : ℕ) → first ≤ i → i < end → IfSome (slice_index_or slots.new.items i None) (λ p. p.0 ≢ location) }
+    ensures kept { (i : ℕ)
+        → (slice_index_or slots.new.items i None ≡ None)
+        ⊎ (slice_index_or slots.new.items i None ≡ slice_index_or slots.old.items i None) }
+    ensures clear { (i : ℕ) → first ≤ i → i < end
+        → IfSome (slice_index_or slots.new.items i None) (λ p. p.0 ≢ location) }
 {
     for at in first..end {
         if location_of(&slots[at]) == Some(location) {

@@ -35,11 +35,17 @@ fn check_links<F: Family, C: Store, H: Hasher, U: Update>(
 ) -> Result<(), Error>
     requires kept { C.start log.old.store ≤ from }
     requires below { from ≤ log.old.tree.leaves }
-    ensures ring { IfSome (C.told log.old.store) (λ s. OnOk result (links_apart U.form s from log.old.tree.leaves ≡ false)) }
-    ensures apart { IfErr result (λ e. e ≡ Error.DataCorrupted Corrupt.LinksFormNoRing → IfSome (C.told log.old.store) (λ s. links_apart U.form s from log.old.tree.leaves ≡ true)) }
-    ensures undecoded { IfErr result (λ e. e ≡ Error.DataCorrupted Corrupt.ItemDoesNotDecode → IfSome (C.told log.old.store) (λ s. list_any is_none (items_within U.form s from log.old.tree.leaves) ≡ true)) }
+    ensures ring { IfSome (C.told log.old.store) (λ s.
+        OnOk result (links_apart U.form s from log.old.tree.leaves ≡ false)) }
+    ensures apart { IfErr result (λ e. e ≡ Error.DataCorrupted Corrupt.LinksFormNoRing
+        → IfSome (C.told log.old.store) (λ s.
+        links_apart U.form s from log.old.tree.leaves ≡ true)) }
+    ensures undecoded { IfErr result (λ e. e ≡ Error.DataCorrupted Corrupt.ItemDoesNotDecode
+        → IfSome (C.told log.old.store) (λ s.
+        list_any is_none (items_within U.form s from log.old.tree.leaves) ≡ true)) }
     ensures read { IsRead C.Store F.shape H.Digest.bytes H.hash log.old log.new }
-    ensures error { IfErr result (λ e. IsReadError C.Store log.old log.new e ⊎ (e ≡ Error.DataCorrupted Corrupt.LinksFormNoRing)) }
+    ensures error { IfErr result (λ e.
+        IsReadError C.Store log.old log.new e ⊎ (e ≡ Error.DataCorrupted Corrupt.LinksFormNoRing)) }
 {
     if !U::is_ordered() {
         return Ok(());
@@ -76,17 +82,30 @@ pub fn open_checked<
     requires pruned { chunks * (8 * N.LEN) ≤ selected.floor }
     requires floor { selected.floor < selected.size }
     requires end { selected.size ≤ C.end store }
-    ensures stands { (list : List Operation) → length list ≡ selected.size → All (IsOf U.form) list → IsGood list → selected.floor ≡ lives.floor list → IfSome (C.told store) (λ held.
-        take (selected.size - C.start store) held.items ≡ drop (C.start store) (map (spelling U.form) list) → IsHead F.shape H.Digest.bytes H.hash (C.start store) (digests_from H.hash F.shape 0 (map (spelling U.form) list)) held.head
-        → IfOk result (λ o. IsOpened C.Store F.shape H.Digest.bytes H.hash U.form I.index_key N.LEN o.log (I.entries o.index) o.live o.activity (H.Digest.bytes o.root) (option_map U.Value.bytes o.metadata) list)) }
+    ensures stands { (list : List Operation) → length list ≡ selected.size → All (IsOf U.form) list
+        → IsGood list → selected.floor ≡ lives.floor list
+        → IfSome (C.told store) (λ held. take (selected.size - C.start store) held.items
+        ≡ drop (C.start store) (map (spelling U.form) list)
+        → IsHead F.shape H.Digest.bytes H.hash (C.start store)
+        (digests_from H.hash F.shape 0 (map (spelling U.form) list)) held.head
+        → IfOk result (λ o. IsOpened C.Store F.shape H.Digest.bytes H.hash U.form I.index_key N.LEN
+        o.log (I.entries o.index) o.live o.activity (H.Digest.bytes o.root)
+        (option_map U.Value.bytes o.metadata) list)) }
     ensures size { IfOk result (λ o. o.log.tree.leaves ≡ selected.size) }
     ensures kept { IfOk result (λ o. IsKept C.Store store o.log.store) }
     ensures later { IfOk result (λ o. C.faults store ≤ C.faults o.log.store) }
     ensures pruned { IfOk result (λ o. o.activity.pruned ≡ chunks) }
-    ensures bits { IfOk result (λ o. (bit_count N.LEN o.activity ≡ selected.size) × (o.live ≤ selected.size)) }
-    ensures accepted { IfSome (C.told store) (λ s. OnOk result (content_refusal (any_layout U.form F.shape H.Digest.SIZE) (any_found U.form s) (Some (selected_view selected)) ≡ None)) }
-    ensures refused { IfSome (C.told store) (λ s. IfErr result (λ r. IsDue r.error (content_refusal (any_layout U.form F.shape H.Digest.SIZE) (any_found U.form s) (Some (selected_view selected))))) }
-    ensures back { IfErr result (λ r. (s : C) × (r.given ≡ Given.Store s) × IsKept C.Store store s × IsCause (C.faults store) (C.faults s) (r.error ≡ Error.Journal JournalError.Store)) }
+    ensures bits { IfOk result (λ o.
+        (bit_count N.LEN o.activity ≡ selected.size) × (o.live ≤ selected.size)) }
+    ensures accepted { IfSome (C.told store) (λ s.
+        OnOk result (content_refusal (any_layout U.form F.shape H.Digest.SIZE) (any_found U.form s)
+        (Some (selected_view selected))
+        ≡ None)) }
+    ensures refused { IfSome (C.told store) (λ s.
+        IfErr result (λ r. IsDue r.error (content_refusal (any_layout U.form F.shape H.Digest.SIZE)
+        (any_found U.form s) (Some (selected_view selected))))) }
+    ensures back { IfErr result (λ r. (s : C) × (r.given ≡ Given.Store s) × IsKept C.Store store s
+        × IsCause (C.faults store) (C.faults s) (r.error ≡ Error.Journal JournalError.Store)) }
 {
     let mut opened = open_at(
         alloc, store, hasher, translator, selected, chunks, kept_keys,

@@ -75,9 +75,14 @@ pub fn empty_log<F: Family, C: Store, H: Hasher + Drop, X: Drop>(
     ensures kept { IfOk result (λ log. logs.IsKept C.Store store log.store) }
     ensures later { IfOk result (λ log. C.faults store ≤ C.faults log.store) }
     ensures bare { IfOk result (λ _. IfSome (C.told store) (λ held. held.head ≡ [])) }
-    ensures head { IfErr result (λ r. r.error ≡ Error.DataCorrupted Corrupt.HeadDoesNotMatch → IfSome (C.told store) (λ held. 0 < length held.head)) }
-    ensures back { IfErr result (λ r. (s : C) × (r.given ≡ Given.Store s) × logs.IsKept C.Store store s × IsCause (C.faults store) (C.faults s) (r.error ≡ Error.Journal JournalError.Store)) }
-    ensures causes { IfErr result (λ r. (r.error ≡ Error.Memory) ⊎ ((r.error ≡ Error.Journal JournalError.Store) ⊎ (r.error ≡ Error.DataCorrupted Corrupt.HeadDoesNotMatch))) }
+    ensures head { IfErr result (λ r. r.error ≡ Error.DataCorrupted Corrupt.HeadDoesNotMatch
+        → IfSome (C.told store) (λ held. 0 < length held.head)) }
+    ensures back { IfErr result (λ r.
+        (s : C) × (r.given ≡ Given.Store s) × logs.IsKept C.Store store s
+        × IsCause (C.faults store) (C.faults s) (r.error ≡ Error.Journal JournalError.Store)) }
+    ensures causes { IfErr result (λ r. (r.error ≡ Error.Memory)
+        ⊎ ((r.error ≡ Error.Journal JournalError.Store)
+        ⊎ (r.error ≡ Error.DataCorrupted Corrupt.HeadDoesNotMatch))) }
 {
     match AuthLog::open(alloc, store, hasher, 0) {
         Ok(log) => {

@@ -34,7 +34,8 @@ fn bytes_of_some<K: ByteString>(
     alloc: Global,
     key: Option<&K>,
 ) -> Result<Option<Vec<u8>>, AllocError>
-    ensures { IfOk result (λ bytes. option_map (λ b. b.items) bytes ≡ option_map (λ k. K.bytes k.now) key.entry) }
+    ensures { IfOk result (λ bytes.
+        option_map (λ b. b.items) bytes ≡ option_map (λ k. K.bytes k.now) key.entry) }
 {
     match key {
         Some(key) => Ok(Some(bytes_of(alloc, key)?)),
@@ -44,7 +45,9 @@ fn bytes_of_some<K: ByteString>(
 
 // Puts in what an update names, behind the operations that these are the links of.
 fn put_link<U: Update>(alloc: Global, links: &mut Links, update: &U) -> Result<(), AllocError>
-    ensures { OnOk result ((ops : List model.Operation) → AreLinks (λ b. b.items) links.old.entries ops → AreLinks (λ b. b.items) links.new.entries (ops ++ U.view update.now ∷ [])) }
+    ensures { OnOk result ((ops : List model.Operation)
+        → AreLinks (λ b. b.items) links.old.entries ops
+        → AreLinks (λ b. b.items) links.new.entries (ops ++ U.view update.now ∷ [])) }
 {
     let (key, _, next) = update.parts();
     let key = bytes_of(alloc, key)?;
@@ -59,8 +62,10 @@ fn put<F, U: Update>(
     links: &mut Links,
     operation: Operation<F, U>,
 ) -> Result<(), AllocError>
-    ensures { OnOk result ((ops : List model.Operation) → AreLinks (λ b. b.items) links.old.entries ops
-        → AreLinks (λ b. b.items) links.new.entries (ops ++ operation_view U.view U.Key.bytes U.Value.bytes operation ∷ [])) }
+    ensures { OnOk result ((ops : List model.Operation)
+        → AreLinks (λ b. b.items) links.old.entries ops
+        → AreLinks (λ b. b.items) links.new.entries
+        (ops ++ operation_view U.view U.Key.bytes U.Value.bytes operation ∷ [])) }
 {
     match operation {
         Operation::Update(update) => put_link(alloc, links, &update),
@@ -74,7 +79,8 @@ fn put<F, U: Update>(
 
 // The key behind this one, or else the first of all.
 fn key_behind<'a>(links: &'a Links, key: &Vec<u8>) -> Option<&'a Vec<u8>>
-    ensures { option_map (λ k. k.now.items) result ≡ successor (map (λ e. e.0.items) links.now.entries) key.now.items }
+    ensures { option_map (λ k. k.now.items) result
+        ≡ successor (map (λ e. e.0.items) links.now.entries) key.now.items }
 {
     match links.range((Bound::Excluded(key), Bound::Unbounded)).next() {
         Some((behind, _)) => Some(behind),
@@ -87,7 +93,9 @@ fn key_behind<'a>(links: &'a Links, key: &Vec<u8>) -> Option<&'a Vec<u8>>
 
 // Whether the key that is named is the one behind.
 fn names(next: &Option<Vec<u8>>, behind: Option<&Vec<u8>>) -> bool
-    ensures { result ≡ option_map_or (same_key (option_map (λ b. b.items) next.now)) (option_map (λ k. k.now.items) behind.entry) false }
+    ensures { result
+        ≡ option_map_or (same_key (option_map (λ b. b.items) next.now))
+        (option_map (λ k. k.now.items) behind.entry) false }
 {
     match (next, behind) {
         (Some(next), Some(behind)) => next == behind,
@@ -97,7 +105,8 @@ fn names(next: &Option<Vec<u8>>, behind: Option<&Vec<u8>>) -> bool
 
 // Whether each key's update names the key behind it.
 fn is_closed(links: &Links) -> bool
-    ensures { (ops : List model.Operation) → AreLinks (λ b. b.items) links.now.entries ops → result ≡ is_ring ops }
+    ensures { (ops : List model.Operation) → AreLinks (λ b. b.items) links.now.entries ops
+        → result ≡ is_ring ops }
 {
     for (key, next) in links {
         if !names(next, key_behind(links, key)) {
@@ -117,8 +126,11 @@ pub fn forms_ring<F: Family, C: Store, H: Hasher, U: Update>(
 ) -> Result<bool, Error>
     requires kept { log.old.tree.start ≤ from }
     requires below { from ≤ log.old.tree.leaves }
-    ensures ring { IfOk result (λ b. IfSome (C.told log.old.store) (λ s. b ≡ is_ring (filter_map (λ item. item) (items_within U.form s from log.old.tree.leaves)))) }
-    ensures corrupt { IfSome (C.told log.old.store) (λ s. IfErr result (λ e. e ≡ Error.DataCorrupted Corrupt.ItemDoesNotDecode → list_any is_none (items_within U.form s from log.old.tree.leaves) ≡ true)) }
+    ensures ring { IfOk result (λ b. IfSome (C.told log.old.store) (λ s.
+        b ≡ is_ring (filter_map (λ item. item) (items_within U.form s from log.old.tree.leaves)))) }
+    ensures corrupt { IfSome (C.told log.old.store) (λ s.
+        IfErr result (λ e. e ≡ Error.DataCorrupted Corrupt.ItemDoesNotDecode
+        → list_any is_none (items_within U.form s from log.old.tree.leaves) ≡ true)) }
     ensures read { IsRead C.Store F.shape H.Digest.bytes H.hash log.old log.new }
     ensures error { IfErr result (IsReadError C.Store log.old log.new) }
 {

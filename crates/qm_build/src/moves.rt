@@ -17,10 +17,15 @@ pub(crate) fn move_key<F, I: qm_index::Unordered<Value = Location<F>>>(
     found: Option<Found>,
     now: Option<Location<F>>,
 ) -> Result<(), AllocError>
-    requires { IfSome found (λ f. slice_get (bucket_at (I.entries index.old) (I.index_key key.now)) f.place ≡ Some f.location) }
-    ensures moved { (ps : Places) → AreApart ps → HasPlaces I.index_key (I.entries index.old) ps → place_of ps key.now ≡ option_map (λ f. f.location) found
+    requires { IfSome found (λ f.
+        slice_get (bucket_at (I.entries index.old) (I.index_key key.now)) f.place
+        ≡ Some f.location) }
+    ensures moved { (ps : Places) → AreApart ps → HasPlaces I.index_key (I.entries index.old) ps
+        → place_of ps key.now ≡ option_map (λ f. f.location) found
         → OnOk result (HasPlaces I.index_key (I.entries index.new) (moved ps key.now now)) }
-    ensures within { (from to : ℕ) → AreWithin from to (I.entries index.old) → IfSome now (λ at. (from ≤ at) × (at < to)) → OnOk result (AreWithin from to (I.entries index.new)) }
+    ensures within { (from to : ℕ) → AreWithin from to (I.entries index.old)
+        → IfSome now (λ at. (from ≤ at) × (at < to))
+        → OnOk result (AreWithin from to (I.entries index.new)) }
 {
     match (found, now) {
         (Some(found), Some(now)) => {
@@ -43,12 +48,16 @@ pub(crate) fn note(
     found: Option<Found>,
     is_update: bool,
 ) -> Result<(), Error>
-    requires within { IfSome found (λ f. (floor ≤ f.location) × (f.location < floor + length snapshot.old.activity)) }
+    requires within { IfSome found (λ f.
+        (floor ≤ f.location) × (f.location < floor + length snapshot.old.activity)) }
     requires few { length snapshot.old.activity < 2 ^ 62 }
     requires counted { snapshot.old.live ≤ length snapshot.old.activity }
-    ensures active { OnOk result (snapshot.new.activity ≡ cleared snapshot.old.activity (option_map (λ f. f.location - floor) found) ++ is_update ∷ []) }
+    ensures active { OnOk result (snapshot.new.activity
+        ≡ cleared snapshot.old.activity (option_map (λ f. f.location - floor) found) ++ is_update
+        ∷ []) }
     ensures long { OnOk result (length snapshot.new.activity ≡ length snapshot.old.activity + 1) }
-    ensures live { OnOk result (snapshot.new.live ≡ counted_after snapshot.old.live (option_map (λ f. f.location) found) is_update) }
+    ensures live { OnOk result (snapshot.new.live
+        ≡ counted_after snapshot.old.live (option_map (λ f. f.location) found) is_update) }
     ensures counted { OnOk result (snapshot.new.live ≤ length snapshot.new.activity) }
     ensures memory { IfErr result (λ e. e ≡ Error.Memory) }
 {

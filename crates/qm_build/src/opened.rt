@@ -61,20 +61,38 @@ pub fn open_at<
     requires pruned { chunks * (8 * N.LEN) ≤ selected.floor }
     requires floor { selected.floor < selected.size }
     requires end { selected.size ≤ C.end store }
-    ensures stands { (list : List model.Operation) → length list ≡ selected.size → All (IsOf U.form) list → IsGood list → selected.floor ≡ lives.floor list → IfSome (C.told store) (λ held.
-        take (selected.size - C.start store) held.items ≡ drop (C.start store) (map (spelling U.form) list) → IsHead F.shape H.Digest.bytes H.hash (C.start store) (digests_from H.hash F.shape 0 (map (spelling U.form) list)) held.head
-        → IfOk result (λ o. IsOpened C.Store F.shape H.Digest.bytes H.hash U.form I.index_key N.LEN o.log (I.entries o.index) o.live o.activity (H.Digest.bytes o.root) (option_map U.Value.bytes o.metadata) list)) }
+    ensures stands { (list : List model.Operation) → length list ≡ selected.size
+        → All (IsOf U.form) list → IsGood list → selected.floor ≡ lives.floor list
+        → IfSome (C.told store) (λ held. take (selected.size - C.start store) held.items
+        ≡ drop (C.start store) (map (spelling U.form) list)
+        → IsHead F.shape H.Digest.bytes H.hash (C.start store)
+        (digests_from H.hash F.shape 0 (map (spelling U.form) list)) held.head
+        → IfOk result (λ o. IsOpened C.Store F.shape H.Digest.bytes H.hash U.form I.index_key N.LEN
+        o.log (I.entries o.index) o.live o.activity (H.Digest.bytes o.root)
+        (option_map U.Value.bytes o.metadata) list)) }
     ensures size { IfOk result (λ o. o.log.tree.leaves ≡ selected.size) }
     ensures kept { IfOk result (λ o. IsKept C.Store store o.log.store) }
     ensures later { IfOk result (λ o. C.faults store ≤ C.faults o.log.store) }
     ensures pruned { IfOk result (λ o. o.activity.pruned ≡ chunks) }
-    ensures bits { IfOk result (λ o. (bit_count N.LEN o.activity ≡ selected.size) × (o.live ≤ selected.size)) }
-    ensures head { IfSome (C.told store) (λ s. OnOk result (length s.head ≡ length (peaks F.shape (C.start store)) * H.Digest.SIZE)) }
-    ensures decoded { IfSome (C.told store) (λ s. OnOk result (list_any is_none (items_within U.form s selected.floor selected.size) ≡ false)) }
-    ensures back { IfErr result (λ r. (s : C) × (r.given ≡ Given.Store s) × IsKept C.Store store s × IsCause (C.faults store) (C.faults s) (r.error ≡ Error.Journal JournalError.Store)) }
-    ensures other_head { IfErr result (λ r. r.error ≡ Error.DataCorrupted Corrupt.HeadDoesNotMatch → IfSome (C.told store) (λ s. length s.head ≢ length (peaks F.shape (C.start store)) * H.Digest.SIZE)) }
-    ensures undecoded { IfErr result (λ r. r.error ≡ Error.DataCorrupted Corrupt.ItemDoesNotDecode → IfSome (C.told store) (λ s. (length s.head ≡ length (peaks F.shape (C.start store)) * H.Digest.SIZE) × (list_any is_none (items_within U.form s selected.floor selected.size) ≡ true))) }
-    ensures never { IfErr result (λ r. (r.error ≡ Error.Memory) ⊎ ((r.error ≡ Error.Journal JournalError.Store) ⊎ ((r.error ≡ Error.DataCorrupted Corrupt.HeadDoesNotMatch) ⊎ (r.error ≡ Error.DataCorrupted Corrupt.ItemDoesNotDecode)))) }
+    ensures bits { IfOk result (λ o.
+        (bit_count N.LEN o.activity ≡ selected.size) × (o.live ≤ selected.size)) }
+    ensures head { IfSome (C.told store) (λ s.
+        OnOk result (length s.head ≡ length (peaks F.shape (C.start store)) * H.Digest.SIZE)) }
+    ensures decoded { IfSome (C.told store) (λ s. OnOk result
+        (list_any is_none (items_within U.form s selected.floor selected.size) ≡ false)) }
+    ensures back { IfErr result (λ r. (s : C) × (r.given ≡ Given.Store s) × IsKept C.Store store s
+        × IsCause (C.faults store) (C.faults s) (r.error ≡ Error.Journal JournalError.Store)) }
+    ensures other_head { IfErr result (λ r. r.error ≡ Error.DataCorrupted Corrupt.HeadDoesNotMatch
+        → IfSome (C.told store) (λ s.
+        length s.head ≢ length (peaks F.shape (C.start store)) * H.Digest.SIZE)) }
+    ensures undecoded { IfErr result (λ r. r.error ≡ Error.DataCorrupted Corrupt.ItemDoesNotDecode
+        → IfSome (C.told store) (λ s.
+        (length s.head ≡ length (peaks F.shape (C.start store)) * H.Digest.SIZE)
+        × (list_any is_none (items_within U.form s selected.floor selected.size) ≡ true))) }
+    ensures never { IfErr result (λ r. (r.error ≡ Error.Memory)
+        ⊎ ((r.error ≡ Error.Journal JournalError.Store)
+        ⊎ ((r.error ≡ Error.DataCorrupted Corrupt.HeadDoesNotMatch)
+        ⊎ (r.error ≡ Error.DataCorrupted Corrupt.ItemDoesNotDecode)))) }
 {
     match AuthLog::open(alloc, store, hasher, selected.size) {
         Ok(log) => {

@@ -32,7 +32,8 @@ pub fn activity_from<N: Chunks>(
     requires below { chunks * (8 * N.LEN) ≤ floor }
     requires few { floor + length behind.now ≤ 2 ^ 62 }
     ensures pruned { IfOk result (λ activity. activity.pruned ≡ chunks) }
-    ensures bits { IfOk result (λ activity. all_bits N.LEN activity ≡ replicate floor false ++ behind.now) }
+    ensures bits { IfOk result (λ activity.
+        all_bits N.LEN activity ≡ replicate floor false ++ behind.now) }
     ensures count { IfOk result (λ activity. bit_count N.LEN activity ≡ floor + length behind.now) }
 {
     let mut activity = Prunable::new_with_pruned_chunks(alloc, chunks);
@@ -49,7 +50,9 @@ pub fn root_of<F: Family, C: Store, H: Hasher, U: Update>(
     log: &mut AuthLog<F, C, H>,
     floor: u64,
 ) -> Result<H::Digest, AllocError>
-    ensures value { (ops : List model.Operation) → HasOperations C.Store F.shape H.Digest.bytes H.hash U.form log.old ops → floor ≡ lives.floor ops
+    ensures value { (ops : List model.Operation)
+        → HasOperations C.Store F.shape H.Digest.bytes H.hash U.form log.old ops
+        → floor ≡ lives.floor ops
         → IfOk result (λ root. H.Digest.bytes root ≡ ops_root H.hash F.shape U.form ops) }
     ensures same { log.new ≡ log.old }
 {
@@ -64,9 +67,13 @@ pub fn last_metadata<F: Family, C: Store, H: Hasher, U: Update>(
     log: &mut AuthLog<F, C, H>,
 ) -> Result<Option<U::Value>, Error>
     requires { log.old.tree.start < log.old.tree.leaves }
-    ensures value { (ops : List model.Operation) → HasOperations C.Store F.shape H.Digest.bytes H.hash U.form log.old ops → IsCommitEnded ops
-        → IfSome (C.told log.old.store) (λ _. IfOk result (λ metadata. option_map U.Value.bytes metadata ≡ lives.last_metadata ops)) }
-    ensures corrupt { IfSome (C.told log.old.store) (λ s. IfErr result (λ e. e ≡ Error.DataCorrupted Corrupt.ItemDoesNotDecode → IsUndecoded U.form s (log.old.tree.leaves - 1))) }
+    ensures value { (ops : List model.Operation)
+        → HasOperations C.Store F.shape H.Digest.bytes H.hash U.form log.old ops → IsCommitEnded ops
+        → IfSome (C.told log.old.store) (λ _.
+        IfOk result (λ metadata. option_map U.Value.bytes metadata ≡ lives.last_metadata ops)) }
+    ensures corrupt { IfSome (C.told log.old.store) (λ s.
+        IfErr result (λ e. e ≡ Error.DataCorrupted Corrupt.ItemDoesNotDecode
+        → IsUndecoded U.form s (log.old.tree.leaves - 1))) }
     ensures read { IsRead C.Store F.shape H.Digest.bytes H.hash log.old log.new }
     ensures error { IfErr result (IsReadError C.Store log.old log.new) }
 {
@@ -109,12 +116,20 @@ pub(crate) fn beside<
     requires pruned { chunks * (8 * N.LEN) ≤ floor }
     requires kept { log.old.tree.start ≤ floor }
     requires below { floor < log.old.tree.leaves }
-    ensures opened { (ops : List model.Operation) → HasOperations C.Store F.shape H.Digest.bytes H.hash U.form log.old ops → IsGood ops → floor ≡ lives.floor ops
-        → IfSome (C.told log.old.store) (λ _. IfOk result (λ held. IsOpened C.Store F.shape H.Digest.bytes H.hash U.form I.index_key N.LEN log.new (I.entries index.new) held.live held.activity (H.Digest.bytes held.root) (option_map U.Value.bytes held.metadata) ops)) }
+    ensures opened { (ops : List model.Operation)
+        → HasOperations C.Store F.shape H.Digest.bytes H.hash U.form log.old ops → IsGood ops
+        → floor ≡ lives.floor ops
+        → IfSome (C.told log.old.store) (λ _. IfOk result (λ held. IsOpened C.Store F.shape
+        H.Digest.bytes H.hash U.form I.index_key N.LEN log.new (I.entries index.new) held.live
+        held.activity (H.Digest.bytes held.root) (option_map U.Value.bytes held.metadata) ops)) }
     ensures pruned { IfOk result (λ held. held.activity.pruned ≡ chunks) }
-    ensures bits { IfOk result (λ held. (bit_count N.LEN held.activity ≡ log.old.tree.leaves) × (held.live ≤ log.old.tree.leaves)) }
-    ensures decoded { IfSome (C.told log.old.store) (λ s. OnOk result (list_any is_none (items_within U.form s floor log.old.tree.leaves) ≡ false)) }
-    ensures undecoded { IfErr result (λ e. e ≡ Error.DataCorrupted Corrupt.ItemDoesNotDecode → IfSome (C.told log.old.store) (λ s. list_any is_none (items_within U.form s floor log.old.tree.leaves) ≡ true)) }
+    ensures bits { IfOk result (λ held.
+        (bit_count N.LEN held.activity ≡ log.old.tree.leaves) × (held.live ≤ log.old.tree.leaves)) }
+    ensures decoded { IfSome (C.told log.old.store) (λ s.
+        OnOk result (list_any is_none (items_within U.form s floor log.old.tree.leaves) ≡ false)) }
+    ensures undecoded { IfErr result (λ e. e ≡ Error.DataCorrupted Corrupt.ItemDoesNotDecode
+        → IfSome (C.told log.old.store) (λ s.
+        list_any is_none (items_within U.form s floor log.old.tree.leaves) ≡ true)) }
     ensures read { IsRead C.Store F.shape H.Digest.bytes H.hash log.old log.new }
     ensures error { IfErr result (IsReadError C.Store log.old log.new) }
 {

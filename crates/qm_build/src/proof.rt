@@ -33,17 +33,34 @@ pub fn proved_over<F: Family, C: Store, H: Hasher, U: Update>(
     start: u64,
     max: NonZeroU64,
 ) -> Result<(Proof<H::Digest>, Vec<Operation<F, U>>), Error>
-    ensures offered { (list : List operations.Operation) → IsLog C.Store F.shape H.Digest.bytes H.hash log.old (map (spelling U.form) list) → All (IsOf U.form) list → IfSome (C.told log.old.store) (λ _. OnOk result (proof_refusal (C.start log.old.store) list size start ≡ None)) }
+    ensures offered { (list : List operations.Operation)
+        → IsLog C.Store F.shape H.Digest.bytes H.hash log.old (map (spelling U.form) list)
+        → All (IsOf U.form) list
+        → IfSome (C.told log.old.store) (λ _.
+        OnOk result (proof_refusal (C.start log.old.store) list size start ≡ None)) }
     ensures kept { OnOk result (C.start log.old.store ≤ start) }
-    ensures proof { (list : List operations.Operation) → IsLog C.Store F.shape H.Digest.bytes H.hash log.old (map (spelling U.form) list) → All (IsOf U.form) list
-        → IfSome (C.told log.old.store) (λ _. IfOk result (λ shown. proof_view H.Digest.bytes shown.0 ≡ ops_proof H.hash F.shape U.form (take size list) start (start + proof_count size start (non_zero_u64_get max)))) }
-    ensures operations { (list : List operations.Operation) → IsLog C.Store F.shape H.Digest.bytes H.hash log.old (map (spelling U.form) list) → All (IsOf U.form) list
-        → IfSome (C.told log.old.store) (λ _. IfOk result (λ shown. operation_views U.view U.Key.bytes U.Value.bytes shown.1.items ≡ take (proof_count size start (non_zero_u64_get max)) (drop start list))) }
-    ensures refused { (list : List operations.Operation) → IsLog C.Store F.shape H.Digest.bytes H.hash log.old (map (spelling U.form) list) → All (IsOf U.form) list
-        → IfSome (C.told log.old.store) (λ _. IfErr result (λ e. IsDue e (proof_refusal (C.start log.old.store) list size start))) }
+    ensures proof { (list : List operations.Operation)
+        → IsLog C.Store F.shape H.Digest.bytes H.hash log.old (map (spelling U.form) list)
+        → All (IsOf U.form) list
+        → IfSome (C.told log.old.store) (λ _.
+        IfOk result (λ shown. proof_view H.Digest.bytes shown.0
+        ≡ ops_proof H.hash F.shape U.form (take size list) start
+        (start + proof_count size start (non_zero_u64_get max)))) }
+    ensures operations { (list : List operations.Operation)
+        → IsLog C.Store F.shape H.Digest.bytes H.hash log.old (map (spelling U.form) list)
+        → All (IsOf U.form) list
+        → IfSome (C.told log.old.store) (λ _.
+        IfOk result (λ shown. operation_views U.view U.Key.bytes U.Value.bytes shown.1.items
+        ≡ take (proof_count size start (non_zero_u64_get max)) (drop start list))) }
+    ensures refused { (list : List operations.Operation)
+        → IsLog C.Store F.shape H.Digest.bytes H.hash log.old (map (spelling U.form) list)
+        → All (IsOf U.form) list
+        → IfSome (C.told log.old.store) (λ _.
+        IfErr result (λ e. IsDue e (proof_refusal (C.start log.old.store) list size start))) }
     ensures causes { IfErr result (λ e. IsAmong e (proof_reasons size start)) }
     ensures never { IfErr result (λ e. e ≢ Error.StaleBatch) }
-    ensures cause { IfErr result (λ e. e ≡ Error.Journal JournalError.Store → Rose (C.faults log.old.store) (C.faults log.new.store)) }
+    ensures cause { IfErr result (λ e. e ≡ Error.Journal JournalError.Store
+        → Rose (C.faults log.old.store) (C.faults log.new.store)) }
     ensures read { IsRead C.Store F.shape H.Digest.bytes H.hash log.old log.new }
 {
     // The log has at most 2^62 items, and is kept from where its store is.
@@ -62,15 +79,26 @@ fn offered<F: Family, C: Store, H: Hasher, U: Update>(
     size: u64,
     start: u64,
 ) -> Result<u64, Error>
-    ensures offered { (list : List operations.Operation) → IsLog C.Store F.shape H.Digest.bytes H.hash log.old (map (spelling U.form) list) → All (IsOf U.form) list → IfSome (C.told log.old.store) (λ _. OnOk result (proof_refusal (C.start log.old.store) list size start ≡ None)) }
+    ensures offered { (list : List operations.Operation)
+        → IsLog C.Store F.shape H.Digest.bytes H.hash log.old (map (spelling U.form) list)
+        → All (IsOf U.form) list
+        → IfSome (C.told log.old.store) (λ _.
+        OnOk result (proof_refusal (C.start log.old.store) list size start ≡ None)) }
     ensures kept { OnOk result (C.start log.old.store ≤ start) }
     ensures within { OnOk result ((size ≤ log.old.tree.leaves) × (start < size)) }
-    ensures floor { (list : List operations.Operation) → IsLog C.Store F.shape H.Digest.bytes H.hash log.old (map (spelling U.form) list) → All (IsOf U.form) list → IfSome (C.told log.old.store) (λ _. IfOk result (λ f. f ≡ lives.floor (take size list))) }
-    ensures refused { (list : List operations.Operation) → IsLog C.Store F.shape H.Digest.bytes H.hash log.old (map (spelling U.form) list) → All (IsOf U.form) list
-        → IfSome (C.told log.old.store) (λ _. IfErr result (λ e. IsDue e (proof_refusal (C.start log.old.store) list size start))) }
+    ensures floor { (list : List operations.Operation)
+        → IsLog C.Store F.shape H.Digest.bytes H.hash log.old (map (spelling U.form) list)
+        → All (IsOf U.form) list
+        → IfSome (C.told log.old.store) (λ _. IfOk result (λ f. f ≡ lives.floor (take size list))) }
+    ensures refused { (list : List operations.Operation)
+        → IsLog C.Store F.shape H.Digest.bytes H.hash log.old (map (spelling U.form) list)
+        → All (IsOf U.form) list
+        → IfSome (C.told log.old.store) (λ _.
+        IfErr result (λ e. IsDue e (proof_refusal (C.start log.old.store) list size start))) }
     ensures causes { IfErr result (λ e. IsAmong e (proof_reasons size start)) }
     ensures never { IfErr result (λ e. e ≢ Error.StaleBatch) }
-    ensures cause { IfErr result (λ e. e ≡ Error.Journal JournalError.Store → Rose (C.faults log.old.store) (C.faults log.new.store)) }
+    ensures cause { IfErr result (λ e. e ≡ Error.Journal JournalError.Store
+        → Rose (C.faults log.old.store) (C.faults log.new.store)) }
     ensures read { IsRead C.Store F.shape H.Digest.bytes H.hash log.old log.new }
 {
     let (first, leaves) = log.bounds();
@@ -93,13 +121,18 @@ fn floor_at_end<F: Family, C: Store, H: Hasher, U: Update>(
     size: u64,
 ) -> Result<Option<u64>, Error>
     requires { size ≤ log.old.tree.leaves }
-    ensures floor { (list : List operations.Operation) → IsLog C.Store F.shape H.Digest.bytes H.hash log.old (map (spelling U.form) list) → All (IsOf U.form) list
+    ensures floor { (list : List operations.Operation)
+        → IsLog C.Store F.shape H.Digest.bytes H.hash log.old (map (spelling U.form) list)
+        → All (IsOf U.form) list
         → IfSome (C.told log.old.store) (λ _. IfOk result (λ f. f ≡ floor_before list size)) }
     ensures some { IfOk result (λ f. IfSome f (λ _. 0 < size)) }
     ensures kept { OnOk result (last_refusal (C.start log.old.store) size ≡ None) }
     ensures pruned { IfErr result (λ e. IsDue e (last_refusal (C.start log.old.store) size)) }
-    ensures causes { IfErr result (λ e. (e ≡ Error.Memory) ⊎ ((e ≡ Error.Journal JournalError.Store) ⊎ (e ≡ Error.Journal (JournalError.ItemPruned (size - 1))))) }
-    ensures cause { IfErr result (λ e. e ≡ Error.Journal JournalError.Store → Rose (C.faults log.old.store) (C.faults log.new.store)) }
+    ensures causes { IfErr result (λ e. (e ≡ Error.Memory)
+        ⊎ ((e ≡ Error.Journal JournalError.Store)
+        ⊎ (e ≡ Error.Journal (JournalError.ItemPruned (size - 1))))) }
+    ensures cause { IfErr result (λ e. e ≡ Error.Journal JournalError.Store
+        → Rose (C.faults log.old.store) (C.faults log.new.store)) }
     ensures read { IsRead C.Store F.shape H.Digest.bytes H.hash log.old log.new }
 {
     // The log is kept from where its store is.
@@ -113,9 +146,14 @@ fn floor_at_end<F: Family, C: Store, H: Hasher, U: Update>(
 
 // The operations that the items spell. That one spells none is told as corruption.
 fn decoded<F, U: Update>(alloc: Global, items: &[Vec<u8>]) -> Result<Vec<Operation<F, U>>, Error>
-    ensures value { (list : List operations.Operation) → All (IsOf U.form) list → map (λ v. v.items) items.now ≡ map (spelling U.form) list → IfOk result (λ made. operation_views U.view U.Key.bytes U.Value.bytes made.items ≡ list) }
-    ensures whole { (list : List operations.Operation) → All (IsOf U.form) list → map (λ v. v.items) items.now ≡ map (spelling U.form) list → IfErr result (λ e. e ≡ Error.Memory) }
-    ensures never { IfErr result (λ e. (e ≡ Error.Memory) ⊎ (e ≡ Error.DataCorrupted Corrupt.ItemDoesNotDecode)) }
+    ensures value { (list : List operations.Operation) → All (IsOf U.form) list
+        → map (λ v. v.items) items.now ≡ map (spelling U.form) list
+        → IfOk result (λ made. operation_views U.view U.Key.bytes U.Value.bytes made.items ≡ list) }
+    ensures whole { (list : List operations.Operation) → All (IsOf U.form) list
+        → map (λ v. v.items) items.now ≡ map (spelling U.form) list
+        → IfErr result (λ e. e ≡ Error.Memory) }
+    ensures never { IfErr result (λ e.
+        (e ≡ Error.Memory) ⊎ (e ≡ Error.DataCorrupted Corrupt.ItemDoesNotDecode)) }
 {
     let mut made = Vec::new(alloc);
     for item in items {

@@ -25,12 +25,18 @@ pub(crate) fn read_operation<F: Family, C: Store, H: Hasher, U: Update>(
 ) -> Result<Operation<F, U>, Error>
     requires kept { log.old.tree.start ≤ at }
     requires below { at < log.old.tree.leaves }
-    ensures value { (ops : List model.Operation) → HasOperations C.Store F.shape H.Digest.bytes H.hash U.form log.old ops
-        → IfSome (C.told log.old.store) (λ _. IfOk result (λ op. slice_get ops at ≡ Some (operation_view U.view U.Key.bytes U.Value.bytes op))) }
-    ensures decodes { (ops : List model.Operation) → HasOperations C.Store F.shape H.Digest.bytes H.hash U.form log.old ops
-        → IfSome (C.told log.old.store) (λ _. IfErr result (λ e. e ≢ Error.DataCorrupted Corrupt.ItemDoesNotDecode)) }
-    ensures held { IfSome (C.told log.old.store) (λ s. IfOk result (λ op. operation_at U.form s at ≡ Some (operation_view U.view U.Key.bytes U.Value.bytes op))) }
-    ensures corrupt { IfSome (C.told log.old.store) (λ s. IfErr result (λ e. e ≡ Error.DataCorrupted Corrupt.ItemDoesNotDecode → IsUndecoded U.form s at)) }
+    ensures value { (ops : List model.Operation)
+        → HasOperations C.Store F.shape H.Digest.bytes H.hash U.form log.old ops
+        → IfSome (C.told log.old.store) (λ _. IfOk result (λ op.
+        slice_get ops at ≡ Some (operation_view U.view U.Key.bytes U.Value.bytes op))) }
+    ensures decodes { (ops : List model.Operation)
+        → HasOperations C.Store F.shape H.Digest.bytes H.hash U.form log.old ops
+        → IfSome (C.told log.old.store) (λ _.
+        IfErr result (λ e. e ≢ Error.DataCorrupted Corrupt.ItemDoesNotDecode)) }
+    ensures held { IfSome (C.told log.old.store) (λ s. IfOk result (λ op.
+        operation_at U.form s at ≡ Some (operation_view U.view U.Key.bytes U.Value.bytes op))) }
+    ensures corrupt { IfSome (C.told log.old.store) (λ s. IfErr result (λ e.
+        e ≡ Error.DataCorrupted Corrupt.ItemDoesNotDecode → IsUndecoded U.form s at)) }
     ensures read { IsRead C.Store F.shape H.Digest.bytes H.hash log.old log.new }
     ensures error { IfErr result (IsReadError C.Store log.old log.new) }
 {
@@ -43,10 +49,15 @@ pub(crate) fn operation_in<F, U: Update>(
     alloc: Global,
     item: &[u8],
 ) -> Result<Operation<F, U>, Error>
-    ensures decoded { IfOk result (λ op. decoded U.form item.now ≡ Some (operation_view U.view U.Key.bytes U.Value.bytes op)) }
-    ensures spelled { IfOk result (λ op. IsSpelling U.form item.now (operation_view U.view U.Key.bytes U.Value.bytes op)) }
-    ensures none { IfErr result (λ e. e ≡ Error.DataCorrupted Corrupt.ItemDoesNotDecode → (decoded U.form item.now ≡ None) × ((op : model.Operation) → ¬ IsSpelling U.form item.now op)) }
-    ensures never { IfErr result (λ e. (e ≡ Error.Memory) ⊎ (e ≡ Error.DataCorrupted Corrupt.ItemDoesNotDecode)) }
+    ensures decoded { IfOk result (λ op.
+        decoded U.form item.now ≡ Some (operation_view U.view U.Key.bytes U.Value.bytes op)) }
+    ensures spelled { IfOk result (λ op.
+        IsSpelling U.form item.now (operation_view U.view U.Key.bytes U.Value.bytes op)) }
+    ensures none { IfErr result (λ e. e ≡ Error.DataCorrupted Corrupt.ItemDoesNotDecode
+        → (decoded U.form item.now ≡ None)
+        × ((op : model.Operation) → ¬ IsSpelling U.form item.now op)) }
+    ensures never { IfErr result (λ e.
+        (e ≡ Error.Memory) ⊎ (e ≡ Error.DataCorrupted Corrupt.ItemDoesNotDecode)) }
 {
     match Operation::decode(alloc, item)? {
         Some(operation) => Ok(operation),
@@ -62,8 +73,10 @@ fn has_key<F: Family, C: Store, H: Hasher, U: Update>(
 ) -> Result<bool, Error>
     requires kept { log.old.tree.start ≤ at }
     requires below { at < log.old.tree.leaves }
-    ensures value { (ops : List model.Operation) → HasOperations C.Store F.shape H.Digest.bytes H.hash U.form log.old ops
-        → IfSome (C.told log.old.store) (λ _. IfOk result (λ yes. (yes ≡ true) ↔ (key_at ops at ≡ Some key.now))) }
+    ensures value { (ops : List model.Operation)
+        → HasOperations C.Store F.shape H.Digest.bytes H.hash U.form log.old ops
+        → IfSome (C.told log.old.store) (λ _.
+        IfOk result (λ yes. (yes ≡ true) ↔ (key_at ops at ≡ Some key.now))) }
     ensures read { IsRead C.Store F.shape H.Digest.bytes H.hash log.old log.new }
     ensures error { IfErr result (IsReadFault C.Store log.old log.new) }
 {
@@ -73,7 +86,8 @@ fn has_key<F: Family, C: Store, H: Hasher, U: Update>(
 
 // Whether the bytes spell an update of the key.
 fn spells_key<U: Update>(item: &[u8], key: &[u8]) -> bool
-    ensures { (op : model.Operation) → IsSpelling U.form item.now op → (result ≡ true) ↔ (update_key op ≡ Some key.now) }
+    ensures { (op : model.Operation) → IsSpelling U.form item.now op → (result ≡ true)
+        ↔ (update_key op ≡ Some key.now) }
 {
     match Operation::<(), U>::update_key(item) {
         Some(own) => own == key,
@@ -90,8 +104,11 @@ fn is_of_key<F: Family, C: Store, H: Hasher, U: Update>(
 ) -> Result<bool, Error>
     requires kept { log.old.tree.start ≤ at }
     requires below { at < log.old.tree.leaves }
-    ensures value { (ops : List model.Operation) → HasOperations C.Store F.shape H.Digest.bytes H.hash U.form log.old ops → AreKeys U.Key.bytes ops cache.now
-        → IfSome (C.told log.old.store) (λ _. IfOk result (λ yes. (yes ≡ true) ↔ (key_at ops at ≡ Some key.now))) }
+    ensures value { (ops : List model.Operation)
+        → HasOperations C.Store F.shape H.Digest.bytes H.hash U.form log.old ops
+        → AreKeys U.Key.bytes ops cache.now
+        → IfSome (C.told log.old.store) (λ _.
+        IfOk result (λ yes. (yes ≡ true) ↔ (key_at ops at ≡ Some key.now))) }
     ensures read { IsRead C.Store F.shape H.Digest.bytes H.hash log.old log.new }
     ensures error { IfErr result (IsReadFault C.Store log.old log.new) }
 {
@@ -121,10 +138,17 @@ pub(crate) fn find<
     cache: &Cache<U::Key>,
     key: &[u8],
 ) -> Result<Option<Found>, Error>
-    requires { All (λ at. (log.old.tree.start ≤ at) × (at < log.old.tree.leaves)) (bucket_at (I.entries index.now) (I.index_key key.now)) }
-    ensures place { IfOk result (λ found. IfSome found (λ f. slice_get (bucket_at (I.entries index.now) (I.index_key key.now)) f.place ≡ Some f.location)) }
-    ensures key { (ops : List model.Operation) → HasOperations C.Store F.shape H.Digest.bytes H.hash U.form log.old ops → AreKeys U.Key.bytes ops cache.now
-        → IfSome (C.told log.old.store) (λ _. IfOk result (λ found. IsFound ops key.now (bucket_at (I.entries index.now) (I.index_key key.now)) (option_map (λ f. f.location) found))) }
+    requires { All (λ at. (log.old.tree.start ≤ at) × (at < log.old.tree.leaves))
+        (bucket_at (I.entries index.now) (I.index_key key.now)) }
+    ensures place { IfOk result (λ found.
+        IfSome found (λ f. slice_get (bucket_at (I.entries index.now) (I.index_key key.now)) f.place
+        ≡ Some f.location)) }
+    ensures key { (ops : List model.Operation)
+        → HasOperations C.Store F.shape H.Digest.bytes H.hash U.form log.old ops
+        → AreKeys U.Key.bytes ops cache.now
+        → IfSome (C.told log.old.store) (λ _. IfOk result (λ found.
+        IsFound ops key.now (bucket_at (I.entries index.now) (I.index_key key.now))
+        (option_map (λ f. f.location) found))) }
     ensures read { IsRead C.Store F.shape H.Digest.bytes H.hash log.old log.new }
     ensures error { IfErr result (IsReadFault C.Store log.old log.new) }
 {

@@ -38,13 +38,22 @@ pub trait SnapshotBuild<F: Family>: qm_index::Unordered<Value = Location<F>>
         requires empty { Self.entries self.old ≡ [] }
         requires kept { log.old.tree.start ≤ floor }
         requires below { floor < log.old.tree.leaves }
-        ensures built { (ops : List model.Operation) → HasOperations C.Store F.shape H.Digest.bytes H.hash U.form log.old ops → NoneBelow floor ops
-            → IfSome (C.told log.old.store) (λ _. IfOk result (λ s. IsBuilt Self.index_key (Self.entries self.new) s.live s.activity floor ops)) }
-        ensures decodes { (ops : List model.Operation) → HasOperations C.Store F.shape H.Digest.bytes H.hash U.form log.old ops
-            → IfSome (C.told log.old.store) (λ _. IfErr result (λ e. e ≢ Error.DataCorrupted Corrupt.ItemDoesNotDecode)) }
-        ensures long { IfOk result (λ s. (floor + length s.activity ≡ log.old.tree.leaves) × (s.live ≤ length s.activity)) }
-        ensures decoded { IfSome (C.told log.old.store) (λ s. OnOk result (list_any is_none (items_within U.form s floor log.old.tree.leaves) ≡ false)) }
-        ensures corrupt { IfSome (C.told log.old.store) (λ s. IfErr result (λ e. e ≡ Error.DataCorrupted Corrupt.ItemDoesNotDecode → list_any is_none (items_within U.form s floor log.old.tree.leaves) ≡ true)) }
+        ensures built { (ops : List model.Operation)
+            → HasOperations C.Store F.shape H.Digest.bytes H.hash U.form log.old ops
+            → NoneBelow floor ops
+            → IfSome (C.told log.old.store) (λ _. IfOk result (λ s.
+            IsBuilt Self.index_key (Self.entries self.new) s.live s.activity floor ops)) }
+        ensures decodes { (ops : List model.Operation)
+            → HasOperations C.Store F.shape H.Digest.bytes H.hash U.form log.old ops
+            → IfSome (C.told log.old.store) (λ _.
+            IfErr result (λ e. e ≢ Error.DataCorrupted Corrupt.ItemDoesNotDecode)) }
+        ensures long { IfOk result (λ s.
+            (floor + length s.activity ≡ log.old.tree.leaves) × (s.live ≤ length s.activity)) }
+        ensures decoded { IfSome (C.told log.old.store) (λ s. OnOk result
+            (list_any is_none (items_within U.form s floor log.old.tree.leaves) ≡ false)) }
+        ensures corrupt { IfSome (C.told log.old.store) (λ s.
+            IfErr result (λ e. e ≡ Error.DataCorrupted Corrupt.ItemDoesNotDecode
+            → list_any is_none (items_within U.form s floor log.old.tree.leaves) ≡ true)) }
         ensures read { IsRead C.Store F.shape H.Digest.bytes H.hash log.old log.new }
         ensures error { IfErr result (IsReadError C.Store log.old log.new) }
     {

@@ -9,7 +9,10 @@ use qm_base::ByteString;
 
 /// The map after a step under a policy that only moves is the one that its writes make of the map before.
 pub fn moves_keep_the_map<F, K: ByteString, V: ByteString>()
-    ensures proportional { KeepsTheMap unordered ⟦<Proportional as Policy<F, K, V>>⟧.rules × KeepsTheMap ordered ⟦<Proportional as Policy<F, K, V>>⟧.rules }
-    ensures hold { KeepsTheMap unordered ⟦<Hold as Policy<F, K, V>>⟧.rules × KeepsTheMap ordered ⟦<Hold as Policy<F, K, V>>⟧.rules }
-    ensures bounded { KeepsTheMap unordered ⟦<Bounded as Policy<F, K, V>>⟧.rules × KeepsTheMap ordered ⟦<Bounded as Policy<F, K, V>>⟧.rules }
+    ensures proportional { KeepsTheMap unordered ⟦<Proportional as Policy<F, K, V>>⟧.rules
+        × KeepsTheMap ordered ⟦<Proportional as Policy<F, K, V>>⟧.rules }
+    ensures hold { KeepsTheMap unordered ⟦<Hold as Policy<F, K, V>>⟧.rules
+        × KeepsTheMap ordered ⟦<Hold as Policy<F, K, V>>⟧.rules }
+    ensures bounded { KeepsTheMap unordered ⟦<Bounded as Policy<F, K, V>>⟧.rules
+        × KeepsTheMap ordered ⟦<Bounded as Policy<F, K, V>>⟧.rules }
 {}

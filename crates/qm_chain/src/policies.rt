@@ -51,7 +51,8 @@ impl<F, K: ByteString, V: ByteString> Policy<F, K, V> for Proportional {
         _alloc: Global,
         live: Entry<'a, F, K, V>,
     ) -> Result<Decision<'a, V>, AllocError>
-        ensures action { IfOk result (λ d. action_view V.bytes d ≡ write (V.bytes live.entry.value)) }
+        ensures action { IfOk result (λ d.
+            action_view V.bytes d ≡ write (V.bytes live.entry.value)) }
         ensures next { IfOk result (λ _. self.new ≡ self.old) }
     {
         Ok(live.keep())
@@ -111,7 +112,8 @@ impl<F, K: ByteString, V: ByteString> Policy<F, K, V> for Bounded {
         _alloc: Global,
         live: Entry<'a, F, K, V>,
     ) -> Result<Decision<'a, V>, AllocError>
-        ensures action { IfOk result (λ d. action_view V.bytes d ≡ write (V.bytes live.entry.value)) }
+        ensures action { IfOk result (λ d.
+            action_view V.bytes d ≡ write (V.bytes live.entry.value)) }
         ensures next { IfOk result (λ _. self.new ≡ self.old) }
     {
         Ok(live.keep())

@@ -42,8 +42,12 @@ pub trait Policy<F, K: ByteString, V: ByteString>: Drop {
         alloc: Global,
         live: Entry<'a, F, K, V>,
     ) -> Result<Decision<'a, V>, AllocError>
-        ensures action { IfOk result (λ d. action_view V.bytes d ≡ (rules.decide self.old live.entry.location (K.bytes live.entry.key) (V.bytes live.entry.value)).0) }
-        ensures next { IfOk result (λ _. self.new ≡ (rules.decide self.old live.entry.location (K.bytes live.entry.key) (V.bytes live.entry.value)).1) };
+        ensures action { IfOk result (λ d. action_view V.bytes d
+            ≡ (rules.decide self.old live.entry.location (K.bytes live.entry.key)
+            (V.bytes live.entry.value)).0) }
+        ensures next { IfOk result (λ _. self.new
+            ≡ (rules.decide self.old live.entry.location (K.bytes live.entry.key)
+            (V.bytes live.entry.value)).1) };
 
     /// Where it may not evict, it does not, and may not after it decided.
     ghost keeps: { (p : Self) (location : ℕ) (key value : List ℕ) → may_evict p ≡ false → Keeps rules may_evict p location key value };

@@ -51,7 +51,9 @@ fn swapped<'a, F, K, V: ByteString>(
     swap: &Option<(V, V)>,
     live: Entry<'a, F, K, V>,
 ) -> Result<Decision<'a, V>, AllocError>
-    ensures { IfOk result (λ d. action_view V.bytes d ≡ write (model.swapped (option_map (λ p. (V.bytes p.0, V.bytes p.1)) swap.now) (V.bytes live.entry.value))) }
+    ensures { IfOk result (λ d. action_view V.bytes d
+        ≡ write (model.swapped (option_map (λ p. (V.bytes p.0, V.bytes p.1)) swap.now)
+        (V.bytes live.entry.value))) }
 {
     match swap {
         None => Ok(live.keep()),
@@ -72,7 +74,8 @@ fn decided<'a, F, K, V: ByteString>(
     rule: &Rule<V>,
     live: Entry<'a, F, K, V>,
 ) -> Result<Decision<'a, V>, AllocError>
-    ensures { IfOk result (λ d. action_view V.bytes d ≡ rule_action V.bytes rule.now (V.bytes live.entry.value)) }
+    ensures { IfOk result (λ d.
+        action_view V.bytes d ≡ rule_action V.bytes rule.now (V.bytes live.entry.value)) }
 {
     if is_it(&rule.drop, live.value()) {
         let (decision, _value) = live.evict();
@@ -107,7 +110,8 @@ impl<F, K: ByteString, V: ByteString> Policy<F, K, V> for Rule<V> {
         alloc: Global,
         live: Entry<'a, F, K, V>,
     ) -> Result<Decision<'a, V>, AllocError>
-        ensures action { IfOk result (λ d. action_view V.bytes d ≡ rule_action V.bytes self.old (V.bytes live.entry.value)) }
+        ensures action { IfOk result (λ d.
+            action_view V.bytes d ≡ rule_action V.bytes self.old (V.bytes live.entry.value)) }
         ensures next { IfOk result (λ _. self.new ≡ self.old) }
     {
         decided(alloc, self, live)

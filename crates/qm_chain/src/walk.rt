@@ -28,7 +28,13 @@ impl<F> Walk<F> {
     /// A walk from a floor, up to a tip at most, with so many entries and skips. Limits beyond the tip do no harm.
     pub fn new(floor: Location<F>, tip: Location<F>, entries: u64, skips: u64) -> Self
         requires { floor ≤ tip }
-        ensures { result ≡ record { floor = floor; end = min tip (floor + entries + skips); entries = entries; skips = skips } }
+        ensures { result
+            ≡ record {
+              floor = floor;
+              end = min tip (floor + entries + skips);
+              entries = entries;
+              skips = skips;
+            } }
     {
         let reach = floor.get().saturating_add(entries).saturating_add(skips);
         let end = Location::new(reach.min(tip.get()));
@@ -46,7 +52,9 @@ impl<F> Walk<F> {
         requires { self.old.floor ≤ at }
         ensures reached { result ≡ nat_le (at - self.old.floor) self.old.skips }
         ensures floor { self.new.floor ≡ min at (self.old.floor + self.old.skips) }
-        ensures rest { self.new ≡ record self.old { floor = self.new.floor; skips = self.old.skips - (at - self.old.floor) } }
+        ensures rest { self.new
+            ≡ record self.old
+            { floor = self.new.floor; skips = self.old.skips - (at - self.old.floor) } }
     {
         let gap = at.get() - self.floor.get();
         if gap > self.skips {
@@ -63,7 +71,8 @@ impl<F> Walk<F> {
     pub fn decide(&mut self)
         requires entries { 0 < self.old.entries }
         requires floor { self.old.floor < 2 ^ 64 - 1 }
-        ensures { self.new ≡ record self.old { floor = self.old.floor + 1; entries = self.old.entries - 1 } }
+        ensures { self.new
+            ≡ record self.old { floor = self.old.floor + 1; entries = self.old.entries - 1 } }
     {
         self.entries -= 1;
         self.floor = Location::new(self.floor.get() + 1);
@@ -72,7 +81,8 @@ impl<F> Walk<F> {
     /// How many of these live updates, the first ones, the walk comes to if it decides each. It looks at those and one more.
     pub fn reachable(&self, candidates: &[Location<F>]) -> usize
         requires { IsRising self.now.floor candidates.now }
-        ensures { result ≡ reachable_from self.now.floor self.now.entries self.now.skips candidates.now }
+        ensures { result
+            ≡ reachable_from self.now.floor self.now.entries self.now.skips candidates.now }
     {
         let mut floor = self.floor.get();
         let mut skips = self.skips;
@@ -94,7 +104,12 @@ impl<F> Walk<F> {
     /// before.
     pub fn exhaust(&mut self)
         requires { self.old.floor ≤ self.old.end }
-        ensures { self.new ≡ record self.old { floor = min self.old.end (self.old.floor + self.old.skips); skips = self.old.skips - (self.old.end - self.old.floor) } }
+        ensures { self.new
+            ≡ record self.old {
+              floor = min self.old.end (self.old.floor + self.old.skips);
+              skips =
+                  self.old.skips - (self.old.end - self.old.floor);
+            } }
     {
         let gap = (self.end.get() - self.floor.get()).min(self.skips);
         self.floor = Location::new(self.floor.get() + gap);

@@ -85,8 +85,10 @@ pub fn chunk_start(height: u32, location: u64) -> u64
 pub fn grafted_inactive<F: Family>(height: u32, leaves: Location<F>, floor: Location<F>) -> usize
     requires low { height < 64 }
     requires few { leaves ≤ 2 ^ 62 }
-    ensures exact { result ≡ trees.inactive_peaks F.shape leaves (grafted.chunk_start height floor) }
-    ensures list { (ops : List Operation) → leaves ≡ length ops → floor ≡ live.floor ops → result ≡ grafted.grafted_inactive F.shape height ops }
+    ensures exact { result
+        ≡ trees.inactive_peaks F.shape leaves (grafted.chunk_start height floor) }
+    ensures list { (ops : List Operation) → leaves ≡ length ops → floor ≡ live.floor ops
+        → result ≡ grafted.grafted_inactive F.shape height ops }
     ensures most { result ≤ length (trees.peaks F.shape leaves) }
 {
     let start = chunk_start(height, floor.get());

@@ -20,7 +20,9 @@ pub fn chunk_value<H: Hasher>(
     node: &H::Digest,
 ) -> H::Digest
     ensures digest { H.Digest.bytes result ≡ H.hash (chunk.now ++ H.Digest.bytes node.now) }
-    ensures value { (shape : trees.Shape) (g index : ℕ) (leaves : List Bytes) (chunks : ℕ → Bytes) → chunk.now ≡ chunks index → H.Digest.bytes node.now ≡ trees.digest H.hash shape leaves g index
+    ensures value { (shape : trees.Shape) (g index : ℕ) (leaves : List Bytes) (chunks : ℕ → Bytes)
+        → chunk.now ≡ chunks index
+        → H.Digest.bytes node.now ≡ trees.digest H.hash shape leaves g index
         → H.Digest.bytes result ≡ grafted.value_over H.hash shape g leaves chunks 0 index }
     ensures made { hasher.new ≡ more hasher.old 1 }
 {
@@ -43,9 +45,14 @@ pub fn node_value<F: Family, H: Hasher>(
     right: &H::Digest,
 ) -> H::Digest
     requires { trees.end_of node ≤ 2 ^ 62 }
-    ensures digest { H.Digest.bytes result ≡ trees.node_digest H.hash (trees.Shape.number F.shape node) (H.Digest.bytes left.now) (H.Digest.bytes right.now) }
-    ensures value { (g k index : ℕ) (leaves : List Bytes) (chunks : ℕ → Bytes) → node ≡ record { height = suc k + g; index = index }
-        → H.Digest.bytes left.now ≡ grafted.value_over H.hash F.shape g leaves chunks k (2 * index) → H.Digest.bytes right.now ≡ grafted.value_over H.hash F.shape g leaves chunks k (2 * index + 1)
+    ensures digest { H.Digest.bytes result
+        ≡ trees.node_digest H.hash (trees.Shape.number F.shape node) (H.Digest.bytes left.now)
+        (H.Digest.bytes right.now) }
+    ensures value { (g k index : ℕ) (leaves : List Bytes) (chunks : ℕ → Bytes)
+        → node ≡ record { height = suc k + g; index = index }
+        → H.Digest.bytes left.now ≡ grafted.value_over H.hash F.shape g leaves chunks k (2 * index)
+        → H.Digest.bytes right.now
+        ≡ grafted.value_over H.hash F.shape g leaves chunks k (2 * index + 1)
         → H.Digest.bytes result ≡ grafted.value_over H.hash F.shape g leaves chunks (suc k) index }
     ensures made { hasher.new ≡ more hasher.old 1 }
 {
@@ -55,9 +62,11 @@ pub fn node_value<F: Family, H: Hasher>(
 /// The digest of a chunk that is not grafted: of the pending one, or of the partial one.
 pub fn chunk_digest<H: Hasher>(hasher: &mut StandardHasher<H>, chunk: &[u8]) -> H::Digest
     ensures digest { H.Digest.bytes result ≡ H.hash chunk.now }
-    ensures pending { (shape : trees.Shape) (g c : ℕ) (ops : List Operation) → grafted.pending_chunk shape g (length ops) ≡ Some c → chunk.now ≡ grafted.chunk_of g ops c
+    ensures pending { (shape : trees.Shape) (g c : ℕ) (ops : List Operation)
+        → grafted.pending_chunk shape g (length ops) ≡ Some c → chunk.now ≡ grafted.chunk_of g ops c
         → grafted.pending_digest H.hash shape g ops ≡ Some (H.Digest.bytes result) }
-    ensures partial { (shape : trees.Shape) (g c : ℕ) (ops : List Operation) → bits.partial_chunk (2 ^ g) (length ops) ≡ Some c → chunk.now ≡ grafted.chunk_of g ops c
+    ensures partial { (shape : trees.Shape) (g c : ℕ) (ops : List Operation)
+        → bits.partial_chunk (2 ^ g) (length ops) ≡ Some c → chunk.now ≡ grafted.chunk_of g ops c
         → grafted.partial_digest H.hash shape g ops ≡ Some (H.Digest.bytes result) }
     ensures made { hasher.new ≡ more hasher.old 1 }
 {
@@ -73,8 +82,12 @@ pub fn grafted_root<F: Family, H: Hasher>(
     values: &[H::Digest],
 ) -> H::Digest
     requires { inactive ≤ length values.now }
-    ensures digest { H.Digest.bytes result ≡ trees.root_of H.hash leaves inactive (map H.Digest.bytes values.now) }
-    ensures root { (g : ℕ) (list : List Bytes) (chunks : ℕ → Bytes) → leaves ≡ length list → map H.Digest.bytes values.now ≡ map (grafted.grafted_value H.hash F.shape g list chunks) (trees.peaks F.shape (length list))
+    ensures digest { H.Digest.bytes result
+        ≡ trees.root_of H.hash leaves inactive (map H.Digest.bytes values.now) }
+    ensures root { (g : ℕ) (list : List Bytes) (chunks : ℕ → Bytes) → leaves ≡ length list
+        → map H.Digest.bytes values.now
+        ≡ map (grafted.grafted_value H.hash F.shape g list chunks)
+        (trees.peaks F.shape (length list))
         → H.Digest.bytes result ≡ grafted.grafted_root_of H.hash F.shape g list chunks inactive }
     ensures made { hasher.new ≡ more hasher.old (max 1 (length values.now)) }
 {
@@ -90,9 +103,16 @@ pub fn canonical_root<H: Hasher>(
     pending: Option<H::Digest>,
     partial: Option<(u64, H::Digest)>,
 ) -> H::Digest
-    ensures digest { H.Digest.bytes result ≡ H.hash (grafted.canonical_input (H.Digest.bytes ops_root.now) (H.Digest.bytes grafted_root.now) (option_map H.Digest.bytes pending) (partial_view H.Digest.bytes partial)) }
-    ensures canonical { (shape : trees.Shape) (g : ℕ) (form : Form) (ops : List Operation) → H.Digest.bytes ops_root.now ≡ trees.ops_root H.hash shape form ops → H.Digest.bytes grafted_root.now ≡ grafted.grafted_root H.hash shape g form ops
-        → option_map H.Digest.bytes pending ≡ grafted.pending_digest H.hash shape g ops → partial_view H.Digest.bytes partial ≡ grafted.partial_of H.hash shape g (length ops) (grafted.partial_digest H.hash shape g ops)
+    ensures digest { H.Digest.bytes result
+        ≡ H.hash (grafted.canonical_input (H.Digest.bytes ops_root.now)
+        (H.Digest.bytes grafted_root.now) (option_map H.Digest.bytes pending)
+        (partial_view H.Digest.bytes partial)) }
+    ensures canonical { (shape : trees.Shape) (g : ℕ) (form : Form) (ops : List Operation)
+        → H.Digest.bytes ops_root.now ≡ trees.ops_root H.hash shape form ops
+        → H.Digest.bytes grafted_root.now ≡ grafted.grafted_root H.hash shape g form ops
+        → option_map H.Digest.bytes pending ≡ grafted.pending_digest H.hash shape g ops
+        → partial_view H.Digest.bytes partial
+        ≡ grafted.partial_of H.hash shape g (length ops) (grafted.partial_digest H.hash shape g ops)
         → H.Digest.bytes result ≡ grafted.canonical H.hash shape g form ops }
     ensures made { hasher.new ≡ more hasher.old 1 }
 {
@@ -110,7 +130,9 @@ fn with_partial<H: Hasher>(
     pending: &[u8],
     partial: Option<(u64, H::Digest)>,
 ) -> H::Digest
-    ensures digest { H.Digest.bytes result ≡ H.hash (roots.entry.0.now ++ roots.entry.1.now ++ pending.now ++ grafted.partial_part (partial_view H.Digest.bytes partial)) }
+    ensures digest { H.Digest.bytes result
+        ≡ H.hash (roots.entry.0.now ++ roots.entry.1.now ++ pending.now
+        ++ grafted.partial_part (partial_view H.Digest.bytes partial)) }
     ensures made { hasher.new ≡ more hasher.old 1 }
 {
     match partial {
@@ -133,7 +155,9 @@ fn counted<H: Hasher>(
     count: &[u8],
     digest: &[u8],
 ) -> H::Digest
-    ensures digest { H.Digest.bytes result ≡ H.hash (roots.entry.0.now ++ roots.entry.1.now ++ pending.now ++ count.now ++ digest.now) }
+    ensures digest { H.Digest.bytes result
+        ≡ H.hash
+        (roots.entry.0.now ++ roots.entry.1.now ++ pending.now ++ count.now ++ digest.now) }
     ensures made { hasher.new ≡ more hasher.old 1 }
 {
     hasher.digest(&[roots.0, roots.1, pending, count, digest])

@@ -55,7 +55,9 @@ fn push_line<K: ByteString, V: ByteString, D: Digest>(
     text: &mut Vec<u8>,
     reply: &Reply<K, V, D>,
 ) -> Result<(), AllocError>
-    ensures ok { OnOk result (text.new.items ≡ text.old.items ++ (reply_line (answer_view K.bytes V.bytes D.bytes reply.now) ++ 10 ∷ [])) }
+    ensures ok { OnOk result (text.new.items
+        ≡ text.old.items
+        ++ (reply_line (answer_view K.bytes V.bytes D.bytes reply.now) ++ 10 ∷ [])) }
     ensures err { OnErr result (text.new.items ≡ text.old.items) }
 {
     let mut line = reply_text(alloc, reply)?;
@@ -74,18 +76,28 @@ fn answer<X: Engine<C>, C: Store, P: Policy<X::Family, X::Key, X::Value> + Twin>
 ) -> (SessionOf<X, C>, Option<Ending>)
     requires { session.opened + 1 < 2 ^ 64 }
     ensures machine { (s : machine.State) → Stands C.Store X.Meaning session s → IsSteady X.scheme s
-        → (more rest : List ℕ) → Turns (C.told (store_given X.inside session.held)) (C.told (store_given X.inside result.0.held)) (IsBeside more) → s.choices ≡ more ++ rest → IfNone result.1
+        → (more rest : List ℕ)
+        → Turns (C.told (store_given X.inside session.held))
+        (C.told (store_given X.inside result.0.held)) (IsBeside more) → s.choices ≡ more ++ rest
+        → IfNone result.1
         (let next = machine.turn X.scheme P.rules s (line_view X.Key.bytes X.Value.bytes (λ p. p) command.now) in
-        Apart X.scheme.root next.1.had → (text.new.items ≡ text.old.items ++ (reply_line next.0 ++ 10 ∷ []))
+        Apart X.scheme.root next.1.had
+        → (text.new.items ≡ text.old.items ++ (reply_line next.0 ++ 10 ∷ []))
         × Stands C.Store X.Meaning result.0 next.1) }
-    ensures left { LeavesSteady C.Store X.Meaning session result.0
-        (λ s. machine.turn X.scheme P.rules s (line_view X.Key.bytes X.Value.bytes (λ p. p) command.now)) }
+    ensures left { LeavesSteady C.Store X.Meaning session result.0 (λ s. machine.turn X.scheme
+        P.rules s (line_view X.Key.bytes X.Value.bytes (λ p. p) command.now)) }
     ensures kept { OnSome result.1 (text.new.items ≡ text.old.items) }
     ensures cause { IfSome result.1 (λ e. (e ≢ Ending.Done) × (e ≢ Ending.BadLine)) }
-    ensures beside { (more : List ℕ) × Turns (C.told (store_given X.inside session.held)) (C.told (store_given X.inside result.0.held)) (IsBeside more)
-        × IfNone result.1 (IsChosen (line_view X.Key.bytes X.Value.bytes (λ p. p) command.now) more) }
-    ensures later { C.faults (store_given X.inside session.held) ≤ C.faults (store_given X.inside result.0.held) }
-    ensures fault { result.1 ≡ Some Ending.StoreFault → Rose (C.faults (store_given X.inside session.held)) (C.faults (store_given X.inside result.0.held)) }
+    ensures beside { (more : List ℕ)
+        × Turns (C.told (store_given X.inside session.held))
+        (C.told (store_given X.inside result.0.held)) (IsBeside more)
+        × IfNone result.1
+        (IsChosen (line_view X.Key.bytes X.Value.bytes (λ p. p) command.now) more) }
+    ensures later { C.faults (store_given X.inside session.held)
+        ≤ C.faults (store_given X.inside result.0.held) }
+    ensures fault { result.1 ≡ Some Ending.StoreFault
+        → Rose (C.faults (store_given X.inside session.held))
+        (C.faults (store_given X.inside result.0.held)) }
     ensures opened { result.0.opened ≤ session.opened + 1 }
 {
     let (session, turn) = turn::<X, C, P>(alloc, config, session, command);
@@ -113,22 +125,34 @@ fn answer_line<X: Engine<C, Key = ByteKey, Value = ByteValue>, C: Store>(
 ) -> (SessionOf<X, C>, Option<Ending>)
     requires { session.opened + 1 < 2 ^ 64 }
     ensures machine { (s : machine.State) → Stands C.Store X.Meaning session s → IsSteady X.scheme s
-        → (more rest : List ℕ) → Turns (C.told (store_given X.inside session.held)) (C.told (store_given X.inside result.0.held)) (IsBeside more) → s.choices ≡ more ++ rest → IfNone result.1 (IfSome (line_of line.now) (λ command.
+        → (more rest : List ℕ)
+        → Turns (C.told (store_given X.inside session.held))
+        (C.told (store_given X.inside result.0.held)) (IsBeside more) → s.choices ≡ more ++ rest
+        → IfNone result.1 (IfSome (line_of line.now) (λ command.
         let next = machine.turn X.scheme policies s command in
-        Apart X.scheme.root next.1.had → (text.new.items ≡ text.old.items ++ (reply_line next.0 ++ 10 ∷ []))
+        Apart X.scheme.root next.1.had
+        → (text.new.items ≡ text.old.items ++ (reply_line next.0 ++ 10 ∷ []))
         × Stands C.Store X.Meaning result.0 next.1)) }
-    ensures left { (s : machine.State) → Stands C.Store X.Meaning session s → IsSteady X.scheme s → Apart X.scheme.root s.had
-        → IsLeft X.scheme (C.told (store_given X.inside result.0.held)) s.log (after_line X.scheme policies s (line_of line.now)).log }
+    ensures left { (s : machine.State) → Stands C.Store X.Meaning session s → IsSteady X.scheme s
+        → Apart X.scheme.root s.had
+        → IsLeft X.scheme (C.told (store_given X.inside result.0.held)) s.log
+        (after_line X.scheme policies s (line_of line.now)).log }
     ensures kept { OnSome result.1 (text.new.items ≡ text.old.items) }
     ensures command { IfNone result.1 (IsSome (line_of line.now)) }
-    ensures unused { line_of line.now ≡ None → C.told (store_given X.inside result.0.held) ≡ C.told (store_given X.inside session.held) }
+    ensures unused { line_of line.now ≡ None
+        → C.told (store_given X.inside result.0.held) ≡ C.told (store_given X.inside session.held) }
     ensures bad { result.1 ≡ Some Ending.BadLine → line_of line.now ≡ None }
     ensures fault_command { result.1 ≡ Some Ending.StoreFault → IsSome (line_of line.now) }
     ensures not_done { IfSome result.1 (λ e. e ≢ Ending.Done) }
-    ensures beside { (more : List ℕ) × Turns (C.told (store_given X.inside session.held)) (C.told (store_given X.inside result.0.held)) (IsBeside more)
+    ensures beside { (more : List ℕ)
+        × Turns (C.told (store_given X.inside session.held))
+        (C.told (store_given X.inside result.0.held)) (IsBeside more)
         × IfNone result.1 (IfSome (line_of line.now) (λ command. IsChosen command more)) }
-    ensures later { C.faults (store_given X.inside session.held) ≤ C.faults (store_given X.inside result.0.held) }
-    ensures fault { result.1 ≡ Some Ending.StoreFault → Rose (C.faults (store_given X.inside session.held)) (C.faults (store_given X.inside result.0.held)) }
+    ensures later { C.faults (store_given X.inside session.held)
+        ≤ C.faults (store_given X.inside result.0.held) }
+    ensures fault { result.1 ≡ Some Ending.StoreFault
+        → Rose (C.faults (store_given X.inside session.held))
+        (C.faults (store_given X.inside result.0.held)) }
     ensures opened { result.0.opened ≤ session.opened + 1 }
 {
     match parse_line(alloc, line) {
@@ -153,16 +177,24 @@ pub fn answer_lines<X: Engine<C, Key = ByteKey, Value = ByteValue>, C: Store, G:
     input: &[u8],
     _gate: &G,
 ) -> Answered<C>
-    ensures machine { IfSome (C.told store) (λ stored. (log : Log) → IsOwn (engine_of X.scheme policies) log stored
-        → (choices : List ℕ) → Turns (C.told store) (C.told result.store) (IsBeside choices)
-        → IsAnswered X.scheme policies log choices (commands_in input.now) result.answered result.text.items (C.told result.store)) }
-    ensures done { result.ending ≡ Ending.Done → (result.answered ≡ length (commands_in input.now)) × (bad_in input.now ≡ None) }
-    ensures bad { result.ending ≡ Ending.BadLine → (result.answered ≡ length (commands_in input.now)) × (bad_in input.now ≡ Some (result.answered + 1)) }
-    ensures short { result.ending ≡ Ending.StoreFault → result.answered < length (commands_in input.now) }
-    ensures beside { (choices : List ℕ) × Turns (C.told store) (C.told result.store) (IsBeside choices) }
+    ensures machine { IfSome (C.told store) (λ stored.
+        (log : Log) → IsOwn (engine_of X.scheme policies) log stored → (choices : List ℕ)
+        → Turns (C.told store) (C.told result.store) (IsBeside choices)
+        → IsAnswered X.scheme policies log choices (commands_in input.now) result.answered
+        result.text.items (C.told result.store)) }
+    ensures done { result.ending ≡ Ending.Done
+        → (result.answered ≡ length (commands_in input.now)) × (bad_in input.now ≡ None) }
+    ensures bad { result.ending ≡ Ending.BadLine
+        → (result.answered ≡ length (commands_in input.now))
+        × (bad_in input.now ≡ Some (result.answered + 1)) }
+    ensures short { result.ending ≡ Ending.StoreFault
+        → result.answered < length (commands_in input.now) }
+    ensures beside { (choices : List ℕ)
+        × Turns (C.told store) (C.told result.store) (IsBeside choices) }
     ensures bound { result.answered ≤ length input.now }
     ensures later { C.faults store ≤ C.faults result.store }
-    ensures fault { result.ending ≡ Ending.StoreFault → Rose (C.faults store) (C.faults result.store) }
+    ensures fault { result.ending ≡ Ending.StoreFault
+        → Rose (C.faults store) (C.faults result.store) }
 {
     let mut text = Vec::new(alloc);
     let mut answered = 0;

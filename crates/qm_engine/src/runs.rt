@@ -64,19 +64,31 @@ fn step<X: Engine<C>, C: Store, P: Policy<X::Family, X::Key, X::Value> + Twin>(
 ) -> (SessionOf<X, C>, Option<End>)
     requires { session.opened + 1 < 2 ^ 64 }
     ensures machine { (s : machine.State) → Stands C.Store X.Meaning session s → IsSteady X.scheme s
-        → (more rest : List ℕ) → Turns (C.told (store_given X.inside session.held)) (C.told (store_given X.inside result.0.held)) (IsBeside more) → s.choices ≡ more ++ rest → IfNone result.1
+        → (more rest : List ℕ)
+        → Turns (C.told (store_given X.inside session.held))
+        (C.told (store_given X.inside result.0.held)) (IsBeside more) → s.choices ≡ more ++ rest
+        → IfNone result.1
         (let next = machine.turn X.scheme P.rules s (line_view X.Key.bytes X.Value.bytes (λ p. p) command.now) in
-        Apart X.scheme.root next.1.had → (map (answer_view X.Key.bytes X.Value.bytes X.Digest.bytes) replies.new.items ≡ map (answer_view X.Key.bytes X.Value.bytes X.Digest.bytes) replies.old.items ++ next.0 ∷ [])
+        Apart X.scheme.root next.1.had
+        → (map (answer_view X.Key.bytes X.Value.bytes X.Digest.bytes) replies.new.items
+        ≡ map (answer_view X.Key.bytes X.Value.bytes X.Digest.bytes) replies.old.items ++ next.0
+        ∷ [])
         × Stands C.Store X.Meaning result.0 next.1) }
-    ensures left { LeavesSteady C.Store X.Meaning session result.0
-        (λ s. machine.turn X.scheme P.rules s (line_view X.Key.bytes X.Value.bytes (λ p. p) command.now)) }
+    ensures left { LeavesSteady C.Store X.Meaning session result.0 (λ s. machine.turn X.scheme
+        P.rules s (line_view X.Key.bytes X.Value.bytes (λ p. p) command.now)) }
     ensures grown { IfNone result.1 (length replies.new.items ≡ length replies.old.items + 1) }
     ensures kept { OnSome result.1 (replies.new.items ≡ replies.old.items) }
     ensures not_done { IfSome result.1 (λ e. e ≢ End.Done) }
-    ensures beside { (more : List ℕ) × Turns (C.told (store_given X.inside session.held)) (C.told (store_given X.inside result.0.held)) (IsBeside more)
-        × IfNone result.1 (IsChosen (line_view X.Key.bytes X.Value.bytes (λ p. p) command.now) more) }
-    ensures later { C.faults (store_given X.inside session.held) ≤ C.faults (store_given X.inside result.0.held) }
-    ensures fault { result.1 ≡ Some End.StoreFault → Rose (C.faults (store_given X.inside session.held)) (C.faults (store_given X.inside result.0.held)) }
+    ensures beside { (more : List ℕ)
+        × Turns (C.told (store_given X.inside session.held))
+        (C.told (store_given X.inside result.0.held)) (IsBeside more)
+        × IfNone result.1
+        (IsChosen (line_view X.Key.bytes X.Value.bytes (λ p. p) command.now) more) }
+    ensures later { C.faults (store_given X.inside session.held)
+        ≤ C.faults (store_given X.inside result.0.held) }
+    ensures fault { result.1 ≡ Some End.StoreFault
+        → Rose (C.faults (store_given X.inside session.held))
+        (C.faults (store_given X.inside result.0.held)) }
     ensures opened { result.0.opened ≤ session.opened + 1 }
 {
     let (session, turn) = turn::<X, C, P>(alloc, config, session, command);
@@ -92,7 +104,9 @@ fn step<X: Engine<C>, C: Store, P: Policy<X::Family, X::Key, X::Value> + Twin>(
 
 // A session with a closed store, and no batch.
 pub(crate) fn begin<X: Common<C>, C: Store>(alloc: Global, store: C) -> Result<SessionOf<X, C>, C>
-    ensures session { IfOk result (λ session. (log : Log) (choices : List ℕ) → HasLog X.scheme (C.told store) log → log.start ≤ log.stable → log.stable ≤ length log.list → Stands C.Store X.Meaning session (machine.initial log choices)) }
+    ensures session { IfOk result (λ session. (log : Log) (choices : List ℕ)
+        → HasLog X.scheme (C.told store) log → log.start ≤ log.stable → log.stable ≤ length log.list
+        → Stands C.Store X.Meaning session (machine.initial log choices)) }
     ensures store { IfOk result (λ session. store_given X.inside session.held ≡ store) }
     ensures opened { IfOk result (λ session. session.opened ≡ 0) }
     ensures back { IfErr result (λ c. c ≡ store) }
@@ -117,12 +131,18 @@ pub fn run<X: Engine<C>, C: Store, P: Policy<X::Family, X::Key, X::Value> + Twin
     commands: &[Command<X::Key, X::Value, P>],
     _gate: &G,
 ) -> Outcome<X, C>
-    ensures machine { IfSome (C.told store) (λ stored. (log : Log) → IsOwn (engine_of X.scheme P.rules) log stored
-        → (choices : List ℕ) → Turns (C.told store) (C.told result.store) (IsBeside choices) → IsRun X.scheme P.rules log choices
-        (map (line_view X.Key.bytes X.Value.bytes (λ p. p)) commands.now) (map (answer_view X.Key.bytes X.Value.bytes X.Digest.bytes) result.replies.items) (C.told result.store)) }
+    ensures machine { IfSome (C.told store) (λ stored.
+        (log : Log) → IsOwn (engine_of X.scheme P.rules) log stored → (choices : List ℕ)
+        → Turns (C.told store) (C.told result.store) (IsBeside choices)
+        → IsRun X.scheme P.rules log choices
+        (map (line_view X.Key.bytes X.Value.bytes (λ p. p)) commands.now)
+        (map (answer_view X.Key.bytes X.Value.bytes X.Digest.bytes) result.replies.items)
+        (C.told result.store)) }
     ensures done { result.end ≡ End.Done → length result.replies.items ≡ length commands.now }
-    ensures short { result.end ≡ End.StoreFault → length result.replies.items < length commands.now }
-    ensures beside { (choices : List ℕ) × Turns (C.told store) (C.told result.store) (IsBeside choices) }
+    ensures short { result.end ≡ End.StoreFault
+        → length result.replies.items < length commands.now }
+    ensures beside { (choices : List ℕ)
+        × Turns (C.told store) (C.told result.store) (IsBeside choices) }
     ensures later { C.faults store ≤ C.faults result.store }
     ensures fault { result.end ≡ End.StoreFault → Rose (C.faults store) (C.faults result.store) }
 {

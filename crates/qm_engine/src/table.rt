@@ -47,7 +47,8 @@ pub fn take_writing<B: Drop, S: Drop, M: Drop>(
     number: u64,
 ) -> Option<B>
     ensures value { result ≡ writing_of (slice_index_or table.old.items number Slot.Gone) }
-    ensures table { table.new.items ≡ (if is_some result then slice_set table.old.items number Slot.Gone else table.old.items) }
+    ensures table { table.new.items
+        ≡ (if is_some result then slice_set table.old.items number Slot.Gone else table.old.items) }
 {
     match take_slot(table, number) {
         Slot::Writing(batch) => Some(batch),
@@ -64,7 +65,8 @@ pub fn take_staged<B: Drop, S: Drop, M: Drop>(
     number: u64,
 ) -> Option<S>
     ensures value { result ≡ staged_of (slice_index_or table.old.items number Slot.Gone) }
-    ensures table { table.new.items ≡ (if is_some result then slice_set table.old.items number Slot.Gone else table.old.items) }
+    ensures table { table.new.items
+        ≡ (if is_some result then slice_set table.old.items number Slot.Gone else table.old.items) }
 {
     match take_slot(table, number) {
         Slot::Staged(batch) => Some(batch),
@@ -77,7 +79,8 @@ pub fn take_staged<B: Drop, S: Drop, M: Drop>(
 
 /// Lends what a number names. Past the table it names nothing.
 pub fn slot_at<B, S, M>(table: &Vec<Slot<B, S, M>>, number: u64) -> Option<&Slot<B, S, M>>
-    ensures { unwrap_or (option_copied result) Slot.Gone ≡ slice_index_or table.now.items number Slot.Gone }
+    ensures { unwrap_or (option_copied result) Slot.Gone
+        ≡ slice_index_or table.now.items number Slot.Gone }
 {
     let at = number as usize;
     if at < table.len() {
@@ -89,7 +92,8 @@ pub fn slot_at<B, S, M>(table: &Vec<Slot<B, S, M>>, number: u64) -> Option<&Slot
 
 /// Lends a merkleized batch.
 pub fn merkleized_at<B, S, M>(table: &Vec<Slot<B, S, M>>, number: u64) -> Option<&M>
-    ensures { option_copied result ≡ merkleized_of (slice_index_or table.now.items number Slot.Gone) }
+    ensures { option_copied result
+        ≡ merkleized_of (slice_index_or table.now.items number Slot.Gone) }
 {
     let at = number as usize;
     if at < table.len() {

@@ -34,8 +34,10 @@ pub fn turn<X: Engine<C>, C: Store, P: Policy<X::Family, X::Key, X::Value> + Twi
     command: &Command<X::Key, X::Value, P>,
 ) -> (SessionOf<X, C>, Turn<X::Key, X::Value, X::Digest>)
     requires { session.opened + 1 < 2 ^ 64 }
-    ensures { Performs C.Store X.Meaning X.Key.bytes X.Value.bytes X.Digest.bytes (line_view X.Key.bytes X.Value.bytes (λ p. p) command.now)
-        (λ s. machine.turn X.scheme P.rules s (line_view X.Key.bytes X.Value.bytes (λ p. p) command.now)) session result.0 result.1 }
+    ensures { Performs C.Store X.Meaning X.Key.bytes X.Value.bytes X.Digest.bytes
+        (line_view X.Key.bytes X.Value.bytes (λ p. p) command.now) (λ s.
+        machine.turn X.scheme P.rules s (line_view X.Key.bytes X.Value.bytes (λ p. p) command.now))
+        session result.0 result.1 }
 {
     match command {
         Command::Batch(command) => {
@@ -60,7 +62,10 @@ fn batch_turn<X: Staging<C>, C: Store, P: Policy<X::Family, X::Key, X::Value> + 
     session: &mut SessionOf<X, C>,
     command: &BatchCommand<X::Key, X::Value, P>,
 ) -> Turn<X::Key, X::Value, X::Digest>
-    ensures { Performs C.Store X.Meaning X.Key.bytes X.Value.bytes X.Digest.bytes (batch_view X.Key.bytes X.Value.bytes (λ p. p) command.now) (λ s. machine.turn X.scheme P.rules s (batch_view X.Key.bytes X.Value.bytes (λ p. p) command.now)) session.old session.new result }
+    ensures { Performs C.Store X.Meaning X.Key.bytes X.Value.bytes X.Digest.bytes
+        (batch_view X.Key.bytes X.Value.bytes (λ p. p) command.now) (λ s.
+        machine.turn X.scheme P.rules s (batch_view X.Key.bytes X.Value.bytes (λ p. p) command.now))
+        session.old session.new result }
 {
     match command {
         BatchCommand::Batch => batch::<X, C>(alloc, session),
@@ -91,7 +96,10 @@ fn read_turn<
     session: &mut SessionOf<X, C>,
     command: &ReadCommand<X::Key>,
 ) -> Turn<X::Key, X::Value, X::Digest>
-    ensures { Performs {P = P} C.Store X.Meaning X.Key.bytes X.Value.bytes X.Digest.bytes (read_view X.Key.bytes X.Value.bytes command.now) (λ s. machine.turn X.scheme P.rules s (read_view X.Key.bytes X.Value.bytes command.now)) session.old session.new result }
+    ensures { Performs {P = P} C.Store X.Meaning X.Key.bytes X.Value.bytes X.Digest.bytes
+        (read_view X.Key.bytes X.Value.bytes command.now) (λ s.
+        machine.turn X.scheme P.rules s (read_view X.Key.bytes X.Value.bytes command.now))
+        session.old session.new result }
 {
     match command {
         ReadCommand::Get(key, from) => read_key::<X, C>(alloc, session, key, *from),
@@ -111,7 +119,10 @@ fn info_turn<X: Reading<C> + Proving<C>, C: Store, P: Policy<X::Family, X::Key, 
     session: &mut SessionOf<X, C>,
     command: &InfoCommand<X::Key>,
 ) -> Turn<X::Key, X::Value, X::Digest>
-    ensures { Performs {P = P} C.Store X.Meaning X.Key.bytes X.Value.bytes X.Digest.bytes (info_view X.Key.bytes X.Value.bytes command.now) (λ s. machine.turn X.scheme P.rules s (info_view X.Key.bytes X.Value.bytes command.now)) session.old session.new result }
+    ensures { Performs {P = P} C.Store X.Meaning X.Key.bytes X.Value.bytes X.Digest.bytes
+        (info_view X.Key.bytes X.Value.bytes command.now) (λ s.
+        machine.turn X.scheme P.rules s (info_view X.Key.bytes X.Value.bytes command.now))
+        session.old session.new result }
 {
     match command {
         InfoCommand::Ops(number) => ops::<X, C>(alloc, session, *number),
@@ -137,7 +148,10 @@ fn held_turn<X: Durable<C> + Batching<C>, C: Store, P: Policy<X::Family, X::Key,
     command: &StoreCommand,
 ) -> (Given<X, C>, Turn<X::Key, X::Value, X::Digest>)
     requires { opened.old + 1 < 2 ^ 64 }
-    ensures { PerformsHeld {P = P} C.Store X.Meaning X.Key.bytes X.Value.bytes X.Digest.bytes (store_view X.Key.bytes X.Value.bytes command.now) (λ s. machine.turn X.scheme P.rules s (store_view X.Key.bytes X.Value.bytes command.now)) table.now.items opened.old held opened.new result.0 result.1 }
+    ensures { PerformsHeld {P = P} C.Store X.Meaning X.Key.bytes X.Value.bytes X.Digest.bytes
+        (store_view X.Key.bytes X.Value.bytes command.now) (λ s.
+        machine.turn X.scheme P.rules s (store_view X.Key.bytes X.Value.bytes command.now))
+        table.now.items opened.old held opened.new result.0 result.1 }
 {
     match command {
         StoreCommand::Open(max_size) => open::<X, C>(alloc, config, held, opened, *max_size),
@@ -159,7 +173,10 @@ fn store_turn<X: Durable<C> + Batching<C>, C: Store, P: Policy<X::Family, X::Key
     command: &StoreCommand,
 ) -> (SessionOf<X, C>, Turn<X::Key, X::Value, X::Digest>)
     requires { session.opened + 1 < 2 ^ 64 }
-    ensures { Performs {P = P} C.Store X.Meaning X.Key.bytes X.Value.bytes X.Digest.bytes (store_view X.Key.bytes X.Value.bytes command.now) (λ s. machine.turn X.scheme P.rules s (store_view X.Key.bytes X.Value.bytes command.now)) session result.0 result.1 }
+    ensures { Performs {P = P} C.Store X.Meaning X.Key.bytes X.Value.bytes X.Digest.bytes
+        (store_view X.Key.bytes X.Value.bytes command.now) (λ s.
+        machine.turn X.scheme P.rules s (store_view X.Key.bytes X.Value.bytes command.now)) session
+        result.0 result.1 }
 {
     let Session {
         held,

@@ -253,7 +253,8 @@ impl<F: Read + Seek + OpenFile + FileExt + Drop> LogFile<F> {
     // Notes where these end after the last item, all of them or none.
     fn note(&mut self, added: &[Vec<u8>]) -> Result<(), StoreError>
         requires room { end_of self.old + length added.now ≤ 2 ^ 62 }
-        ensures ok { OnOk result (self.new ≡ record self.old { count = self.old.count + length added.now }) }
+        ensures ok { OnOk result
+            (self.new ≡ record self.old { count = self.old.count + length added.now }) }
         ensures err { OnErr result (self.new ≡ self.old) }
     {
         let count = self.ends.len();

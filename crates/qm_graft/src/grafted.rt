@@ -120,14 +120,17 @@ impl<F: Family, N: Chunks> Family for Grafted<F, N> {
     fn subtree_root_position(start: Location<Self>, height: u32) -> Position<Self>
         requires whole { (index : ℕ) × (start ≡ index * 2 ^ height) }
         requires within { start + 2 ^ height ≤ 2 ^ 62 }
-        ensures { (index : ℕ) → start ≡ index * 2 ^ height → result ≡ trees.Shape.position F.shape (record { height = height; index = index }) }
+        ensures { (index : ℕ) → start ≡ index * 2 ^ height
+            → result ≡ trees.Shape.position F.shape (record { height = height; index = index }) }
     {
         Position::new(F::subtree_root_position(Location::new(start.get()), height).get())
     }
 
     fn peak_birth_size(position: Position<Self>, height: u32) -> Location<Self>
         requires { StandsAt (kept_shape F.shape (grafting N.LEN)) height position }
-        ensures { (index : ℕ) → trees.Shape.position F.shape (record { height = height; index = index }) ≡ position → result ≡ trees.Shape.birth F.shape (record { height = height; index = index }) }
+        ensures { (index : ℕ)
+            → trees.Shape.position F.shape (record { height = height; index = index }) ≡ position
+            → result ≡ trees.Shape.birth F.shape (record { height = height; index = index }) }
     {
         Location::new(F::peak_birth_size(Position::new(position.get()), height).get())
     }

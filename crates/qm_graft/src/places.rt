@@ -74,7 +74,9 @@ pub fn lowered(height: u32, node: Node) -> Node
 /// Where in the grafted tree a node stands of the tree of operations, where it is as high as a chunk's or higher.
 pub fn grafted_position<F: Graftable, N: Chunks>(node: Node) -> Option<Position<Grafted<F, N>>>
     requires { trees.end_of node ≤ 2 ^ 62 }
-    ensures { result ≡ (if nat_lt node.height (grafting N.LEN) then None else Some (trees.Shape.position F.shape (grafted.lowered (grafting N.LEN) node))) }
+    ensures { result
+        ≡ (if nat_lt node.height (grafting N.LEN) then None else Some
+        (trees.Shape.position F.shape (grafted.lowered (grafting N.LEN) node))) }
 {
     let height = height::<N>();
     if node.height() < height {

@@ -47,7 +47,8 @@ fn peak_values<F: Family, D: Digest, V: Nodes<F, D>>(
 ) -> Result<Vec<D>, AllocError>
     requires few { leaves ≤ 2 ^ 62 }
     requires held { HoldsPeaks (V.node_at view.now) F.shape leaves }
-    ensures held { IfOk result (λ v. map Some v.items ≡ map (V.node_at view.now) (trees.peak_positions F.shape leaves)) }
+    ensures held { IfOk result (λ v.
+        map Some v.items ≡ map (V.node_at view.now) (trees.peak_positions F.shape leaves)) }
     ensures count { IfOk result (λ v. length v.items ≡ length (trees.peaks F.shape leaves)) }
 {
     let positions = F::nodes_to_pin(alloc, leaves)?;
@@ -64,10 +65,14 @@ fn root_of<F: Graftable, N: Chunks, H: Hasher, V: Nodes<F, H::Digest>>(
 ) -> Result<H::Digest, AllocError>
     requires few { leaves ≤ 2 ^ 62 }
     requires held { HoldsPeaks (V.node_at view.now) F.shape leaves }
-    ensures root { (form : Form) (ops : List Operation) → leaves ≡ length ops → floor ≡ live.floor ops
-        → TellsPeaks H.Digest.bytes H.hash (V.node_at view.now) F.shape (grafting N.LEN) (trees.leaves_from H.hash F.shape form 0 ops) (grafted.chunk_of (grafting N.LEN) ops)
-        → IfOk result (λ d. H.Digest.bytes d ≡ grafted.grafted_root H.hash F.shape (grafting N.LEN) form ops) }
-    ensures made { OnOk result (hasher.new ≡ more hasher.old (max 1 (length (trees.peaks F.shape leaves)))) }
+    ensures root { (form : Form) (ops : List Operation) → leaves ≡ length ops
+        → floor ≡ live.floor ops
+        → TellsPeaks H.Digest.bytes H.hash (V.node_at view.now) F.shape (grafting N.LEN)
+        (trees.leaves_from H.hash F.shape form 0 ops) (grafted.chunk_of (grafting N.LEN) ops)
+        → IfOk result (λ d.
+        H.Digest.bytes d ≡ grafted.grafted_root H.hash F.shape (grafting N.LEN) form ops) }
+    ensures made { OnOk result
+        (hasher.new ≡ more hasher.old (max 1 (length (trees.peaks F.shape leaves)))) }
 {
     let values = peak_values(alloc, view, leaves)?;
     let inactive = grafted_inactive(height::<N>(), leaves, floor);
@@ -81,8 +86,13 @@ fn pending_digest<F: Graftable, N: Chunks, H: Hasher, B: Readable<N>>(
     bits: &B,
 ) -> Result<Option<H::Digest>, AllocError>
     requires few { bit_count N.LEN (B.bitmap bits.now) ≤ 2 ^ 62 }
-    requires kept { (c : ℕ) → grafted.pending_chunk F.shape (grafting N.LEN) (bit_count N.LEN (B.bitmap bits.now)) ≡ Some c → (B.bitmap bits.now).pruned ≤ c }
-    ensures digest { IfOk result (λ d. option_map H.Digest.bytes d ≡ option_map (λ c. H.hash (activity.chunk N.LEN (all_bits N.LEN (B.bitmap bits.now)) c)) (grafted.pending_chunk F.shape (grafting N.LEN) (bit_count N.LEN (B.bitmap bits.now)))) }
+    requires kept { (c : ℕ)
+        → grafted.pending_chunk F.shape (grafting N.LEN) (bit_count N.LEN (B.bitmap bits.now))
+        ≡ Some c
+        → (B.bitmap bits.now).pruned ≤ c }
+    ensures digest { IfOk result (λ d. option_map H.Digest.bytes d
+        ≡ option_map (λ c. H.hash (activity.chunk N.LEN (all_bits N.LEN (B.bitmap bits.now)) c))
+        (grafted.pending_chunk F.shape (grafting N.LEN) (bit_count N.LEN (B.bitmap bits.now)))) }
     ensures made { OnOk result ((n : ℕ) × (n ≤ 1) × (hasher.new ≡ more hasher.old n)) }
 {
     match pending_chunk::<F>(height::<N>(), bits.len()) {
@@ -100,7 +110,13 @@ fn partial_digest<N: Chunks, H: Hasher, B: Readable<N>>(
     hasher: &mut StandardHasher<H>,
     bits: &B,
 ) -> Result<Option<(u64, H::Digest)>, AllocError>
-    ensures digest { IfOk result (λ d. partial_view H.Digest.bytes d ≡ option_map (λ c. (bit_count N.LEN (B.bitmap bits.now) % (8 * N.LEN), H.hash (activity.chunk N.LEN (all_bits N.LEN (B.bitmap bits.now)) c))) (activity.partial_chunk (8 * N.LEN) (bit_count N.LEN (B.bitmap bits.now)))) }
+    ensures digest { IfOk result (λ d. partial_view H.Digest.bytes d
+        ≡ option_map (λ c. (
+          bit_count N.LEN (B.bitmap bits.now) % (8 * N.LEN),
+          H.hash
+              (activity.chunk N.LEN (all_bits N.LEN (B.bitmap bits.now)) c),
+        ))
+        (activity.partial_chunk (8 * N.LEN) (bit_count N.LEN (B.bitmap bits.now)))) }
     ensures made { OnOk result ((n : ℕ) × (n ≤ 1) × (hasher.new ≡ more hasher.old n)) }
 {
     let (chunk, count) = bits.last_chunk(alloc)?;
@@ -124,11 +140,21 @@ pub fn compute_db_root<F: Graftable, N: Chunks, H: Hasher, V: Nodes<F, H::Digest
 ) -> Result<H::Digest, AllocError>
     requires few { bit_count N.LEN (B.bitmap bits.now) ≤ 2 ^ 62 }
     requires held { HoldsPeaks (V.node_at view.now) F.shape (bit_count N.LEN (B.bitmap bits.now)) }
-    requires kept { (c : ℕ) → grafted.pending_chunk F.shape (grafting N.LEN) (bit_count N.LEN (B.bitmap bits.now)) ≡ Some c → (B.bitmap bits.now).pruned ≤ c }
-    ensures canonical { (form : Form) (ops : List Operation) → all_bits N.LEN (B.bitmap bits.now) ≡ activity.bits ops → floor ≡ live.floor ops → H.Digest.bytes ops_root.now ≡ trees.ops_root H.hash F.shape form ops
-        → TellsPeaks H.Digest.bytes H.hash (V.node_at view.now) F.shape (grafting N.LEN) (trees.leaves_from H.hash F.shape form 0 ops) (grafted.chunk_of (grafting N.LEN) ops)
-        → IfOk result (λ d. H.Digest.bytes d ≡ grafted.canonical H.hash F.shape (grafting N.LEN) form ops) }
-    ensures made { OnOk result ((n : ℕ) × (n ≤ 3) × (hasher.new ≡ more hasher.old (max 1 (length (trees.peaks F.shape (bit_count N.LEN (B.bitmap bits.now)))) + n))) }
+    requires kept { (c : ℕ)
+        → grafted.pending_chunk F.shape (grafting N.LEN) (bit_count N.LEN (B.bitmap bits.now))
+        ≡ Some c
+        → (B.bitmap bits.now).pruned ≤ c }
+    ensures canonical { (form : Form) (ops : List Operation)
+        → all_bits N.LEN (B.bitmap bits.now) ≡ activity.bits ops → floor ≡ live.floor ops
+        → H.Digest.bytes ops_root.now ≡ trees.ops_root H.hash F.shape form ops
+        → TellsPeaks H.Digest.bytes H.hash (V.node_at view.now) F.shape (grafting N.LEN)
+        (trees.leaves_from H.hash F.shape form 0 ops) (grafted.chunk_of (grafting N.LEN) ops)
+        → IfOk result (λ d.
+        H.Digest.bytes d ≡ grafted.canonical H.hash F.shape (grafting N.LEN) form ops) }
+    ensures made { OnOk result ((n : ℕ) × (n ≤ 3)
+        × (hasher.new
+        ≡ more hasher.old
+        (max 1 (length (trees.peaks F.shape (bit_count N.LEN (B.bitmap bits.now)))) + n))) }
 {
     let leaves = Location::new(bits.len());
     let grafted = root_of::<F, N, H, V>(alloc, hasher, view, leaves, floor)?;

@@ -46,31 +46,65 @@ pub fn grown<F: Graftable, N: Chunks, H: Hasher, B: Readable<N>, O: Nodes<F, H::
     requires reach { Contains (stops draft.base draft.layers) mem.now.leaves }
     requires kept { All (λ c. draft.start ≤ c) changed.now }
     requires held { All (λ c. mem.now.start ≤ c) changed.now }
-    requires order { draft.base ≤ grafts.grafted_chunks F.shape (grafting N.LEN) (bit_count N.LEN (B.bitmap behind.now.bits.now)) }
-    requires changed { All (λ c. c < draft.base → CanGraft (O.node_at behind.now.operations.now) F.shape N.LEN (B.bitmap behind.now.bits.now) c) changed.now }
-    requires added { (c : ℕ) → draft.base ≤ c → c < grafts.grafted_chunks F.shape (grafting N.LEN) (bit_count N.LEN (B.bitmap behind.now.bits.now)) → CanGraft (O.node_at behind.now.operations.now) F.shape N.LEN (B.bitmap behind.now.bits.now) c }
-    requires peaks { (x : trees.Node) → trees.Shape.birth F.shape x ≤ bit_count N.LEN (B.bitmap behind.now.bits.now) → bit_count N.LEN (B.bitmap behind.now.bits.now) < trees.Shape.birth F.shape (over x)
+    requires order { draft.base
+        ≤ grafts.grafted_chunks F.shape (grafting N.LEN)
+        (bit_count N.LEN (B.bitmap behind.now.bits.now)) }
+    requires changed { All (λ c. c < draft.base
+        → CanGraft (O.node_at behind.now.operations.now) F.shape N.LEN
+        (B.bitmap behind.now.bits.now) c) changed.now }
+    requires added { (c : ℕ) → draft.base ≤ c
+        → c
+        < grafts.grafted_chunks F.shape (grafting N.LEN)
+        (bit_count N.LEN (B.bitmap behind.now.bits.now))
+        → CanGraft (O.node_at behind.now.operations.now) F.shape N.LEN
+        (B.bitmap behind.now.bits.now) c }
+    requires peaks { (x : trees.Node)
+        → trees.Shape.birth F.shape x ≤ bit_count N.LEN (B.bitmap behind.now.bits.now)
+        → bit_count N.LEN (B.bitmap behind.now.bits.now) < trees.Shape.birth F.shape (over x)
         → IsSome (O.node_at behind.now.operations.now (trees.Shape.position F.shape x)) }
-    requires pruned { (B.bitmap behind.now.bits.now).pruned ≤ grafts.grafted_chunks F.shape (grafting N.LEN) (bit_count N.LEN (B.bitmap behind.now.bits.now)) }
-    requires may_go { 0 < mem.now.start → grafts.needed_size F.shape (grafting N.LEN) mem.now.start ≤ bit_count N.LEN (B.bitmap behind.now.bits.now) }
+    requires pruned { (B.bitmap behind.now.bits.now).pruned
+        ≤ grafts.grafted_chunks F.shape (grafting N.LEN)
+        (bit_count N.LEN (B.bitmap behind.now.bits.now)) }
+    requires may_go { 0 < mem.now.start
+        → grafts.needed_size F.shape (grafting N.LEN) mem.now.start
+        ≤ bit_count N.LEN (B.bitmap behind.now.bits.now) }
     ensures start { IfOk result (λ r. r.0.start ≡ draft.start) }
     ensures base { IfOk result (λ r. r.0.newest.tree.start ≡ draft.base) }
-    ensures leaves { IfOk result (λ r. r.0.newest.tree.leaves ≡ grafts.grafted_chunks F.shape (grafting N.LEN) (bit_count N.LEN (B.bitmap behind.now.bits.now))) }
+    ensures leaves { IfOk result (λ r. r.0.newest.tree.leaves
+        ≡ grafts.grafted_chunks F.shape (grafting N.LEN)
+        (bit_count N.LEN (B.bitmap behind.now.bits.now))) }
     ensures older { IfOk result (λ r. r.0.older ≡ draft.layers) }
-    ensures history { (old list : List Bytes) (before : ℕ → Bytes) (lists : List (List Bytes)) (form : Form) (ops : List Operation) → all_bits N.LEN (B.bitmap behind.now.bits.now) ≡ activity.bits ops
-        → IsStep (grafting N.LEN) draft.base changed.now old (trees.leaves_from H.hash F.shape form 0 ops) before (grafts.chunk_of (grafting N.LEN) ops)
-        → Tells F.shape H.Digest.bytes H.hash (O.node_at behind.now.operations.now) (trees.leaves_from H.hash F.shape form 0 ops)
-        → IsHistory (kept_shape F.shape (grafting N.LEN)) H.Digest.bytes H.hash draft.layers (chunk_values H.hash F.shape (grafting N.LEN) old before 0 draft.base ∷ lists)
-        → Contains (chunk_values H.hash F.shape (grafting N.LEN) old before 0 draft.base ∷ lists) list → Stands (kept_shape F.shape (grafting N.LEN)) H.Digest.bytes H.hash mem.now list
-        → IfOk result (λ r. IsHistory (kept_shape F.shape (grafting N.LEN)) H.Digest.bytes H.hash (all_layers r.0)
-        (chunk_values H.hash F.shape (grafting N.LEN) (trees.leaves_from H.hash F.shape form 0 ops) (grafts.chunk_of (grafting N.LEN) ops) 0 (grafts.grafted_chunks F.shape (grafting N.LEN) (length ops)) ∷ chunk_values H.hash F.shape (grafting N.LEN) old before 0 draft.base ∷ lists)) }
-    ensures canonical { (old list : List Bytes) (before : ℕ → Bytes) (lists : List (List Bytes)) (form : Form) (ops : List Operation) → all_bits N.LEN (B.bitmap behind.now.bits.now) ≡ activity.bits ops
-        → floor ≡ live.floor ops → H.Digest.bytes ops_root.now ≡ trees.ops_root H.hash F.shape form ops
-        → IsStep (grafting N.LEN) draft.base changed.now old (trees.leaves_from H.hash F.shape form 0 ops) before (grafts.chunk_of (grafting N.LEN) ops)
-        → Tells F.shape H.Digest.bytes H.hash (O.node_at behind.now.operations.now) (trees.leaves_from H.hash F.shape form 0 ops)
-        → IsHistory (kept_shape F.shape (grafting N.LEN)) H.Digest.bytes H.hash draft.layers (chunk_values H.hash F.shape (grafting N.LEN) old before 0 draft.base ∷ lists)
-        → Contains (chunk_values H.hash F.shape (grafting N.LEN) old before 0 draft.base ∷ lists) list → Stands (kept_shape F.shape (grafting N.LEN)) H.Digest.bytes H.hash mem.now list
-        → IfOk result (λ r. H.Digest.bytes r.1 ≡ grafts.canonical H.hash F.shape (grafting N.LEN) form ops) }
+    ensures history { (old list : List Bytes) (before : ℕ → Bytes) (lists : List (List Bytes))
+        (form : Form) (ops : List Operation)
+        → all_bits N.LEN (B.bitmap behind.now.bits.now) ≡ activity.bits ops
+        → IsStep (grafting N.LEN) draft.base changed.now old
+        (trees.leaves_from H.hash F.shape form 0 ops) before (grafts.chunk_of (grafting N.LEN) ops)
+        → Tells F.shape H.Digest.bytes H.hash (O.node_at behind.now.operations.now)
+        (trees.leaves_from H.hash F.shape form 0 ops)
+        → IsHistory (kept_shape F.shape (grafting N.LEN)) H.Digest.bytes H.hash draft.layers
+        (chunk_values H.hash F.shape (grafting N.LEN) old before 0 draft.base ∷ lists)
+        → Contains (chunk_values H.hash F.shape (grafting N.LEN) old before 0 draft.base ∷ lists)
+        list → Stands (kept_shape F.shape (grafting N.LEN)) H.Digest.bytes H.hash mem.now list
+        → IfOk result (λ r. IsHistory (kept_shape F.shape (grafting N.LEN)) H.Digest.bytes H.hash
+        (all_layers r.0) (chunk_values H.hash F.shape (grafting N.LEN)
+        (trees.leaves_from H.hash F.shape form 0 ops) (grafts.chunk_of (grafting N.LEN) ops) 0
+        (grafts.grafted_chunks F.shape (grafting N.LEN) (length ops))
+        ∷ chunk_values H.hash F.shape (grafting N.LEN) old before 0 draft.base
+        ∷ lists)) }
+    ensures canonical { (old list : List Bytes) (before : ℕ → Bytes) (lists : List (List Bytes))
+        (form : Form) (ops : List Operation)
+        → all_bits N.LEN (B.bitmap behind.now.bits.now) ≡ activity.bits ops → floor ≡ live.floor ops
+        → H.Digest.bytes ops_root.now ≡ trees.ops_root H.hash F.shape form ops
+        → IsStep (grafting N.LEN) draft.base changed.now old
+        (trees.leaves_from H.hash F.shape form 0 ops) before (grafts.chunk_of (grafting N.LEN) ops)
+        → Tells F.shape H.Digest.bytes H.hash (O.node_at behind.now.operations.now)
+        (trees.leaves_from H.hash F.shape form 0 ops)
+        → IsHistory (kept_shape F.shape (grafting N.LEN)) H.Digest.bytes H.hash draft.layers
+        (chunk_values H.hash F.shape (grafting N.LEN) old before 0 draft.base ∷ lists)
+        → Contains (chunk_values H.hash F.shape (grafting N.LEN) old before 0 draft.base ∷ lists)
+        list → Stands (kept_shape F.shape (grafting N.LEN)) H.Digest.bytes H.hash mem.now list
+        → IfOk result (λ r.
+        H.Digest.bytes r.1 ≡ grafts.canonical H.hash F.shape (grafting N.LEN) form ops) }
     ensures cause { IfErr result (λ e. e ≡ MerkleError.Memory) }
 {
     let leaves = behind.bits.len();

@@ -34,8 +34,11 @@ fn value_of<F: Graftable, N: Chunks, H: Hasher, B: Readable<N>, O: Nodes<F, H::D
     behind: &Behind<'_, B, O>,
     at: u64,
 ) -> Result<H::Digest, AllocError>
-    requires { CanGraft (O.node_at behind.now.operations.now) F.shape N.LEN (B.bitmap behind.now.bits.now) at }
-    ensures value { IfOk result (λ d. H.Digest.bytes d ≡ made_value H.Digest.bytes H.hash (O.node_at behind.now.operations.now) F.shape N.LEN (all_bits N.LEN (B.bitmap behind.now.bits.now)) at) }
+    requires { CanGraft (O.node_at behind.now.operations.now) F.shape N.LEN
+        (B.bitmap behind.now.bits.now) at }
+    ensures value { IfOk result (λ d. H.Digest.bytes d
+        ≡ made_value H.Digest.bytes H.hash (O.node_at behind.now.operations.now) F.shape N.LEN
+        (all_bits N.LEN (B.bitmap behind.now.bits.now)) at) }
     ensures made { OnOk result (hasher.new ≡ more hasher.old 1) }
 {
     let position = F::chunk_position(height::<N>(), at);
@@ -54,13 +57,19 @@ fn update_one<F: Graftable, N: Chunks, H: Hasher, B: Readable<N>, O: Nodes<F, H:
 ) -> Result<(), MerkleError>
     requires fresh { draft.old.added ≡ [] }
     requires kept { draft.old.start ≤ at }
-    requires can { at < draft.old.base → CanGraft (O.node_at behind.now.operations.now) F.shape N.LEN (B.bitmap behind.now.bits.now) at }
+    requires can { at < draft.old.base
+        → CanGraft (O.node_at behind.now.operations.now) F.shape N.LEN
+        (B.bitmap behind.now.bits.now) at }
     ensures same { OnOk result (IsRedrafted draft.old draft.new) }
     ensures few { OnOk result (length draft.new.replaced ≤ length draft.old.replaced + 1) }
     ensures put { at < draft.old.base → (values : List Bytes) → length values ≡ draft.old.base
-        → OnOk result (drafted H.Digest.bytes draft.new values ≡ slice_set (drafted H.Digest.bytes draft.old values) at (made_value H.Digest.bytes H.hash (O.node_at behind.now.operations.now) F.shape N.LEN (all_bits N.LEN (B.bitmap behind.now.bits.now)) at)) }
+        → OnOk result (drafted H.Digest.bytes draft.new values
+        ≡ slice_set (drafted H.Digest.bytes draft.old values) at (made_value H.Digest.bytes H.hash
+        (O.node_at behind.now.operations.now) F.shape N.LEN
+        (all_bits N.LEN (B.bitmap behind.now.bits.now)) at)) }
     ensures past { draft.old.base ≤ at → draft.new ≡ draft.old }
-    ensures above { (least : ℕ) → All (λ e. least ≤ e.0) draft.old.replaced → least ≤ at → OnOk result (All (λ e. least ≤ e.0) draft.new.replaced) }
+    ensures above { (least : ℕ) → All (λ e. least ≤ e.0) draft.old.replaced → least ≤ at
+        → OnOk result (All (λ e. least ≤ e.0) draft.new.replaced) }
     ensures made { OnOk result ((n : ℕ) × (n ≤ 1) × (hasher.new ≡ more hasher.old n)) }
     ensures cause { IfErr result (λ e. e ≡ MerkleError.Memory) }
 {
@@ -81,13 +90,22 @@ fn update_all<F: Graftable, N: Chunks, H: Hasher, B: Readable<N>, O: Nodes<F, H:
 ) -> Result<(), MerkleError>
     requires fresh { draft.old.added ≡ [] }
     requires kept { All (λ c. draft.old.start ≤ c) changed.now }
-    requires can { All (λ c. c < draft.old.base → CanGraft (O.node_at behind.now.operations.now) F.shape N.LEN (B.bitmap behind.now.bits.now) c) changed.now }
+    requires can { All (λ c. c < draft.old.base
+        → CanGraft (O.node_at behind.now.operations.now) F.shape N.LEN
+        (B.bitmap behind.now.bits.now) c) changed.now }
     ensures same { OnOk result (IsRedrafted draft.old draft.new) }
-    ensures few { OnOk result (length draft.new.replaced ≤ length draft.old.replaced + length changed.now) }
-    ensures above { (least : ℕ) → All (λ e. least ≤ e.0) draft.old.replaced → All (λ c. least ≤ c) changed.now → OnOk result (All (λ e. least ≤ e.0) draft.new.replaced) }
+    ensures few { OnOk result
+        (length draft.new.replaced ≤ length draft.old.replaced + length changed.now) }
+    ensures above { (least : ℕ) → All (λ e. least ≤ e.0) draft.old.replaced
+        → All (λ c. least ≤ c) changed.now
+        → OnOk result (All (λ e. least ≤ e.0) draft.new.replaced) }
     ensures values { (values : List Bytes) → length values ≡ draft.old.base
-        → OnOk result (AreMade (made_value H.Digest.bytes H.hash (O.node_at behind.now.operations.now) F.shape N.LEN (all_bits N.LEN (B.bitmap behind.now.bits.now))) changed.now (drafted H.Digest.bytes draft.old values) (drafted H.Digest.bytes draft.new values)) }
-    ensures made { OnOk result ((n : ℕ) × (n ≤ length changed.now) × (hasher.new ≡ more hasher.old n)) }
+        → OnOk result (AreMade (made_value H.Digest.bytes H.hash
+        (O.node_at behind.now.operations.now) F.shape N.LEN
+        (all_bits N.LEN (B.bitmap behind.now.bits.now))) changed.now
+        (drafted H.Digest.bytes draft.old values) (drafted H.Digest.bytes draft.new values)) }
+    ensures made { OnOk result
+        ((n : ℕ) × (n ≤ length changed.now) × (hasher.new ≡ more hasher.old n)) }
     ensures cause { IfErr result (λ e. e ≡ MerkleError.Memory) }
 {
     for at in changed {
@@ -105,9 +123,17 @@ fn add_all<F: Graftable, N: Chunks, H: Hasher, B: Readable<N>, O: Nodes<F, H::Di
     count: u64,
 ) -> Result<(), MerkleError>
     requires order { leaves_of draft.old ≤ count }
-    requires can { (c : ℕ) → leaves_of draft.old ≤ c → c < count → CanGraft (O.node_at behind.now.operations.now) F.shape N.LEN (B.bitmap behind.now.bits.now) c }
-    ensures same { OnOk result ((draft.new.start ≡ draft.old.start) × (draft.new.base ≡ draft.old.base) × (draft.new.layers ≡ draft.old.layers) × (draft.new.replaced ≡ draft.old.replaced)) }
-    ensures added { OnOk result (map H.Digest.bytes draft.new.added ≡ map H.Digest.bytes draft.old.added ++ made_values H.Digest.bytes H.hash (O.node_at behind.now.operations.now) F.shape N.LEN (all_bits N.LEN (B.bitmap behind.now.bits.now)) (leaves_of draft.old) (count - leaves_of draft.old)) }
+    requires can { (c : ℕ) → leaves_of draft.old ≤ c → c < count
+        → CanGraft (O.node_at behind.now.operations.now) F.shape N.LEN
+        (B.bitmap behind.now.bits.now) c }
+    ensures same { OnOk result ((draft.new.start ≡ draft.old.start)
+        × (draft.new.base ≡ draft.old.base) × (draft.new.layers ≡ draft.old.layers)
+        × (draft.new.replaced ≡ draft.old.replaced)) }
+    ensures added { OnOk result (map H.Digest.bytes draft.new.added
+        ≡ map H.Digest.bytes draft.old.added
+        ++ made_values H.Digest.bytes H.hash (O.node_at behind.now.operations.now) F.shape N.LEN
+        (all_bits N.LEN (B.bitmap behind.now.bits.now)) (leaves_of draft.old)
+        (count - leaves_of draft.old)) }
     ensures made { OnOk result (hasher.new ≡ more hasher.old (count - leaves_of draft.old)) }
     ensures cause { IfErr result (λ e. e ≡ MerkleError.Memory) }
 {
@@ -132,17 +158,31 @@ pub fn graft<F: Graftable, N: Chunks, H: Hasher, B: Readable<N>, O: Nodes<F, H::
     requires fresh { (draft.old.replaced ≡ []) × (draft.old.added ≡ []) }
     requires kept { All (λ c. draft.old.start ≤ c) changed.now }
     requires order { draft.old.base ≤ count }
-    requires changed { All (λ c. c < draft.old.base → CanGraft (O.node_at behind.now.operations.now) F.shape N.LEN (B.bitmap behind.now.bits.now) c) changed.now }
-    requires added { (c : ℕ) → draft.old.base ≤ c → c < count → CanGraft (O.node_at behind.now.operations.now) F.shape N.LEN (B.bitmap behind.now.bits.now) c }
-    ensures same { OnOk result ((draft.new.start ≡ draft.old.start) × (draft.new.base ≡ draft.old.base) × (draft.new.layers ≡ draft.old.layers)) }
+    requires changed { All (λ c. c < draft.old.base
+        → CanGraft (O.node_at behind.now.operations.now) F.shape N.LEN
+        (B.bitmap behind.now.bits.now) c) changed.now }
+    requires added { (c : ℕ) → draft.old.base ≤ c → c < count
+        → CanGraft (O.node_at behind.now.operations.now) F.shape N.LEN
+        (B.bitmap behind.now.bits.now) c }
+    ensures same { OnOk result ((draft.new.start ≡ draft.old.start)
+        × (draft.new.base ≡ draft.old.base)
+        × (draft.new.layers ≡ draft.old.layers)) }
     ensures leaves { OnOk result (leaves_of draft.new ≡ count) }
     ensures replaced { OnOk result (length draft.new.replaced ≤ length changed.now) }
-    ensures above { (least : ℕ) → All (λ c. least ≤ c) changed.now → OnOk result (All (λ e. least ≤ e.0) draft.new.replaced) }
+    ensures above { (least : ℕ) → All (λ c. least ≤ c) changed.now
+        → OnOk result (All (λ e. least ≤ e.0) draft.new.replaced) }
     ensures added { OnOk result (length draft.new.added ≡ count - draft.old.base) }
-    ensures values { (old new : List Bytes) (before : ℕ → Bytes) → IsStep (grafting N.LEN) draft.old.base changed.now old new before (chunk N.LEN (all_bits N.LEN (B.bitmap behind.now.bits.now)))
-        → TellsNodes H.Digest.bytes H.hash (O.node_at behind.now.operations.now) F.shape (grafting N.LEN) new count
-        → OnOk result (drafted H.Digest.bytes draft.new (chunk_values H.hash F.shape (grafting N.LEN) old before 0 draft.old.base) ≡ chunk_values H.hash F.shape (grafting N.LEN) new (chunk N.LEN (all_bits N.LEN (B.bitmap behind.now.bits.now))) 0 count) }
-    ensures made { OnOk result ((n : ℕ) × (n ≤ length changed.now) × (hasher.new ≡ more hasher.old (n + (count - draft.old.base)))) }
+    ensures values { (old new : List Bytes) (before : ℕ → Bytes)
+        → IsStep (grafting N.LEN) draft.old.base changed.now old new before
+        (chunk N.LEN (all_bits N.LEN (B.bitmap behind.now.bits.now)))
+        → TellsNodes H.Digest.bytes H.hash (O.node_at behind.now.operations.now) F.shape
+        (grafting N.LEN) new count
+        → OnOk result (drafted H.Digest.bytes draft.new
+        (chunk_values H.hash F.shape (grafting N.LEN) old before 0 draft.old.base)
+        ≡ chunk_values H.hash F.shape (grafting N.LEN) new
+        (chunk N.LEN (all_bits N.LEN (B.bitmap behind.now.bits.now))) 0 count) }
+    ensures made { OnOk result ((n : ℕ) × (n ≤ length changed.now)
+        × (hasher.new ≡ more hasher.old (n + (count - draft.old.base)))) }
     ensures cause { IfErr result (λ e. e ≡ MerkleError.Memory) }
 {
     update_all(alloc, hasher, draft, behind, changed)?;
@@ -167,19 +207,34 @@ pub fn follow<F: Graftable, N: Chunks, H: Hasher, B: Readable<N>, O: Nodes<F, H:
     requires kept { All (λ c. draft.start ≤ c) changed.now }
     requires held { All (λ c. mem.now.start ≤ c) changed.now }
     requires order { draft.base ≤ count }
-    requires changed { All (λ c. c < draft.base → CanGraft (O.node_at behind.now.operations.now) F.shape N.LEN (B.bitmap behind.now.bits.now) c) changed.now }
-    requires added { (c : ℕ) → draft.base ≤ c → c < count → CanGraft (O.node_at behind.now.operations.now) F.shape N.LEN (B.bitmap behind.now.bits.now) c }
+    requires changed { All (λ c. c < draft.base
+        → CanGraft (O.node_at behind.now.operations.now) F.shape N.LEN
+        (B.bitmap behind.now.bits.now) c) changed.now }
+    requires added { (c : ℕ) → draft.base ≤ c → c < count
+        → CanGraft (O.node_at behind.now.operations.now) F.shape N.LEN
+        (B.bitmap behind.now.bits.now) c }
     ensures start { IfOk result (λ b. b.start ≡ draft.start) }
     ensures base { IfOk result (λ b. b.newest.tree.start ≡ draft.base) }
     ensures leaves { IfOk result (λ b. b.newest.tree.leaves ≡ count) }
     ensures older { IfOk result (λ b. b.older ≡ draft.layers) }
-    ensures history { (old new list : List Bytes) (before : ℕ → Bytes) (lists : List (List Bytes)) → IsStep (grafting N.LEN) draft.base changed.now old new before (chunk N.LEN (all_bits N.LEN (B.bitmap behind.now.bits.now)))
-        → TellsNodes H.Digest.bytes H.hash (O.node_at behind.now.operations.now) F.shape (grafting N.LEN) new count
-        → IsHistory (kept_shape F.shape (grafting N.LEN)) H.Digest.bytes H.hash draft.layers (chunk_values H.hash F.shape (grafting N.LEN) old before 0 draft.base ∷ lists)
-        → Contains (chunk_values H.hash F.shape (grafting N.LEN) old before 0 draft.base ∷ lists) list → Stands (kept_shape F.shape (grafting N.LEN)) H.Digest.bytes H.hash mem.now list
-        → IfOk result (λ b. IsHistory (kept_shape F.shape (grafting N.LEN)) H.Digest.bytes H.hash (all_layers b)
-        (chunk_values H.hash F.shape (grafting N.LEN) new (chunk N.LEN (all_bits N.LEN (B.bitmap behind.now.bits.now))) 0 count ∷ chunk_values H.hash F.shape (grafting N.LEN) old before 0 draft.base ∷ lists)) }
-    ensures cost { (k : ℕ) → draft.base < 2 ^ suc k → IfOk result (λ b. hasher.new ≤ hasher.old + (length changed.now * suc k + (count - draft.base) + (length b.newest.tree.nodes - (count - draft.base)))) }
+    ensures history { (old new list : List Bytes) (before : ℕ → Bytes) (lists : List (List Bytes))
+        → IsStep (grafting N.LEN) draft.base changed.now old new before
+        (chunk N.LEN (all_bits N.LEN (B.bitmap behind.now.bits.now)))
+        → TellsNodes H.Digest.bytes H.hash (O.node_at behind.now.operations.now) F.shape
+        (grafting N.LEN) new count
+        → IsHistory (kept_shape F.shape (grafting N.LEN)) H.Digest.bytes H.hash draft.layers
+        (chunk_values H.hash F.shape (grafting N.LEN) old before 0 draft.base ∷ lists)
+        → Contains (chunk_values H.hash F.shape (grafting N.LEN) old before 0 draft.base ∷ lists)
+        list → Stands (kept_shape F.shape (grafting N.LEN)) H.Digest.bytes H.hash mem.now list
+        → IfOk result (λ b. IsHistory (kept_shape F.shape (grafting N.LEN)) H.Digest.bytes H.hash
+        (all_layers b) (chunk_values H.hash F.shape (grafting N.LEN) new
+        (chunk N.LEN (all_bits N.LEN (B.bitmap behind.now.bits.now))) 0 count
+        ∷ chunk_values H.hash F.shape (grafting N.LEN) old before 0 draft.base
+        ∷ lists)) }
+    ensures cost { (k : ℕ) → draft.base < 2 ^ suc k
+        → IfOk result (λ b. hasher.new
+        ≤ hasher.old + (length changed.now * suc k + (count - draft.base) +
+        (length b.newest.tree.nodes - (count - draft.base)))) }
     ensures cause { IfErr result (λ e. e ≡ MerkleError.Memory) }
 {
     let mut draft = draft;

@@ -34,12 +34,22 @@ pub fn build_grafted_tree<F: Graftable, N: Chunks, H: Hasher, B: Readable<N>>(
 ) -> Result<Mem<Grafted<F, N>, H::Digest>, MerkleError>
     requires bits { bit_count N.LEN (B.bitmap bits.now) ≡ operations.now.leaves }
     requires start { operations.now.start < suc (B.bitmap bits.now).pruned * (8 * N.LEN) }
-    requires pruned { (B.bitmap bits.now).pruned ≤ grafts.grafted_chunks F.shape (grafting N.LEN) operations.now.leaves }
+    requires pruned { (B.bitmap bits.now).pruned
+        ≤ grafts.grafted_chunks F.shape (grafting N.LEN) operations.now.leaves }
     requires pins { length pins.items ≡ length (trees.peaks F.shape (B.bitmap bits.now).pruned) }
-    ensures bounds { IfOk result (λ tree. (tree.start ≡ (B.bitmap bits.now).pruned) × (tree.leaves ≡ grafts.grafted_chunks F.shape (grafting N.LEN) operations.now.leaves)) }
-    ensures stands { (digests : List Bytes) → Stands F.shape H.Digest.bytes H.hash operations.now digests
-        → map H.Digest.bytes pins.items ≡ map (trees.digest_of H.hash (kept_shape F.shape (grafting N.LEN)) (grafts.chunk_values H.hash F.shape (grafting N.LEN) digests (activity.chunk N.LEN (all_bits N.LEN (B.bitmap bits.now))) 0 (B.bitmap bits.now).pruned)) (trees.peaks F.shape (B.bitmap bits.now).pruned)
-        → IfOk result (λ tree. Stands (kept_shape F.shape (grafting N.LEN)) H.Digest.bytes H.hash tree (grafts.chunk_values H.hash F.shape (grafting N.LEN) digests (activity.chunk N.LEN (all_bits N.LEN (B.bitmap bits.now))) 0 (grafts.grafted_chunks F.shape (grafting N.LEN) operations.now.leaves))) }
+    ensures bounds { IfOk result (λ tree. (tree.start ≡ (B.bitmap bits.now).pruned)
+        × (tree.leaves ≡ grafts.grafted_chunks F.shape (grafting N.LEN) operations.now.leaves)) }
+    ensures stands { (digests : List Bytes)
+        → Stands F.shape H.Digest.bytes H.hash operations.now digests
+        → map H.Digest.bytes pins.items
+        ≡ map (trees.digest_of H.hash (kept_shape F.shape (grafting N.LEN)) (grafts.chunk_values
+        H.hash F.shape (grafting N.LEN) digests
+        (activity.chunk N.LEN (all_bits N.LEN (B.bitmap bits.now))) 0 (B.bitmap bits.now).pruned))
+        (trees.peaks F.shape (B.bitmap bits.now).pruned)
+        → IfOk result (λ tree. Stands (kept_shape F.shape (grafting N.LEN)) H.Digest.bytes H.hash
+        tree (grafts.chunk_values H.hash F.shape (grafting N.LEN) digests
+        (activity.chunk N.LEN (all_bits N.LEN (B.bitmap bits.now))) 0
+        (grafts.grafted_chunks F.shape (grafting N.LEN) operations.now.leaves))) }
     ensures cause { IfErr result (λ e. e ≡ MerkleError.Memory) }
 {
     let count = chunks_over::<F, N, H::Digest>(operations);
@@ -68,7 +78,9 @@ fn begun<F: Graftable, N: Chunks, D: Digest, B: Readable<N>>(
 ) -> Result<Mem<Grafted<F, N>, D>, AllocError>
     requires few { (B.bitmap bits.now).pruned ≤ 2 ^ 62 }
     requires pins { length pins.items ≡ length (trees.peaks F.shape (B.bitmap bits.now).pruned) }
-    ensures { IfOk result (λ tree. (tree.start ≡ (B.bitmap bits.now).pruned) × (tree.leaves ≡ (B.bitmap bits.now).pruned) × (tree.pins ≡ pins.items)) }
+    ensures { IfOk result (λ tree.
+        (tree.start ≡ (B.bitmap bits.now).pruned) × (tree.leaves ≡ (B.bitmap bits.now).pruned)
+        × (tree.pins ≡ pins.items)) }
 {
     let chunks = Location::new(bits.pruned_chunks() as u64);
     Mem::from_pruned_with_retained(alloc, Vec::new(alloc), chunks, pins)
@@ -86,12 +98,20 @@ pub fn canonical_root_of<F: Graftable, N: Chunks, H: Hasher, B: Readable<N>>(
     floor: Location<F>,
 ) -> Result<H::Digest, AllocError>
     requires { AreGrafted F.shape N.LEN operations.now grafted.now (B.bitmap bits.now) }
-    ensures canonical { (form : Form) (ops : List Operation) → all_bits N.LEN (B.bitmap bits.now) ≡ activity.bits ops → floor ≡ live.floor ops → H.Digest.bytes ops_root.now ≡ trees.ops_root H.hash F.shape form ops
-        → Stands F.shape H.Digest.bytes H.hash operations.now (trees.leaves_from H.hash F.shape form 0 ops)
+    ensures canonical { (form : Form) (ops : List Operation)
+        → all_bits N.LEN (B.bitmap bits.now) ≡ activity.bits ops → floor ≡ live.floor ops
+        → H.Digest.bytes ops_root.now ≡ trees.ops_root H.hash F.shape form ops
+        → Stands F.shape H.Digest.bytes H.hash operations.now
+        (trees.leaves_from H.hash F.shape form 0 ops)
         → Stands (kept_shape F.shape (grafting N.LEN)) H.Digest.bytes H.hash grafted.now
-        (grafts.chunk_values H.hash F.shape (grafting N.LEN) (trees.leaves_from H.hash F.shape form 0 ops) (grafts.chunk_of (grafting N.LEN) ops) 0 (grafts.grafted_chunks F.shape (grafting N.LEN) (length ops)))
-        → IfOk result (λ d. H.Digest.bytes d ≡ grafts.canonical H.hash F.shape (grafting N.LEN) form ops) }
-    ensures made { OnOk result ((n : ℕ) × (n ≤ 3) × (hasher.new ≡ more hasher.old (max 1 (length (trees.peaks F.shape operations.now.leaves)) + n))) }
+        (grafts.chunk_values H.hash F.shape (grafting N.LEN)
+        (trees.leaves_from H.hash F.shape form 0 ops) (grafts.chunk_of (grafting N.LEN) ops) 0
+        (grafts.grafted_chunks F.shape (grafting N.LEN) (length ops)))
+        → IfOk result (λ d.
+        H.Digest.bytes d ≡ grafts.canonical H.hash F.shape (grafting N.LEN) form ops) }
+    ensures made { OnOk result ((n : ℕ) × (n ≤ 3)
+        × (hasher.new
+        ≡ more hasher.old (max 1 (length (trees.peaks F.shape operations.now.leaves)) + n))) }
 {
     let (_, leaves) = operations.bounds();
     // it has as many nodes as its leaves need

@@ -48,7 +48,8 @@ impl<
     /// The view of a tree of so many operations and of the grafted tree over it.
     pub fn new(operations: &'a O, grafted: &'a G, leaves: Location<F>) -> Self
         requires { leaves ≤ 2 ^ 62 }
-        ensures { result ≡ record { operations = operations.now; grafted = grafted.now; leaves = leaves } }
+        ensures { result
+            ≡ record { operations = operations.now; grafted = grafted.now; leaves = leaves } }
     {
         GraftedView {
             operations,
@@ -68,12 +69,24 @@ impl<
     /// The value of the node at a position, where it is held: below the height of chunks its digest in the tree of operations, and
     /// else what the grafted tree has.
     pub fn get_node(&self, position: Position<F>) -> Option<D>
-        ensures low { (x : trees.Node) → Stands F.shape self.now.leaves position x → x.height < grafting N.LEN → result ≡ O.node_at self.now.operations position }
-        ensures high { (x : trees.Node) → Stands F.shape self.now.leaves position x → grafting N.LEN ≤ x.height → result ≡ G.node_at self.now.grafted (trees.Shape.position F.shape (grafts.lowered (grafting N.LEN) x)) }
+        ensures low { (x : trees.Node) → Stands F.shape self.now.leaves position x
+            → x.height < grafting N.LEN
+            → result ≡ O.node_at self.now.operations position }
+        ensures high { (x : trees.Node) → Stands F.shape self.now.leaves position x
+            → grafting N.LEN ≤ x.height
+            → result
+            ≡ G.node_at self.now.grafted
+            (trees.Shape.position F.shape (grafts.lowered (grafting N.LEN) x)) }
         ensures none { trees.Shape.size F.shape self.now.leaves ≤ position → result ≡ None }
-        ensures value { (hash : Bytes → Bytes) (digests : List Bytes) (chunks : ℕ → Bytes) → self.now.leaves ≡ length digests → length digests ≤ 2 ^ 62 → Tells F.shape D.bytes hash (O.node_at self.now.operations) digests
-            → Tells (kept_shape F.shape (grafting N.LEN)) D.bytes hash (G.node_at self.now.grafted) (grafts.chunk_values hash F.shape (grafting N.LEN) digests chunks 0 (grafts.grafted_chunks F.shape (grafting N.LEN) self.now.leaves))
-            → (x : trees.Node) → Stands F.shape self.now.leaves position x → IfSome result (λ d. D.bytes d ≡ grafts.grafted_value hash F.shape (grafting N.LEN) digests chunks x) }
+        ensures value { (hash : Bytes → Bytes) (digests : List Bytes) (chunks : ℕ → Bytes)
+            → self.now.leaves ≡ length digests → length digests ≤ 2 ^ 62
+            → Tells F.shape D.bytes hash (O.node_at self.now.operations) digests
+            → Tells (kept_shape F.shape (grafting N.LEN)) D.bytes hash (G.node_at self.now.grafted)
+            (grafts.chunk_values hash F.shape (grafting N.LEN) digests chunks 0
+            (grafts.grafted_chunks F.shape (grafting N.LEN) self.now.leaves)) → (x : trees.Node)
+            → Stands F.shape self.now.leaves position x
+            → IfSome result (λ d.
+            D.bytes d ≡ grafts.grafted_value hash F.shape (grafting N.LEN) digests chunks x) }
     {
         Nodes::get_node(self, position)
     }
@@ -84,7 +97,9 @@ impl<'a, F: Graftable, N: Chunks, D: Digest, O: Nodes<F, D>, G: Nodes<Grafted<F,
     ghost node_at = { λ v p. held_at F.shape F.births (O.node_at v.operations) (G.node_at v.grafted) v.leaves (grafting N.LEN) p };
 
     fn get_node(&self, position: Position<F>) -> Option<D>
-        ensures { result ≡ held_at F.shape F.births (O.node_at self.now.operations) (G.node_at self.now.grafted) self.now.leaves (grafting N.LEN) position }
+        ensures { result
+            ≡ held_at F.shape F.births (O.node_at self.now.operations) (G.node_at self.now.grafted)
+            self.now.leaves (grafting N.LEN) position }
     {
         node_in(self.operations, self.grafted, self.leaves, position)
     }
@@ -98,7 +113,9 @@ fn node_in<F: Graftable, N: Chunks, D: Digest, O: Nodes<F, D>, G: Nodes<Grafted<
     position: Position<F>,
 ) -> Option<D>
     requires { leaves ≤ 2 ^ 62 }
-    ensures { result ≡ held_at F.shape F.births (O.node_at operations.now) (G.node_at grafted.now) leaves (grafting N.LEN) position }
+    ensures { result
+        ≡ held_at F.shape F.births (O.node_at operations.now) (G.node_at grafted.now) leaves
+        (grafting N.LEN) position }
 {
     let node = places::node_at(leaves, position)?;
     match places::grafted_position::<F, N>(node) {

@@ -19,19 +19,25 @@ use std::ops::Bound;
 pub trait Ordered: Unordered {
     /// The bucket of the greatest index key below the key's, or else, flagged as wrapped, of the greatest of all; none only where the index is empty.
     fn prev_bucket(&self, key: &[u8]) -> Option<(&[Self::Value], bool)>
-        ensures value { option_map (λ b. (b.0.now, b.1)) result ≡ neighbour_at (Self.entries self.now) (prev_key (keys_of (Self.entries self.now)) (Self.index_key key.now)) }
+        ensures value { option_map (λ b. (b.0.now, b.1)) result
+            ≡ neighbour_at (Self.entries self.now)
+            (prev_key (keys_of (Self.entries self.now)) (Self.index_key key.now)) }
         ensures none { (result ≡ None) ↔ (Self.entries self.now ≡ []) }
         ensures index { IsIndex (Self.entries self.now) };
 
     /// The bucket of the least index key above the key's, or else, flagged as wrapped, of the least of all; none only where the index is empty.
     fn next_bucket(&self, key: &[u8]) -> Option<(&[Self::Value], bool)>
-        ensures value { option_map (λ b. (b.0.now, b.1)) result ≡ neighbour_at (Self.entries self.now) (next_key (keys_of (Self.entries self.now)) (Self.index_key key.now)) }
+        ensures value { option_map (λ b. (b.0.now, b.1)) result
+            ≡ neighbour_at (Self.entries self.now)
+            (next_key (keys_of (Self.entries self.now)) (Self.index_key key.now)) }
         ensures none { (result ≡ None) ↔ (Self.entries self.now ≡ []) }
         ensures index { IsIndex (Self.entries self.now) };
 
     /// The bucket of the least index key; none only where the index is empty.
     fn first_bucket(&self) -> Option<&[Self::Value]>
-        ensures value { option_map (λ b. b.now) result ≡ option_map (bucket_at (Self.entries self.now)) (least_key (keys_of (Self.entries self.now))) }
+        ensures value { option_map (λ b. b.now) result
+            ≡ option_map (bucket_at (Self.entries self.now))
+            (least_key (keys_of (Self.entries self.now))) }
         ensures none { (result ≡ None) ↔ (Self.entries self.now ≡ []) }
         ensures index { IsIndex (Self.entries self.now) };
 

@@ -54,7 +54,8 @@ fn capped(key: &[u8], width: u32) -> u64
 #[inline(always)]
 fn first(bytes: &[u8]) -> (u8, &[u8])
     ensures byte { result.0 < 256 }
-    ensures split { (n : ℕ) → capped (suc n) bytes.now ≡ result.0 * 256 ^ n + capped n result.1.now }
+    ensures split { (n : ℕ)
+        → capped (suc n) bytes.now ≡ result.0 * 256 ^ n + capped n result.1.now }
 {
     match bytes.split_first() {
         Some((byte, behind)) => (*byte, behind),

@@ -29,26 +29,31 @@ pub trait Unordered {
 
     /// Puts a value behind the others of the key's bucket. Want of memory is the only error, and leaves the index as it was.
     fn insert(&mut self, key: &[u8], value: Self::Value) -> Result<(), AllocError>
-        ensures ok { OnOk result (Puts (entries self.old) (entries self.new) (index_key key.now) (bucket_at (entries self.old) (index_key key.now) ++ value ∷ [])) }
+        ensures ok { OnOk result (Puts (entries self.old) (entries self.new) (index_key key.now)
+            (bucket_at (entries self.old) (index_key key.now) ++ value ∷ [])) }
         ensures err { OnErr result (entries self.new ≡ entries self.old) }
         ensures index { IsIndex (entries self.new) };
 
     /// Puts a value in the place of one of the key's bucket.
     fn update_at(&mut self, key: &[u8], i: usize, value: Self::Value)
         requires { i < length (bucket_at (entries self.old) (index_key key.now)) }
-        ensures update { Puts (entries self.old) (entries self.new) (index_key key.now) (set (bucket_at (entries self.old) (index_key key.now)) i value) }
+        ensures update { Puts (entries self.old) (entries self.new) (index_key key.now)
+            (set (bucket_at (entries self.old) (index_key key.now)) i value) }
         ensures index { IsIndex (entries self.new) };
 
     /// Takes a value out of the key's bucket; the later ones move down.
     fn remove_at(&mut self, key: &[u8], i: usize)
         requires { i < length (bucket_at (entries self.old) (index_key key.now)) }
-        ensures remove { Puts (entries self.old) (entries self.new) (index_key key.now) (remove (bucket_at (entries self.old) (index_key key.now)) i) }
+        ensures remove { Puts (entries self.old) (entries self.new) (index_key key.now)
+            (remove (bucket_at (entries self.old) (index_key key.now)) i) }
         ensures index { IsIndex (entries self.new) };
 
     /// Shows each value, bucket by bucket, each bucket in order.
     fn for_each_value<F: FnMut(&Self::Value)>(&self, visit: F)
         requires { F.IsAlwaysCallable visit }
-        ensures shown { (last : F) × FoldsTo (λ p x q. CalledAt F.FnMut p x tt q) visit (all_values (entries self.now)) last }
+        ensures shown { (last : F)
+            × FoldsTo (λ p x q. CalledAt F.FnMut p x tt q) visit (all_values (entries self.now))
+            last }
         ensures index { IsIndex (entries self.now) };
 }
 

@@ -153,7 +153,8 @@ impl Sink for MemSink {
         ensures nothing { OnErr result (self.new.text ≡ self.old.text) }
         ensures kept { self.new.fail ≡ self.old.fail }
         ensures counted { self.new.calls ≡ one_more self.old.calls }
-        ensures faulty { IsErrOf result SinkError.Failed → self.new.faults ≡ one_more self.old.faults }
+        ensures faulty { IsErrOf result SinkError.Failed
+            → self.new.faults ≡ one_more self.old.faults }
     {
         let is_failing = self.fail.contains(&self.calls);
         self.calls = self.calls.saturating_add(1);

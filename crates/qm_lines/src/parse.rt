@@ -52,7 +52,8 @@ fn line_length(input: &[u8]) -> usize
 /// The first line of an input, without its line feed, and what is behind it. An empty input has none.
 pub fn next_line(input: &[u8]) -> Option<(&[u8], &[u8])>
     ensures none { IfNone result (grammar.lines_of input.now ≡ []) }
-    ensures some { IfSome result (λ found. grammar.lines_of input.now ≡ found.0.now ∷ grammar.lines_of found.1.now) }
+    ensures some { IfSome result (λ found.
+        grammar.lines_of input.now ≡ found.0.now ∷ grammar.lines_of found.1.now) }
     ensures shorter { IfSome result (λ found. length found.1.now < length input.now) }
 {
     if input.is_empty() {

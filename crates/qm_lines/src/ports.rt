@@ -50,7 +50,8 @@ pub trait Sink {
         ensures bound { IfOk result (λ n. n ≤ length piece.now) }
         ensures progress { IfOk result (λ n. 0 < length piece.now → 0 < n) }
         ensures bytes { Takes (text self.old) (text self.new) result piece.now }
-        ensures cause { IsCause (faults self.old) (faults self.new) (IsErrOf result SinkError.Failed) }
+        ensures cause { IsCause (faults self.old) (faults self.new)
+            (IsErrOf result SinkError.Failed) }
         ensures steady { result ≢ Err SinkError.Failed → faults self.new ≡ faults self.old };
 
     /// How often it failed, up to `u64::MAX`.

@@ -43,7 +43,8 @@ fn write_optional<B: ByteString>(
     mark: &str,
     value: &Option<B>,
 ) -> Result<(), AllocError>
-    ensures { Adds out.old out.new result (mark.now ++ texts.optional_text (option_map B.bytes value.now)) }
+    ensures { Adds out.old out.new result
+        (mark.now ++ texts.optional_text (option_map B.bytes value.now)) }
 {
     let Some(value) = value else {
         out.push_str(mark)?;
@@ -54,7 +55,8 @@ fn write_optional<B: ByteString>(
 
 // A mark, a key, and its value behind a sign.
 fn write_pair(out: &mut String, mark: &str, key: &[u8], value: &[u8]) -> Result<(), AllocError>
-    ensures { Adds out.old out.new result (mark.now ++ (texts.hex_text key.now ++ (codes "=" ++ texts.hex_text value.now))) }
+    ensures { Adds out.old out.new result
+        (mark.now ++ (texts.hex_text key.now ++ (codes "=" ++ texts.hex_text value.now))) }
 {
     write_bytes(out, mark, key)?;
     write_bytes(out, "=", value)
@@ -69,7 +71,8 @@ fn write_number(out: &mut String, mark: &str, number: u64) -> Result<(), AllocEr
 
 // A name, and the numbers, each after a space.
 fn write_numbers(out: &mut String, name: &str, numbers: &[u64]) -> Result<(), AllocError>
-    ensures { Adds out.old out.new result (name.now ++ flat_map (λ n. codes " " ++ decimal n) numbers.now) }
+    ensures { Adds out.old out.new result
+        (name.now ++ flat_map (λ n. codes " " ++ decimal n) numbers.now) }
 {
     out.push_str(name)?;
     for number in numbers {
@@ -91,7 +94,8 @@ fn write_operation<K: ByteString, V: ByteString>(
     out: &mut String,
     op: &Listed<K, V>,
 ) -> Result<(), AllocError>
-    ensures { Adds out.old out.new result (texts.operation_text (listed_view K.bytes V.bytes op.now)) }
+    ensures { Adds out.old out.new result
+        (texts.operation_text (listed_view K.bytes V.bytes op.now)) }
 {
     match op {
         Listed::Update(key, value, next) => {
@@ -111,7 +115,8 @@ fn write_operations<K: ByteString, V: ByteString>(
     out: &mut String,
     ops: &[Listed<K, V>],
 ) -> Result<(), AllocError>
-    ensures { Adds out.old out.new result (texts.operations_text (map (listed_view K.bytes V.bytes) ops.now)) }
+    ensures { Adds out.old out.new result
+        (texts.operations_text (map (listed_view K.bytes V.bytes) ops.now)) }
 {
     for op in ops {
         out.push_str(" ")?;
@@ -131,7 +136,8 @@ fn write_digests<D: Digest>(out: &mut String, digests: &[D]) -> Result<(), Alloc
 }
 
 fn write_tree(out: &mut String, refused: TreeRefused) -> Result<(), AllocError>
-    ensures { Adds out.old out.new result (texts.reply_line (lines.Refuses (refusals.Merkle (tree_view refused)))) }
+    ensures { Adds out.old out.new result
+        (texts.reply_line (lines.Refuses (refusals.Merkle (tree_view refused)))) }
 {
     match refused {
         TreeRefused::RangeOutOfBounds(at) => {
@@ -150,7 +156,8 @@ fn write_tree(out: &mut String, refused: TreeRefused) -> Result<(), AllocError>
 }
 
 fn write_log(out: &mut String, refused: LogRefused) -> Result<(), AllocError>
-    ensures { Adds out.old out.new result (texts.reply_line (lines.Refuses (refusals.Journal (log_view refused)))) }
+    ensures { Adds out.old out.new result
+        (texts.reply_line (lines.Refuses (refusals.Journal (log_view refused)))) }
 {
     match refused {
         LogRefused::ItemPruned(location) => {
@@ -163,14 +170,16 @@ fn write_log(out: &mut String, refused: LogRefused) -> Result<(), AllocError>
 }
 
 fn write_corrupt(out: &mut String, corrupt: Corrupt) -> Result<(), AllocError>
-    ensures { Adds out.old out.new result (texts.reply_line (lines.Refuses (refusals.DataCorrupted (corrupt_view corrupt)))) }
+    ensures { Adds out.old out.new result
+        (texts.reply_line (lines.Refuses (refusals.DataCorrupted (corrupt_view corrupt)))) }
 {
     out.push_str("refused DataCorrupted ")?;
     out.push_str(corrupt.text())
 }
 
 fn write_refused(out: &mut String, refused: Refused) -> Result<(), AllocError>
-    ensures { Adds out.old out.new result (texts.reply_line (lines.Refuses (refused_view refused))) }
+    ensures { Adds out.old out.new result
+        (texts.reply_line (lines.Refuses (refused_view refused))) }
 {
     match refused {
         Refused::NotOffered => out.push_str("refused NotOffered"),
@@ -197,14 +206,18 @@ fn write_refused(out: &mut String, refused: Refused) -> Result<(), AllocError>
 }
 
 fn write_info(out: &mut String, numbers: &[u64; 4], is_live: bool) -> Result<(), AllocError>
-    ensures { Adds out.old out.new result (codes "info" ++ (flat_map (λ n. codes " " ++ decimal n) numbers.now ++ (codes " " ++ texts.live_text is_live))) }
+    ensures { Adds out.old out.new result (codes "info"
+        ++ (flat_map (λ n. codes " " ++ decimal n) numbers.now
+        ++ (codes " " ++ texts.live_text is_live))) }
 {
     write_numbers(out, "info", numbers)?;
     out.push_str(if is_live { " live" } else { " empty" })
 }
 
 fn write_roots<D: Digest>(out: &mut String, root: &D, operations: &D) -> Result<(), AllocError>
-    ensures { Adds out.old out.new result (codes "root " ++ (encode_lower (D.bytes root.now) ++ (codes " " ++ encode_lower (D.bytes operations.now)))) }
+    ensures { Adds out.old out.new result (codes "root "
+        ++ (encode_lower (D.bytes root.now)
+        ++ (codes " " ++ encode_lower (D.bytes operations.now)))) }
 {
     write_hex(out, "root ", root.bytes())?;
     write_hex(out, " ", operations.bytes())
@@ -217,7 +230,10 @@ fn write_proof<D: Digest>(
     inactive: u64,
     digests: &[D],
 ) -> Result<(), AllocError>
-    ensures { Adds out.old out.new result (codes "proof " ++ (decimal leaves ++ (codes " " ++ (decimal inactive ++ (texts.digests_text (map D.bytes digests.now) ++ codes " /"))))) }
+    ensures { Adds out.old out.new result (codes "proof "
+        ++ (decimal leaves
+        ++ (codes " "
+        ++ (decimal inactive ++ (texts.digests_text (map D.bytes digests.now) ++ codes " /"))))) }
 {
     write_numbers(out, "proof", &[leaves, inactive])?;
     write_digests(out, digests)?;
@@ -231,7 +247,9 @@ fn write_proved<K: ByteString, V: ByteString, D: Digest>(
     digests: &[D],
     ops: &[Listed<K, V>],
 ) -> Result<(), AllocError>
-    ensures { Adds out.old out.new result (texts.reply_line (lines.Proved (record { leaves = leaves; inactive = inactive; digests = map D.bytes digests.now }) (map (listed_view K.bytes V.bytes) ops.now))) }
+    ensures { Adds out.old out.new result (texts.reply_line (lines.Proved
+        (record { leaves = leaves; inactive = inactive; digests = map D.bytes digests.now })
+        (map (listed_view K.bytes V.bytes) ops.now))) }
 {
     write_proof(out, leaves, inactive, digests)?;
     write_operations(out, ops)
@@ -244,7 +262,9 @@ fn write_batch_proof<D: Digest>(
     digests: &[D],
     pins: &[D],
 ) -> Result<(), AllocError>
-    ensures { Adds out.old out.new result (texts.reply_line (lines.BatchProved (record { leaves = leaves; inactive = inactive; digests = map D.bytes digests.now }) (map D.bytes pins.now))) }
+    ensures { Adds out.old out.new result (texts.reply_line (lines.BatchProved
+        (record { leaves = leaves; inactive = inactive; digests = map D.bytes digests.now })
+        (map D.bytes pins.now))) }
 {
     write_proof(out, leaves, inactive, digests)?;
     write_digests(out, pins)
@@ -255,7 +275,8 @@ fn write_listed<K: ByteString, V: ByteString>(
     base: u64,
     ops: &[Listed<K, V>],
 ) -> Result<(), AllocError>
-    ensures { Adds out.old out.new result (texts.reply_line (lines.Listed base (map (listed_view K.bytes V.bytes) ops.now))) }
+    ensures { Adds out.old out.new result
+        (texts.reply_line (lines.Listed base (map (listed_view K.bytes V.bytes) ops.now))) }
 {
     write_number(out, "ops ", base)?;
     write_operations(out, ops)
@@ -263,7 +284,8 @@ fn write_listed<K: ByteString, V: ByteString>(
 
 // What was read, each after a space.
 fn write_values<V: ByteString>(out: &mut String, values: &[Option<V>]) -> Result<(), AllocError>
-    ensures { Adds out.old out.new result (texts.values_text (map (option_map V.bytes) values.now)) }
+    ensures { Adds out.old out.new result
+        (texts.values_text (map (option_map V.bytes) values.now)) }
 {
     for value in values {
         write_optional(out, " ", value)?;
@@ -272,7 +294,8 @@ fn write_values<V: ByteString>(out: &mut String, values: &[Option<V>]) -> Result
 }
 
 fn write_read<V: ByteString>(out: &mut String, values: &[Option<V>]) -> Result<(), AllocError>
-    ensures { Adds out.old out.new result (texts.reply_line (lines.Read (map (option_map V.bytes) values.now))) }
+    ensures { Adds out.old out.new result
+        (texts.reply_line (lines.Read (map (option_map V.bytes) values.now))) }
 {
     out.push_str("read")?;
     write_values(out, values)
@@ -284,7 +307,8 @@ fn write_expanded<V: ByteString>(
     end: u64,
     values: &[Option<V>],
 ) -> Result<(), AllocError>
-    ensures { Adds out.old out.new result (texts.reply_line (lines.Expanded first end (map (option_map V.bytes) values.now))) }
+    ensures { Adds out.old out.new result
+        (texts.reply_line (lines.Expanded first end (map (option_map V.bytes) values.now))) }
 {
     write_numbers(out, "read", &[first, end])?;
     write_values(out, values)
@@ -305,7 +329,8 @@ fn write_span<K: ByteString, V: ByteString>(
     out: &mut String,
     span: &Option<Span<K, V>>,
 ) -> Result<(), AllocError>
-    ensures { Adds out.old out.new result (texts.spanning_text (option_map (span_view K.bytes V.bytes) span.now)) }
+    ensures { Adds out.old out.new result
+        (texts.spanning_text (option_map (span_view K.bytes V.bytes) span.now)) }
 {
     let Some(span) = span else {
         return out.push_str("none");
@@ -321,7 +346,8 @@ fn write_whole<K: ByteString, V: ByteString>(
     out: &mut String,
     whole: &Option<(V, K)>,
 ) -> Result<(), AllocError>
-    ensures { Adds out.old out.new result (texts.whole_text (option_map (whole_view K.bytes V.bytes) whole.now)) }
+    ensures { Adds out.old out.new result
+        (texts.whole_text (option_map (whole_view K.bytes V.bytes) whole.now)) }
 {
     let Some((value, next)) = whole else {
         return out.push_str("none");
@@ -335,7 +361,8 @@ fn write_range<K: ByteString, V: ByteString>(
     out: &mut String,
     pairs: &[(K, V)],
 ) -> Result<(), AllocError>
-    ensures { Adds out.old out.new result (texts.reply_line (lines.Ranged (map (pair_view K.bytes V.bytes) pairs.now))) }
+    ensures { Adds out.old out.new result
+        (texts.reply_line (lines.Ranged (map (pair_view K.bytes V.bytes) pairs.now))) }
 {
     out.push_str("range")?;
     for (key, value) in pairs {
@@ -356,7 +383,8 @@ fn write_keys<K: ByteString>(out: &mut String, keys: &[K]) -> Result<(), AllocEr
 }
 
 fn write_pins<D: Digest>(out: &mut String, digests: &[D]) -> Result<(), AllocError>
-    ensures { Adds out.old out.new result (texts.reply_line (lines.Pinned (map D.bytes digests.now))) }
+    ensures { Adds out.old out.new result
+        (texts.reply_line (lines.Pinned (map D.bytes digests.now))) }
 {
     out.push_str("pins")?;
     write_digests(out, digests)
@@ -366,7 +394,8 @@ fn write_line<K: ByteString, V: ByteString, D: Digest>(
     out: &mut String,
     reply: &Reply<K, V, D>,
 ) -> Result<(), AllocError>
-    ensures { Adds out.old out.new result (texts.reply_line (answer_view K.bytes V.bytes D.bytes reply.now)) }
+    ensures { Adds out.old out.new result
+        (texts.reply_line (answer_view K.bytes V.bytes D.bytes reply.now)) }
 {
     match reply {
         Reply::Opened(opening, start, size) => write_numbers(

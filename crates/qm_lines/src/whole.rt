@@ -27,7 +27,8 @@ pub fn read_all<S: Source>(alloc: Global, source: &mut S) -> Result<Vec<u8>, Inp
     ensures end { OnOk result (IsAtEnd (S.left source.new)) }
     ensures long { IsErrOf result InputError.TooLong →
         IfSome (S.left source.old) (λ input. LIMIT < length input) }
-    ensures cause { IsCause (S.faults source.old) (S.faults source.new) (IsErrOf result InputError.Failed) }
+    ensures cause { IsCause (S.faults source.old) (S.faults source.new)
+        (IsErrOf result InputError.Failed) }
     ensures steady { result ≢ Err InputError.Failed → S.faults source.new ≡ S.faults source.old }
 {
     let mut all = Vec::new(alloc);
@@ -52,7 +53,8 @@ pub fn read_all<S: Source>(alloc: Global, source: &mut S) -> Result<Vec<u8>, Inp
 pub fn write_all<K: Sink>(sink: &mut K, text: &[u8]) -> Result<(), SinkError>
     ensures ok { OnOk result (Grows (K.text sink.old) (K.text sink.new) text.now) }
     ensures err { OnErr result (GrowsPart (K.text sink.old) (K.text sink.new) text.now) }
-    ensures cause { IsCause (K.faults sink.old) (K.faults sink.new) (IsErrOf result SinkError.Failed) }
+    ensures cause { IsCause (K.faults sink.old) (K.faults sink.new)
+        (IsErrOf result SinkError.Failed) }
     ensures steady { result ≢ Err SinkError.Failed → K.faults sink.new ≡ K.faults sink.old }
 {
     let mut at = 0;

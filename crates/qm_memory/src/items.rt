@@ -177,7 +177,8 @@ fn put_all(bytes: &mut Vec<u8>, ends: &mut Vec<usize>, added: &[Vec<u8>])
     requires places { vec_len ends.old + length added.now ≤ vec_capacity ends.old }
     requires room { vec_len bytes.old + sum_by (λ v. vec_len v) added.now ≤ vec_capacity bytes.old }
     ensures ends { AreEnds 0 ends.new.items (length bytes.new.items) }
-    ensures items { cut 0 ends.new.items bytes.new.items ≡ cut 0 ends.old.items bytes.old.items ++ map (λ v. v.items) added.now }
+    ensures items { cut 0 ends.new.items bytes.new.items
+        ≡ cut 0 ends.old.items bytes.old.items ++ map (λ v. v.items) added.now }
 {
     for item in added {
         bytes.extend_from_slice(item).unwrap();

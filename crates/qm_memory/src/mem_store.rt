@@ -51,7 +51,9 @@ impl Model for MemStore {
 impl MemStore {
     /// An empty store, which fails at the calls of these numbers.
     pub fn new(alloc: Global, fail: Vec<u64>) -> MemStore
-        ensures { result ≡ record { held = at_start 0 []; changes = []; fail = fail.items; calls = 0; faults = 0 } }
+        ensures { result
+            ≡ record
+            { held = at_start 0 []; changes = []; fail = fail.items; calls = 0; faults = 0 } }
     {
         MemStore::with_head(alloc, 0, Vec::new(alloc), fail)
     }
@@ -59,7 +61,14 @@ impl MemStore {
     /// An empty store whose first item will be at this location, with this head.
     pub fn with_head(alloc: Global, start: u64, head: Vec<u8>, fail: Vec<u64>) -> MemStore
         requires { start ≤ 2 ^ 62 }
-        ensures { result ≡ record { held = at_start start head.items; changes = []; fail = fail.items; calls = 0; faults = 0 } }
+        ensures { result
+            ≡ record {
+              held = at_start start head.items;
+              changes = [];
+              fail = fail.items;
+              calls = 0;
+              faults = 0;
+            } }
     {
         MemStore {
             alloc,
@@ -143,7 +152,8 @@ impl Store for MemStore {
     fn read(&mut self, at: u64) -> Result<Vec<u8>, StoreError>
         requires from { self.old.held.start ≤ at }
         requires before { at < end_of self.old.held }
-        ensures item { IfOk result (λ v. slice_get self.old.held.items (at - self.old.held.start) ≡ Some v.items) }
+        ensures item { IfOk result (λ v.
+            slice_get self.old.held.items (at - self.old.held.start) ≡ Some v.items) }
         ensures same { self.new.held ≡ self.old.held }
         ensures cause { IsCause self.old.faults self.new.faults (IsErrOf result StoreError.Failed) }
 
@@ -193,7 +203,9 @@ impl Store for MemStore {
         // It fails at the listed calls alone.
         ensures fails { (result ≡ Err StoreError.Failed) ↔ Contains self.old.fail self.old.calls }
         ensures fault { result ≡ Err StoreError.Failed → self.new ≡ failed self.old }
-        ensures ok { OnOk result (self.new ≡ made (appending (map (λ v. v.items) added.now)) (appended (map (λ v. v.items) added.now)) self.old) }
+        ensures ok { OnOk result (self.new
+            ≡ made (appending (map (λ v. v.items) added.now))
+            (appended (map (λ v. v.items) added.now)) self.old) }
         ensures memory { result ≡ Err StoreError.Memory → self.new ≡ called self.old }
     {
         self.call()?;
@@ -304,7 +316,9 @@ impl Store for MemStore {
         // It fails at the listed calls alone.
         ensures fails { (result ≡ Err StoreError.Failed) ↔ Contains self.old.fail self.old.calls }
         ensures fault { result ≡ Err StoreError.Failed → self.new ≡ failed self.old }
-        ensures ok { OnOk result (self.new ≡ made (λ s. putting name.now s.metadata) (with_metadata name.now entries.now) self.old) }
+        ensures ok { OnOk result (self.new
+            ≡ made (λ s. putting name.now s.metadata) (with_metadata name.now entries.now)
+            self.old) }
         ensures memory { result ≡ Err StoreError.Memory → self.new ≡ called self.old }
     {
         self.call()?;
@@ -324,7 +338,9 @@ impl Store for MemStore {
         // It fails at the listed calls alone.
         ensures fails { (result ≡ Err StoreError.Failed) ↔ Contains self.old.fail self.old.calls }
         ensures fault { result ≡ Err StoreError.Failed → self.new ≡ failed self.old }
-        ensures ok { OnOk result (self.new ≡ made (λ s. restarting (chosen keep s) s) (λ s. restarted (chosen keep s) s) self.old) }
+        ensures ok { OnOk result (self.new
+            ≡ made (λ s. restarting (chosen keep s) s) (λ s. restarted (chosen keep s) s)
+            self.old) }
         ensures memory { result ≡ Err StoreError.Memory → self.new ≡ called self.old }
     {
         self.call()?;

@@ -107,7 +107,8 @@ pub(crate) fn take_out(
 ) -> Result<Change, AllocError>
     requires { AreNamedOnce metadata.old.items }
     ensures change { IfOk result (λ change. change ≡ putting name.now metadata.old.items) }
-    ensures rest { OnOk result (metadata.new.items ≡ filter (λ m. not (bytes_eq name.now m.name)) metadata.old.items) }
+    ensures rest { OnOk result
+        (metadata.new.items ≡ filter (λ m. not (bytes_eq name.now m.name)) metadata.old.items) }
     ensures err { OnErr result (metadata.new.items ≡ metadata.old.items) }
     ensures capacity { vec_capacity metadata.new ≡ vec_capacity metadata.old }
     ensures count { vec_len metadata.new ≤ vec_len metadata.old }

@@ -81,7 +81,8 @@ impl<F: Family, D> UnmerkleizedBatch<F, D> {
     pub(crate) fn of_tree(alloc: Global, start: Location<F>, leaves: Location<F>) -> Self
         requires order { start ≤ leaves }
         requires few { leaves ≤ 2 ^ 62 }
-        ensures { result ≡ record { start = start; base = leaves; layers = []; replaced = []; added = [] } }
+        ensures { result
+            ≡ record { start = start; base = leaves; layers = []; replaced = []; added = [] } }
     {
         UnmerkleizedBatch {
             start,
@@ -104,7 +105,8 @@ impl<F: Family, D: Digest> UnmerkleizedBatch<F, D> {
     /// Adds a leaf with this digest.
     pub fn add_leaf_digest(&mut self, digest: D) -> Result<(), AllocError>
         requires { leaves_of self.old < 2 ^ 62 }
-        ensures ok { OnOk result (self.new ≡ record self.old { added = self.old.added ++ digest ∷ [] }) }
+        ensures ok { OnOk result
+            (self.new ≡ record self.old { added = self.old.added ++ digest ∷ [] }) }
         ensures err { OnErr result (self.new ≡ self.old) }
     {
         self.added.push(digest)?;
@@ -114,7 +116,8 @@ impl<F: Family, D: Digest> UnmerkleizedBatch<F, D> {
     /// Adds leaves with these digests.
     pub fn add_leaf_digests(&mut self, digests: &[D]) -> Result<(), AllocError>
         requires { leaves_of self.old + length digests.now ≤ 2 ^ 62 }
-        ensures ok { OnOk result (self.new ≡ record self.old { added = self.old.added ++ digests.now }) }
+        ensures ok { OnOk result
+            (self.new ≡ record self.old { added = self.old.added ++ digests.now }) }
         ensures err { OnErr result (self.new ≡ self.old) }
     {
         self.added.extend_from_slice(digests)
@@ -127,10 +130,17 @@ impl<F: Family, D: Digest> UnmerkleizedBatch<F, D> {
         digest: D,
     ) -> Result<(), MerkleError>
         ensures ok { OnOk result (self.new ≡ updated self.old location digest) }
-        ensures leaf { (leaves : List (List ℕ)) → length leaves ≡ self.old.base → OnOk result (drafted D.bytes self.new leaves ≡ slice_set (drafted D.bytes self.old leaves) location (D.bytes digest)) }
-        ensures range { OnOk result ((self.old.start ≤ location) × (location < leaves_of self.old)) }
-        ensures cause { IfErr result (λ e. (e ≡ MerkleError.Memory) ⊎ (((location < self.old.start) × (e ≡ MerkleError.ElementPruned (trees.Shape.position F.shape (trees.leaf location)))) ⊎ ((leaves_of self.old ≤ location) × (e ≡ MerkleError.RangeOutOfBounds location)))) }
-        ensures memory { self.old.start ≤ location → location < leaves_of self.old → IfErr result (λ e. e ≡ MerkleError.Memory) }
+        ensures leaf { (leaves : List (List ℕ)) → length leaves ≡ self.old.base
+            → OnOk result (drafted D.bytes self.new leaves
+            ≡ slice_set (drafted D.bytes self.old leaves) location (D.bytes digest)) }
+        ensures range { OnOk result
+            ((self.old.start ≤ location) × (location < leaves_of self.old)) }
+        ensures cause { IfErr result (λ e. (e ≡ MerkleError.Memory)
+            ⊎ (((location < self.old.start)
+            × (e ≡ MerkleError.ElementPruned (trees.Shape.position F.shape (trees.leaf location))))
+            ⊎ ((leaves_of self.old ≤ location) × (e ≡ MerkleError.RangeOutOfBounds location)))) }
+        ensures memory { self.old.start ≤ location → location < leaves_of self.old
+            → IfErr result (λ e. e ≡ MerkleError.Memory) }
         ensures err { OnErr result (self.new ≡ self.old) }
     {
         let number = location.get();
@@ -163,11 +173,21 @@ impl<F: Family, D: Digest> UnmerkleizedBatch<F, D> {
         ensures base { IfOk result (λ b. b.newest.tree.start ≡ self.base) }
         ensures leaves { IfOk result (λ b. b.newest.tree.leaves ≡ leaves_of self) }
         ensures older { IfOk result (λ b. b.older ≡ self.layers) }
-        ensures own { IfOk result (λ b. (x : trees.Node) → trees.Shape.birth F.shape x ≤ leaves_of self → (IsSome (layer_at F.shape b.newest (trees.Shape.position F.shape x)) ↔ ((self.base < trees.Shape.birth F.shape x) ⊎ IsOver self.replaced x.height x.index))) }
-        ensures history { (list base : List (List ℕ)) (lists : List (List (List ℕ))) → IsHistory F.shape D.bytes H.hash self.layers (base ∷ lists) → Contains (base ∷ lists) list → Stands F.shape D.bytes H.hash mem.now list
-            → IfOk result (λ b. IsHistory F.shape D.bytes H.hash (all_layers b) (drafted D.bytes self base ∷ base ∷ lists)) }
-        ensures few { (k : ℕ) → self.base < 2 ^ suc k → IfOk result (λ b. length b.newest.replaced ≤ length self.replaced * suc k) }
-        ensures made { IfOk result (λ b. hasher.new ≡ more hasher.old ((length b.newest.tree.nodes - length self.added) + (length b.newest.replaced - length self.replaced))) }
+        ensures own { IfOk result (λ b.
+            (x : trees.Node) → trees.Shape.birth F.shape x ≤ leaves_of self
+            → (IsSome (layer_at F.shape b.newest (trees.Shape.position F.shape x))
+            ↔ ((self.base < trees.Shape.birth F.shape x)
+            ⊎ IsOver self.replaced x.height x.index))) }
+        ensures history { (list base : List (List ℕ)) (lists : List (List (List ℕ)))
+            → IsHistory F.shape D.bytes H.hash self.layers (base ∷ lists)
+            → Contains (base ∷ lists) list → Stands F.shape D.bytes H.hash mem.now list
+            → IfOk result (λ b. IsHistory F.shape D.bytes H.hash (all_layers b)
+            (drafted D.bytes self base ∷ base ∷ lists)) }
+        ensures few { (k : ℕ) → self.base < 2 ^ suc k
+            → IfOk result (λ b. length b.newest.replaced ≤ length self.replaced * suc k) }
+        ensures made { IfOk result (λ b. hasher.new
+            ≡ more hasher.old ((length b.newest.tree.nodes - length self.added) +
+            (length b.newest.replaced - length self.replaced))) }
     {
         let start = self.start;
         // its clauses say that the tree is whole
@@ -212,9 +232,13 @@ impl<F: Family, D: Digest> UnmerkleizedBatch<F, D> {
         ensures start { IfOk result (λ m. m.start ≡ self.now.base) }
         ensures leaves { IfOk result (λ m. m.leaves ≡ leaves_of self.now) }
         ensures whole { IfOk result (IsWhole F.shape) }
-        ensures stands { (list : List (List ℕ)) → length list ≡ self.now.base → AreRead F.shape D.bytes H.hash self.now.layers mem.now list → AreRight F.shape D.bytes H.hash nodes.now.entries (replaced_from D.bytes self.now.replaced 0 list)
+        ensures stands { (list : List (List ℕ)) → length list ≡ self.now.base
+            → AreRead F.shape D.bytes H.hash self.now.layers mem.now list
+            → AreRight F.shape D.bytes H.hash nodes.now.entries
+            (replaced_from D.bytes self.now.replaced 0 list)
             → IfOk result (λ m. Stands F.shape D.bytes H.hash m (drafted D.bytes self.now list)) }
-        ensures made { IfOk result (λ m. hasher.new ≡ more hasher.old (length m.nodes - length self.now.added)) }
+        ensures made { IfOk result (λ m.
+            hasher.new ≡ more hasher.old (length m.nodes - length self.now.added)) }
     {
         let positions = F::nodes_to_pin(alloc, self.base)?;
         let pins = self.digests(alloc, mem, nodes, &positions)?;
@@ -231,8 +255,10 @@ impl<F: Family, D: Digest> UnmerkleizedBatch<F, D> {
         nodes: &BTreeMap<u64, D>,
         positions: &[Position<F>],
     ) -> Result<Vec<D>, AllocError>
-        requires { All (λ p. IsSome (made_at F.shape nodes.now.entries self.now.layers mem.now p)) positions.now }
-        ensures { IfOk result (λ v. map Some v.items ≡ map (made_at F.shape nodes.now.entries self.now.layers mem.now) positions.now) }
+        requires { All (λ p. IsSome (made_at F.shape nodes.now.entries self.now.layers mem.now p))
+            positions.now }
+        ensures { IfOk result (λ v. map Some v.items
+            ≡ map (made_at F.shape nodes.now.entries self.now.layers mem.now) positions.now) }
     {
         let mut found = Vec::with_capacity(alloc, positions.len())?;
         for position in positions {
@@ -245,7 +271,15 @@ impl<F: Family, D: Digest> UnmerkleizedBatch<F, D> {
 impl<F: Family, D: Digest> MerkleizedBatch<F, D> {
     /// A batch that stands on this one.
     pub fn new_batch(&self, alloc: Global) -> Result<UnmerkleizedBatch<F, D>, AllocError>
-        ensures { IfOk result (λ b. b ≡ record { start = self.now.start; base = self.now.newest.tree.leaves; layers = all_layers self.now; replaced = []; added = [] }) }
+        ensures { IfOk result (λ b. b
+            ≡ record {
+              start = self.now.start;
+              base = self.now.newest.tree.leaves;
+              layers =
+                  all_layers self.now;
+              replaced = [];
+              added = [];
+            }) }
     {
         self.new_batch_since(alloc, Location::new(0))
     }
@@ -258,9 +292,21 @@ impl<F: Family, D: Digest> MerkleizedBatch<F, D> {
         leaves: Location<F>,
     ) -> Result<UnmerkleizedBatch<F, D>, AllocError>
         requires { leaves ≤ self.now.newest.tree.leaves }
-        ensures draft { IfOk result (λ b. b ≡ record { start = self.now.start; base = self.now.newest.tree.leaves; layers = layers_since leaves (all_layers self.now); replaced = []; added = [] }) }
-        ensures stops { IfOk result (λ b. stops b.base b.layers ≡ stops_since leaves (stops self.now.newest.tree.leaves (all_layers self.now))) }
-        ensures history { (hash : List ℕ → List ℕ) (lists : List (List (List ℕ))) → IsHistory F.shape D.bytes hash (all_layers self.now) lists → IfOk result (λ b. IsHistory F.shape D.bytes hash b.layers (lists_since leaves lists)) }
+        ensures draft { IfOk result (λ b. b
+            ≡ record {
+              start = self.now.start;
+              base = self.now.newest.tree.leaves;
+              layers =
+                  layers_since leaves (all_layers self.now);
+              replaced = [];
+              added = [];
+            }) }
+        ensures stops { IfOk result (λ b. stops b.base b.layers
+            ≡ stops_since leaves (stops self.now.newest.tree.leaves (all_layers self.now))) }
+        ensures history { (hash : List ℕ → List ℕ) (lists : List (List (List ℕ)))
+            → IsHistory F.shape D.bytes hash (all_layers self.now) lists
+            → IfOk result (λ b.
+            IsHistory F.shape D.bytes hash b.layers (lists_since leaves lists)) }
     {
         Ok(UnmerkleizedBatch {
             start: self.start,
@@ -277,7 +323,8 @@ impl<F: Family, D: Digest> MerkleizedBatch<F, D> {
         alloc: Global,
         leaves: Location<F>,
     ) -> Result<Vec<Rc<Layer<F, D>>>, AllocError>
-        ensures { IfOk result (λ v. map (λ r. r.value) v.items ≡ layers_since leaves (all_layers self.now)) }
+        ensures { IfOk result (λ v.
+            map (λ r. r.value) v.items ≡ layers_since leaves (all_layers self.now)) }
     {
         if self.newest.base().get() < leaves.get() {
             return Ok(Vec::new(alloc));
@@ -290,7 +337,8 @@ impl<F: Family, D: Digest> MerkleizedBatch<F, D> {
     pub fn leaves(&self) -> Location<F>
         ensures count { result ≡ self.now.newest.tree.leaves }
         ensures few { result ≤ 2 ^ 62 }
-        ensures most { All (λ n. n ≤ result) (stops self.now.newest.tree.leaves (all_layers self.now)) }
+        ensures most { All (λ n. n ≤ result)
+            (stops self.now.newest.tree.leaves (all_layers self.now)) }
     {
         self.newest.tree.leaves()
     }
@@ -321,8 +369,11 @@ impl<F: Family, D: Digest> MerkleizedBatch<F, D> {
         inactive: usize,
     ) -> Result<D, AllocError>
         requires { inactive ≤ length (trees.peaks F.shape self.now.newest.tree.leaves) }
-        ensures root { (list : List (List ℕ)) (lists : List (List (List ℕ))) → IsHistory F.shape D.bytes H.hash (all_layers self.now) (list ∷ lists) → IfOk result (λ d. D.bytes d ≡ trees.root H.hash F.shape list inactive) }
-        ensures made { OnOk result (hasher.new ≡ more hasher.old (max 1 (length (trees.peaks F.shape self.now.newest.tree.leaves)))) }
+        ensures root { (list : List (List ℕ)) (lists : List (List (List ℕ)))
+            → IsHistory F.shape D.bytes H.hash (all_layers self.now) (list ∷ lists)
+            → IfOk result (λ d. D.bytes d ≡ trees.root H.hash F.shape list inactive) }
+        ensures made { OnOk result (hasher.new
+            ≡ more hasher.old (max 1 (length (trees.peaks F.shape self.now.newest.tree.leaves)))) }
     {
         self.newest.tree.root(alloc, hasher, inactive)
     }
@@ -370,7 +421,8 @@ fn first_of<T: Drop>(
     first: &Rc<T>,
     others: &[Rc<T>],
 ) -> Result<Vec<Rc<T>>, AllocError>
-    ensures { IfOk result (λ all. map (λ r. r.value) all.items ≡ first.now.value ∷ map (λ r. r.value) others.now) }
+    ensures { IfOk result (λ all.
+        map (λ r. r.value) all.items ≡ first.now.value ∷ map (λ r. r.value) others.now) }
 {
     let mut all = others.to_vec(alloc)?;
     all.insert(0, first.clone()?)?;

@@ -101,12 +101,15 @@ pub trait Family: Copy {
     fn subtree_root_position(start: Location<Self>, height: u32) -> Position<Self>
         requires whole { (index : ℕ) × (start ≡ index * 2 ^ height) }
         requires within { start + 2 ^ height ≤ 2 ^ 62 }
-        ensures { (index : ℕ) → start ≡ index * 2 ^ height → result ≡ trees.Shape.position shape (record { height = height; index = index }) };
+        ensures { (index : ℕ) → start ≡ index * 2 ^ height
+            → result ≡ trees.Shape.position shape (record { height = height; index = index }) };
 
     /// How many leaves a tree has when the node is born that has this height and stands there.
     fn peak_birth_size(position: Position<Self>, height: u32) -> Location<Self>
         requires { StandsAt shape height position }
-        ensures { (index : ℕ) → trees.Shape.position shape (record { height = height; index = index }) ≡ position → result ≡ trees.Shape.birth shape (record { height = height; index = index }) };
+        ensures { (index : ℕ)
+            → trees.Shape.position shape (record { height = height; index = index }) ≡ position
+            → result ≡ trees.Shape.birth shape (record { height = height; index = index }) };
 
     /// The number that an inner node's digest is made with: where it stands, unless the tree is grafted onto another.
     fn number(node: Node) -> u64

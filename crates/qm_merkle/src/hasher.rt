@@ -42,7 +42,8 @@ impl<H: Hasher> StandardHasher<H> {
 
     /// The digest of bytes that stand in several parts.
     pub fn digest(&mut self, parts: &[&[u8]]) -> H::Digest
-        ensures digest { H.Digest.bytes result ≡ H.hash (concat (map (λ part. part.now) parts.now)) }
+        ensures digest { H.Digest.bytes result
+            ≡ H.hash (concat (map (λ part. part.now) parts.now)) }
         ensures made { self.new ≡ more self.old 1 }
     {
         self.hasher.start();
@@ -64,7 +65,8 @@ impl<H: Hasher> StandardHasher<H> {
 
     /// The digest of the leaf at this position with the element's spelling.
     pub fn leaf_digest_of<F, E: Spelled>(&mut self, position: Position<F>, element: &E) -> H::Digest
-        ensures digest { H.Digest.bytes result ≡ trees.leaf_digest H.hash position (E.spelling element.now) }
+        ensures digest { H.Digest.bytes result
+            ≡ trees.leaf_digest H.hash position (E.spelling element.now) }
         ensures made { self.new ≡ more self.old 1 }
     {
         begin(&mut self.hasher, position.get());
@@ -74,7 +76,8 @@ impl<H: Hasher> StandardHasher<H> {
 
     /// The digest of the inner node of this number (its position, in a tree that is not grafted) over its two halves.
     pub fn node_digest(&mut self, number: u64, left: &H::Digest, right: &H::Digest) -> H::Digest
-        ensures digest { H.Digest.bytes result ≡ trees.node_digest H.hash number (H.Digest.bytes left.now) (H.Digest.bytes right.now) }
+        ensures digest { H.Digest.bytes result
+            ≡ trees.node_digest H.hash number (H.Digest.bytes left.now) (H.Digest.bytes right.now) }
         ensures made { self.new ≡ more self.old 1 }
     {
         begin(&mut self.hasher, number);
@@ -91,7 +94,8 @@ impl<H: Hasher> StandardHasher<H> {
         peaks: &[H::Digest],
     ) -> H::Digest
         requires { inactive ≤ length peaks.now }
-        ensures digest { H.Digest.bytes result ≡ trees.root_of H.hash leaves inactive (map H.Digest.bytes peaks.now) }
+        ensures digest { H.Digest.bytes result
+            ≡ trees.root_of H.hash leaves inactive (map H.Digest.bytes peaks.now) }
         ensures made { self.new ≡ more self.old (max 1 (length peaks.now)) }
     {
         if peaks.is_empty() {
@@ -105,7 +109,10 @@ impl<H: Hasher> StandardHasher<H> {
     fn folded(&mut self, inactive: usize, peaks: &[H::Digest]) -> H::Digest
         requires some { 0 < length peaks.now }
         requires inactive { inactive ≤ length peaks.now }
-        ensures digest { H.Digest.bytes result ≡ trees.fold_right H.hash (trees.fold_inactive H.hash (take inactive (map H.Digest.bytes peaks.now)) ++ drop inactive (map H.Digest.bytes peaks.now)) }
+        ensures digest { H.Digest.bytes result
+            ≡ trees.fold_right H.hash (trees.fold_inactive H.hash
+            (take inactive (map H.Digest.bytes peaks.now))
+            ++ drop inactive (map H.Digest.bytes peaks.now)) }
         ensures made { self.new ≡ more self.old (length peaks.now - 1) }
     {
         if inactive == 0 {
@@ -121,7 +128,8 @@ impl<H: Hasher> StandardHasher<H> {
 
     /// The digest of two digests in a row.
     pub fn pair_digest(&mut self, left: &H::Digest, right: &H::Digest) -> H::Digest
-        ensures digest { H.Digest.bytes result ≡ H.hash (H.Digest.bytes left.now ++ H.Digest.bytes right.now) }
+        ensures digest { H.Digest.bytes result
+            ≡ H.hash (H.Digest.bytes left.now ++ H.Digest.bytes right.now) }
         ensures made { self.new ≡ more self.old 1 }
     {
         self.hasher.start();
@@ -132,7 +140,8 @@ impl<H: Hasher> StandardHasher<H> {
 
     // Digests folded from the left, onto a first one.
     fn fold_left(&mut self, first: H::Digest, rest: &[H::Digest]) -> H::Digest
-        ensures digest { H.Digest.bytes result ≡ trees.fold_left H.hash (H.Digest.bytes first) (map H.Digest.bytes rest.now) }
+        ensures digest { H.Digest.bytes result
+            ≡ trees.fold_left H.hash (H.Digest.bytes first) (map H.Digest.bytes rest.now) }
         ensures made { self.new ≡ more self.old (length rest.now) }
     {
         let mut folded = first;
@@ -145,7 +154,8 @@ impl<H: Hasher> StandardHasher<H> {
     // Digests folded from the right.
     fn fold_right(&mut self, digests: &[H::Digest]) -> H::Digest
         requires { 0 < length digests.now }
-        ensures digest { H.Digest.bytes result ≡ trees.fold_right H.hash (map H.Digest.bytes digests.now) }
+        ensures digest { H.Digest.bytes result
+            ≡ trees.fold_right H.hash (map H.Digest.bytes digests.now) }
         ensures made { self.new ≡ more self.old (length digests.now - 1) }
     {
         let mut at = digests.len() - 1;
@@ -159,7 +169,9 @@ impl<H: Hasher> StandardHasher<H> {
 
     /// The digest of two numbers, of leaves and of inactive peaks, and what the peaks fold to: a root.
     pub fn sealed<F>(&mut self, leaves: Location<F>, inactive: usize, folded: &[u8]) -> H::Digest
-        ensures digest { H.Digest.bytes result ≡ H.hash (operations.eight_bytes leaves ++ operations.eight_bytes inactive ++ folded.now) }
+        ensures digest { H.Digest.bytes result
+            ≡ H.hash
+            (operations.eight_bytes leaves ++ operations.eight_bytes inactive ++ folded.now) }
         ensures made { self.new ≡ more self.old 1 }
     {
         begin(&mut self.hasher, leaves.get());

@@ -60,10 +60,20 @@ impl<F: Family, D: Digest> Mem<F, D> {
         pinned: Vec<D>,
     ) -> Result<Self, MerkleError>
         requires pins { length pinned.items ≤ length (trees.peaks F.shape pruned_to) }
-        requires size { (n : ℕ) × (n ≤ 2 ^ 62) × (trees.Shape.size F.shape n ≡ trees.Shape.size F.shape pruned_to + length nodes.items) }
-        ensures ok { (n : ℕ) → trees.Shape.size F.shape n ≡ trees.Shape.size F.shape pruned_to + length nodes.items → IfOk result (λ mem. mem ≡ record { start = pruned_to; leaves = n; pins = pinned.items; nodes = nodes.items }) }
-        ensures enough { OnOk result (length pinned.items ≡ length (trees.peaks F.shape pruned_to)) }
-        ensures missing { IfErr result (λ e. (e ≡ MerkleError.Memory) ⊎ ((length pinned.items < length (trees.peaks F.shape pruned_to)) × (e ≡ MerkleError.MissingNode (slice_index (trees.peak_positions F.shape pruned_to) (length pinned.items))))) }
+        requires size { (n : ℕ) × (n ≤ 2 ^ 62)
+            × (trees.Shape.size F.shape n
+            ≡ trees.Shape.size F.shape pruned_to + length nodes.items) }
+        ensures ok { (n : ℕ)
+            → trees.Shape.size F.shape n ≡ trees.Shape.size F.shape pruned_to + length nodes.items
+            → IfOk result (λ mem. mem
+            ≡ record { start = pruned_to; leaves = n; pins = pinned.items; nodes = nodes.items }) }
+        ensures enough { OnOk result
+            (length pinned.items ≡ length (trees.peaks F.shape pruned_to)) }
+        ensures missing { IfErr result (λ e. (e ≡ MerkleError.Memory)
+            ⊎ ((length pinned.items < length (trees.peaks F.shape pruned_to))
+            × (e
+            ≡ MerkleError.MissingNode
+            (slice_index (trees.peak_positions F.shape pruned_to) (length pinned.items))))) }
     {
         let positions = F::nodes_to_pin(alloc, pruned_to)?;
         if pinned.len() < positions.len() {
@@ -80,8 +90,13 @@ impl<F: Family, D: Digest> Mem<F, D> {
         pinned: Vec<D>,
     ) -> Result<Self, AllocError>
         requires pins { length pinned.items ≡ length (trees.peaks F.shape pruned_to) }
-        requires size { (n : ℕ) × (n ≤ 2 ^ 62) × (trees.Shape.size F.shape n ≡ trees.Shape.size F.shape pruned_to + length nodes.items) }
-        ensures { (n : ℕ) → trees.Shape.size F.shape n ≡ trees.Shape.size F.shape pruned_to + length nodes.items → IfOk result (λ mem. mem ≡ record { start = pruned_to; leaves = n; pins = pinned.items; nodes = nodes.items }) }
+        requires size { (n : ℕ) × (n ≤ 2 ^ 62)
+            × (trees.Shape.size F.shape n
+            ≡ trees.Shape.size F.shape pruned_to + length nodes.items) }
+        ensures { (n : ℕ)
+            → trees.Shape.size F.shape n ≡ trees.Shape.size F.shape pruned_to + length nodes.items
+            → IfOk result (λ mem. mem
+            ≡ record { start = pruned_to; leaves = n; pins = pinned.items; nodes = nodes.items }) }
     {
         let positions = F::nodes_to_pin(alloc, pruned_to)?;
         Ok(Mem::of_parts(positions, nodes, pruned_to, pinned))
@@ -135,8 +150,10 @@ impl<F: Family, D: Digest> Mem<F, D> {
         inactive: usize,
     ) -> Result<D, AllocError>
         requires { inactive ≤ length (trees.peaks F.shape self.now.leaves) }
-        ensures root { (leaves : List (List ℕ)) → Stands F.shape D.bytes H.hash self.now leaves → IfOk result (λ d. D.bytes d ≡ trees.root H.hash F.shape leaves inactive) }
-        ensures made { OnOk result (hasher.new ≡ more hasher.old (max 1 (length (trees.peaks F.shape self.now.leaves)))) }
+        ensures root { (leaves : List (List ℕ)) → Stands F.shape D.bytes H.hash self.now leaves
+            → IfOk result (λ d. D.bytes d ≡ trees.root H.hash F.shape leaves inactive) }
+        ensures made { OnOk result
+            (hasher.new ≡ more hasher.old (max 1 (length (trees.peaks F.shape self.now.leaves)))) }
     {
         let positions = F::nodes_to_pin(alloc, self.leaves)?;
         let peaks = self.digests(alloc, &positions)?;
@@ -145,16 +162,28 @@ impl<F: Family, D: Digest> Mem<F, D> {
 
     /// A batch that stands on the tree as it is.
     pub fn new_batch(&self, alloc: Global) -> UnmerkleizedBatch<F, D>
-        ensures { result ≡ record { start = self.now.start; base = self.now.leaves; layers = []; replaced = []; added = [] } }
+        ensures { result
+            ≡ record {
+              start = self.now.start;
+              base = self.now.leaves;
+              layers = [];
+              replaced = [];
+              added = [];
+            } }
     {
         UnmerkleizedBatch::of_tree(alloc, self.start, self.leaves)
     }
 
     /// Takes over the nodes that a batch adds and replaces, and those of the batches that it stands on and that the tree does not have yet.
     pub fn apply_batch(&mut self, batch: &MerkleizedBatch<F, D>) -> Result<(), AllocError>
-        requires reach { Contains (stops batch.now.newest.tree.leaves (all_layers batch.now)) self.old.leaves }
-        ensures bounds { OnOk result ((self.new.start ≡ self.old.start) × (self.new.leaves ≡ batch.now.newest.tree.leaves)) }
-        ensures stands { (hash : List ℕ → List ℕ) (list new : List (List ℕ)) (lists : List (List (List ℕ))) → IsHistory F.shape D.bytes hash (all_layers batch.now) (new ∷ lists) → Contains (new ∷ lists) list → Stands F.shape D.bytes hash self.old list
+        requires reach { Contains (stops batch.now.newest.tree.leaves (all_layers batch.now))
+            self.old.leaves }
+        ensures bounds { OnOk result
+            ((self.new.start ≡ self.old.start) × (self.new.leaves ≡ batch.now.newest.tree.leaves)) }
+        ensures stands { (hash : List ℕ → List ℕ) (list new : List (List ℕ))
+            (lists : List (List (List ℕ)))
+            → IsHistory F.shape D.bytes hash (all_layers batch.now) (new ∷ lists)
+            → Contains (new ∷ lists) list → Stands F.shape D.bytes hash self.old list
             → OnOk result (Stands F.shape D.bytes hash self.new new) }
         ensures err { OnErr result (self.new ≡ self.old) }
     {
@@ -176,8 +205,11 @@ impl<F: Family, D: Digest> Mem<F, D> {
         requires start { self.old.start ≤ to }
         requires leaves { to ≤ self.old.leaves }
         ensures bounds { OnOk result ((self.new.start ≡ to) × (self.new.leaves ≡ self.old.leaves)) }
-        ensures same { OnOk result ((p : ℕ) → Holds F.shape self.new p → node_at F.shape self.new p ≡ node_at F.shape self.old p) }
-        ensures stands { (hash : List ℕ → List ℕ) (leaves : List (List ℕ)) → Stands F.shape D.bytes hash self.old leaves → OnOk result (Stands F.shape D.bytes hash self.new leaves) }
+        ensures same { OnOk result ((p : ℕ) → Holds F.shape self.new p
+            → node_at F.shape self.new p ≡ node_at F.shape self.old p) }
+        ensures stands { (hash : List ℕ → List ℕ) (leaves : List (List ℕ))
+            → Stands F.shape D.bytes hash self.old leaves
+            → OnOk result (Stands F.shape D.bytes hash self.new leaves) }
         ensures err { OnErr result (self.new ≡ self.old) }
     {
         let start = self.start;
@@ -204,7 +236,8 @@ impl<F: Family, D: Digest> Mem<F, D> {
     // The digests of nodes that the tree holds.
     fn digests(&self, alloc: Global, positions: &[Position<F>]) -> Result<Vec<D>, AllocError>
         requires { All (Holds F.shape self.now) positions.now }
-        ensures { IfOk result (λ v. map Some v.items ≡ map (node_at F.shape self.now) positions.now) }
+        ensures { IfOk result (λ v.
+            map Some v.items ≡ map (node_at F.shape self.now) positions.now) }
     {
         let mut found = Vec::with_capacity(alloc, positions.len())?;
         for position in positions {
@@ -221,9 +254,13 @@ impl<F: Family, D: Digest> Mem<F, D> {
         buffer: &mut Vec<D>,
     ) -> Result<(), AllocError>
         requires { self.old.leaves < 2 ^ 62 }
-        ensures bounds { OnOk result ((self.new.start ≡ self.old.start) × (self.new.leaves ≡ self.old.leaves + 1)) }
-        ensures stands { (leaves : List (List ℕ)) → Stands F.shape D.bytes H.hash self.old leaves → OnOk result (Stands F.shape D.bytes H.hash self.new (leaves ++ D.bytes leaf ∷ [])) }
-        ensures made { OnOk result (hasher.new ≡ more hasher.old (trees.Shape.size F.shape (self.old.leaves + 1) - trees.Shape.size F.shape self.old.leaves - 1)) }
+        ensures bounds { OnOk result
+            ((self.new.start ≡ self.old.start) × (self.new.leaves ≡ self.old.leaves + 1)) }
+        ensures stands { (leaves : List (List ℕ)) → Stands F.shape D.bytes H.hash self.old leaves
+            → OnOk result (Stands F.shape D.bytes H.hash self.new (leaves ++ D.bytes leaf ∷ [])) }
+        ensures made { OnOk result (hasher.new
+            ≡ more hasher.old (trees.Shape.size F.shape (self.old.leaves + 1) - trees.Shape.size
+            F.shape self.old.leaves - 1)) }
         ensures err { OnErr result (self.new ≡ self.old) }
     {
         self.births(hasher, leaf, buffer)?;
@@ -240,9 +277,14 @@ impl<F: Family, D: Digest> Mem<F, D> {
         leaves: &[D],
     ) -> Result<(), AllocError>
         requires { self.old.leaves + length leaves.now ≤ 2 ^ 62 }
-        ensures bounds { OnOk result ((self.new.start ≡ self.old.start) × (self.new.leaves ≡ self.old.leaves + length leaves.now)) }
-        ensures stands { (list : List (List ℕ)) → Stands F.shape D.bytes H.hash self.old list → OnOk result (Stands F.shape D.bytes H.hash self.new (list ++ map D.bytes leaves.now)) }
-        ensures made { OnOk result (hasher.new ≡ more hasher.old (trees.Shape.size F.shape self.new.leaves - trees.Shape.size F.shape self.old.leaves - length leaves.now)) }
+        ensures bounds { OnOk result ((self.new.start ≡ self.old.start)
+            × (self.new.leaves ≡ self.old.leaves + length leaves.now)) }
+        ensures stands { (list : List (List ℕ)) → Stands F.shape D.bytes H.hash self.old list
+            → OnOk result
+            (Stands F.shape D.bytes H.hash self.new (list ++ map D.bytes leaves.now)) }
+        ensures made { OnOk result (hasher.new
+            ≡ more hasher.old (trees.Shape.size F.shape self.new.leaves - trees.Shape.size F.shape
+            self.old.leaves - length leaves.now)) }
     {
         self.make_room(leaves.len() as u64)?;
         let mut buffer = Vec::new(alloc);
@@ -260,8 +302,11 @@ impl<F: Family, D: Digest> Mem<F, D> {
         buffer: &mut Vec<D>,
     ) -> Result<(), AllocError>
         requires { self.now.leaves < 2 ^ 62 }
-        ensures count { OnOk result (length buffer.new.items ≡ Births.count F.births self.now.leaves) }
-        ensures born { (leaves : List (List ℕ)) → Stands F.shape D.bytes H.hash self.now leaves → OnOk result (AreBorn F.shape F.births D.bytes H.hash self.now.leaves (leaves ++ D.bytes leaf ∷ []) buffer.new.items) }
+        ensures count { OnOk result
+            (length buffer.new.items ≡ Births.count F.births self.now.leaves) }
+        ensures born { (leaves : List (List ℕ)) → Stands F.shape D.bytes H.hash self.now leaves
+            → OnOk result (AreBorn F.shape F.births D.bytes H.hash self.now.leaves
+            (leaves ++ D.bytes leaf ∷ []) buffer.new.items) }
         ensures made { OnOk result (hasher.new ≡ more hasher.old (length buffer.new.items - 1)) }
     {
         let count = F::birth_count(self.leaves);
@@ -286,8 +331,13 @@ impl<F: Family, D: Digest> Mem<F, D> {
         requires number { length made.now ≡ number }
         requires some { 0 < number }
         requires room { number < Births.count F.births self.now.leaves }
-        ensures digest { (leaves : List (List ℕ)) (leaf : D) → Stands F.shape D.bytes H.hash self.now leaves → AreBorn F.shape F.births D.bytes H.hash self.now.leaves (leaves ++ D.bytes leaf ∷ []) made.now
-            → D.bytes result ≡ trees.digest_of H.hash F.shape (leaves ++ D.bytes leaf ∷ []) (Births.born F.births self.now.leaves number) }
+        ensures digest { (leaves : List (List ℕ)) (leaf : D)
+            → Stands F.shape D.bytes H.hash self.now leaves
+            → AreBorn F.shape F.births D.bytes H.hash self.now.leaves (leaves ++ D.bytes leaf ∷ [])
+            made.now
+            → D.bytes result
+            ≡ trees.digest_of H.hash F.shape (leaves ++ D.bytes leaf ∷ [])
+            (Births.born F.births self.now.leaves number) }
         ensures made { hasher.new ≡ more hasher.old 1 }
     {
         let node = F::born(self.leaves, number);
@@ -303,8 +353,12 @@ impl<F: Family, D: Digest> Mem<F, D> {
         requires held { IsHeld F.shape F.births self.now.leaves (length made.now) node }
         requires bare { self.now.start < trees.Shape.birth F.shape (over node) }
         requires within { trees.end_of node ≤ 2 ^ 62 }
-        ensures old { trees.Shape.birth F.shape node ≤ self.now.leaves → node_at F.shape self.now (trees.Shape.position F.shape node) ≡ Some result }
-        ensures new { self.now.leaves < trees.Shape.birth F.shape node → slice_get made.now (trees.Shape.position F.shape node - trees.Shape.size F.shape self.now.leaves) ≡ Some result }
+        ensures old { trees.Shape.birth F.shape node ≤ self.now.leaves
+            → node_at F.shape self.now (trees.Shape.position F.shape node) ≡ Some result }
+        ensures new { self.now.leaves < trees.Shape.birth F.shape node
+            → slice_get made.now
+            (trees.Shape.position F.shape node - trees.Shape.size F.shape self.now.leaves)
+            ≡ Some result }
     {
         let position = place(node);
         let size = F::location_to_position(self.leaves);
@@ -326,8 +380,12 @@ impl<F: Family, D> Mem<F, D> {
     ) -> Self
         requires positions { positions.items ≡ trees.peak_positions F.shape start }
         requires pins { length pins.items ≡ length (trees.peaks F.shape start) }
-        requires size { (n : ℕ) × (n ≤ 2 ^ 62) × (trees.Shape.size F.shape n ≡ trees.Shape.size F.shape start + length nodes.items) }
-        ensures { (n : ℕ) → trees.Shape.size F.shape n ≡ trees.Shape.size F.shape start + length nodes.items → result ≡ record { start = start; leaves = n; pins = pins.items; nodes = nodes.items } }
+        requires size { (n : ℕ) × (n ≤ 2 ^ 62)
+            × (trees.Shape.size F.shape n ≡ trees.Shape.size F.shape start + length nodes.items) }
+        ensures { (n : ℕ)
+            → trees.Shape.size F.shape n ≡ trees.Shape.size F.shape start + length nodes.items
+            → result
+            ≡ record { start = start; leaves = n; pins = pins.items; nodes = nodes.items } }
     {
         let leaves = leaves_past(start, nodes.len() as u64);
         Mem {
@@ -366,8 +424,10 @@ impl<F: Family, D: Copy> Mem<F, D> {
 
 // How many leaves a tree has with so many nodes past the size at a start.
 fn leaves_past<F: Family>(start: Location<F>, nodes: u64) -> Location<F>
-    requires { (n : ℕ) × (n ≤ 2 ^ 62) × (trees.Shape.size F.shape n ≡ trees.Shape.size F.shape start + nodes) }
-    ensures { (n : ℕ) → trees.Shape.size F.shape n ≡ trees.Shape.size F.shape start + nodes → result ≡ n }
+    requires { (n : ℕ) × (n ≤ 2 ^ 62)
+        × (trees.Shape.size F.shape n ≡ trees.Shape.size F.shape start + nodes) }
+    ensures { (n : ℕ) → trees.Shape.size F.shape n ≡ trees.Shape.size F.shape start + nodes
+        → result ≡ n }
 {
     let before = F::location_to_position(start).get();
     let mut low = start.get();

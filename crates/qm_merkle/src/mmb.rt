@@ -53,7 +53,9 @@ fn position(end: u64, height: u32) -> u64
     requires some { 0 < end }
     requires within { end ≤ 2 ^ 62 }
     requires low { height ≤ 62 }
-    ensures { result ≡ delayed.size ((if height == 0 then end else end + 2 ^ (height - 1) - 1) - 1) + (if height == 0 then 0 else 1) }
+    ensures { result
+        ≡ delayed.size ((if height == 0 then end else end + 2 ^ (height - 1) - 1) - 1) +
+        (if height == 0 then 0 else 1) }
 {
     let leaf = size(birth(end, height) - 1);
     if height == 0 { leaf } else { leaf + 1 }
@@ -75,7 +77,12 @@ fn location_at(position: u64) -> u64
 fn peak_at(next: u64, place: u32) -> Node
     requires low { place < 63 }
     requires some { 0 < next / 2 ^ suc place }
-    ensures { result ≡ record { height = place + next / 2 ^ place % 2; index = (next / 2 ^ suc place - 1) * (2 - next / 2 ^ place % 2) } }
+    ensures { result
+        ≡ record {
+          height = place + next / 2 ^ place % 2;
+          index = (next / 2 ^ suc place - 1) *
+              (2 - next / 2 ^ place % 2);
+        } }
 {
     let digit = (next >> place) % 2;
     let before = (next >> (place + 1)) - 1;
@@ -193,14 +200,16 @@ impl crate::family::Family for Family {
     fn subtree_root_position(start: Location<Self>, height: u32) -> Position<Self>
         requires whole { (index : ℕ) × (start ≡ index * 2 ^ height) }
         requires within { start + 2 ^ height ≤ 2 ^ 62 }
-        ensures { (index : ℕ) → start ≡ index * 2 ^ height → result ≡ mmb.position (record { height = height; index = index }) }
+        ensures { (index : ℕ) → start ≡ index * 2 ^ height
+            → result ≡ mmb.position (record { height = height; index = index }) }
     {
         Position::new(position(start.get() + (1 << height), height))
     }
 
     fn peak_birth_size(position: Position<Self>, height: u32) -> Location<Self>
         requires { StandsAt mmb height position }
-        ensures { (index : ℕ) → mmb.position (record { height = height; index = index }) ≡ position → result ≡ mmb.birth (record { height = height; index = index }) }
+        ensures { (index : ℕ) → mmb.position (record { height = height; index = index }) ≡ position
+            → result ≡ mmb.birth (record { height = height; index = index }) }
     {
         let leaf = if height == 0 {
             position.get()

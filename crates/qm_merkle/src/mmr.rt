@@ -65,7 +65,8 @@ fn peak_end(leaves: u64, height: u32) -> u64
 // Whether there is a peak of this height that ends at or below the floor.
 fn has_inactive_peak(leaves: u64, height: u32, floor: u64) -> bool
     requires { height < 64 }
-    ensures { IsTrue result ↔ ((leaves / 2 ^ height % 2 ≡ 1) × (leaves / 2 ^ height * 2 ^ height ≤ floor)) }
+    ensures { IsTrue result
+        ↔ ((leaves / 2 ^ height % 2 ≡ 1) × (leaves / 2 ^ height * 2 ^ height ≤ floor)) }
 {
     has_peak(leaves, height) && peak_end(leaves, height) <= floor
 }
@@ -171,14 +172,16 @@ impl crate::family::Family for Family {
     fn subtree_root_position(start: Location<Self>, height: u32) -> Position<Self>
         requires whole { (index : ℕ) × (start ≡ index * 2 ^ height) }
         requires within { start + 2 ^ height ≤ 2 ^ 62 }
-        ensures { (index : ℕ) → start ≡ index * 2 ^ height → result ≡ mmr.position (record { height = height; index = index }) }
+        ensures { (index : ℕ) → start ≡ index * 2 ^ height
+            → result ≡ mmr.position (record { height = height; index = index }) }
     {
         Position::new(position(start.get() + (1 << height), height))
     }
 
     fn peak_birth_size(position: Position<Self>, height: u32) -> Location<Self>
         requires { StandsAt mmr height position }
-        ensures { (index : ℕ) → mmr.position (record { height = height; index = index }) ≡ position → result ≡ mmr.birth (record { height = height; index = index }) }
+        ensures { (index : ℕ) → mmr.position (record { height = height; index = index }) ≡ position
+            → result ≡ mmr.birth (record { height = height; index = index }) }
     {
         Location::new(location_at(position.get() - u64::from(height)) + 1)
     }

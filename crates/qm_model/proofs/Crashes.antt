@@ -793,10 +793,10 @@ module _ {P : Type 0} {kind : Kind} {rules : Rules P} (keeps : Keeps kind rules)
   few-counted : (log : Log) (entries : List Entry) → IsCounted grafted c log entries → log.chunks ≤ 2 ^ 62
   few-counted log entries is =
       let checks = when (not (length (count_bytes entries) == 8)) CountNotValid
-          ∷ when (nat_lt (2 ^ 62) (count_in entries * 2 ^ c.height)) CountTooLarge
-          ∷ when (list_any is_none (pins_found shape entries (count_in entries))) MissingPin
-          ∷ when (list_any (is_wrong_size digest_size) (pins_found shape entries (count_in entries))) InvalidPin
-          ∷ [] in
+      ∷ when (nat_lt (2 ^ 62) (count_in entries * 2 ^ c.height)) CountTooLarge
+      ∷ when (list_any is_none (pins_found shape entries (count_in entries))) MissingPin
+      ∷ when (list_any (is_wrong_size digest_size) (pins_found shape entries (count_in entries))) InvalidPin
+      ∷ [] in
       let low = ltb-false (2 ^ 62) (count_in entries * 2 ^ c.height) (not_when (nat_lt (2 ^ 62) (count_in entries * 2 ^ c.height)) CountTooLarge (all_pass checks 1 is.readable)) in
       let up = mul-le (count_in entries) 1 (count_in entries) (2 ^ c.height) (le_refl (count_in entries)) (pow_pos c.height) in
       let same = is.count in

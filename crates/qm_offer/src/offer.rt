@@ -79,13 +79,17 @@ pub trait Common<C: Store>: Meaning<C> + Drop + Sized {
     /// The numbers of the database.
     fn info(&self) -> Numbers
         ensures start { result.start ≡ C.start (Self.inside self.now) }
-        ensures list { (list : List Operation) → Self.stands self.now list → (result.size ≡ length list) × (result.floor ≡ floor list)
-            × (result.boundary ≡ Self.scheme.boundary list) × (result.is_live ≡ nat_lt 0 (length (live list))) };
+        ensures list { (list : List Operation) → Self.stands self.now list
+            → (result.size ≡ length list) × (result.floor ≡ floor list)
+            × (result.boundary ≡ Self.scheme.boundary list)
+            × (result.is_live ≡ nat_lt 0 (length (live list))) };
 
     /// The sizes of a merkleized batch.
     fn sizes(batch: &Self::Merkleized) -> BatchSizes
         ensures { (chain : Chain) (tip : List Operation) → Self.is_merkleized batch.now chain tip
-            → (result.base ≡ length chain.base) × (result.tip ≡ length tip) × (result.floor ≡ floor tip) × (result.boundary ≡ Self.scheme.boundary tip) };
+            → (result.base ≡ length chain.base) × (result.tip ≡ length tip)
+            × (result.floor ≡ floor tip)
+            × (result.boundary ≡ Self.scheme.boundary tip) };
 
     /// No chunks of bits stand under its root, so that its stores' metadata says nothing.
     ghost plain: { Self.scheme.grafts ≡ None };

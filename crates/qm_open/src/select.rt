@@ -41,12 +41,18 @@ fn last_commit<F, C: Store, U: Update>(
     store: &mut C,
     bound: Option<u64>,
 ) -> Result<Option<Selected>, Error>
-    ensures selected { IfSome (C.told store.old) (λ s. IfOk result (λ at. option_map selected_view at ≡ opening.last_commit s.start None (up_to bound s (kept_items U.form s)))) }
-    ensures floor { IfSome (C.told store.old) (λ s. IfOk result (λ at. IfSome at (λ c. floor_told U.form s (c.size - 1) ≡ Some c.floor))) }
-    ensures within { IfOk result (λ at. IfSome at (λ c. (C.start store.old < c.size) × (c.size ≤ C.end store.old))) }
+    ensures selected { IfSome (C.told store.old) (λ s.
+        IfOk result (λ at. option_map selected_view at
+        ≡ opening.last_commit s.start None (up_to bound s (kept_items U.form s)))) }
+    ensures floor { IfSome (C.told store.old) (λ s.
+        IfOk result (λ at. IfSome at (λ c. floor_told U.form s (c.size - 1) ≡ Some c.floor))) }
+    ensures within { IfOk result (λ at.
+        IfSome at (λ c. (C.start store.old < c.size) × (c.size ≤ C.end store.old))) }
     ensures kept { IsKept C.Store store.old store.new }
-    ensures never { IfErr result (λ e. (e ≡ Error.Memory) ⊎ (e ≡ Error.Journal JournalError.Store)) }
-    ensures cause { IsCause (C.faults store.old) (C.faults store.new) (IsErrOf result (Error.Journal JournalError.Store)) }
+    ensures never { IfErr result (λ e.
+        (e ≡ Error.Memory) ⊎ (e ≡ Error.Journal JournalError.Store)) }
+    ensures cause { IsCause (C.faults store.old) (C.faults store.new)
+        (IsErrOf result (Error.Journal JournalError.Store)) }
 {
     let (start, end) = store.bounds();
     for at in (start..top(end, bound)).rev() {
@@ -70,10 +76,14 @@ fn checked(
 ) -> Result<Option<Selected>, Error>
     requires few { AreFew pruned }
     requires within { IfSome found (λ c. (start < c.size) × (c.size ≤ end)) }
-    ensures chosen { IfOk result (λ at. (at ≡ found) × (selected_refusal start (start == 0 && end == 0) pruned (option_map selected_view found) ≡ None)) }
-    ensures refused { IfErr result (λ e. IsDue e (selected_refusal start (start == 0 && end == 0) pruned (option_map selected_view found))) }
+    ensures chosen { IfOk result (λ at. (at ≡ found)
+        × (selected_refusal start (start == 0 && end == 0) pruned (option_map selected_view found)
+        ≡ None)) }
+    ensures refused { IfErr result (λ e. IsDue e
+        (selected_refusal start (start == 0 && end == 0) pruned (option_map selected_view found))) }
     ensures told { IfErr result (λ e. IsSome (refusal_of e)) }
-    ensures within { IfOk result (λ at. IfSome at (λ c. (start ≤ c.floor) × (bits_of pruned ≤ c.floor) × (c.floor < c.size) × (c.size ≤ end))) }
+    ensures within { IfOk result (λ at. IfSome at (λ c.
+        (start ≤ c.floor) × (bits_of pruned ≤ c.floor) × (c.floor < c.size) × (c.size ≤ end))) }
     ensures empty { result ≡ Ok None → (start ≡ 0) × (end ≡ 0) × (bits_of pruned ≡ 0) }
 {
     let bits = bits_in(pruned);
@@ -112,15 +122,26 @@ pub fn select_commit<F, C: Store, U: Update>(
     pruned: Option<Pruned>,
 ) -> Result<Option<Selected>, Error>
     requires few { AreFew pruned }
-    ensures chosen { IfSome (C.told store.old) (λ s. IfOk result (λ at. option_map selected_view at ≡ opening.selected (found_of U.form s pruned) bound)) }
-    ensures accepted { (shape : Shape) (digest_size : ℕ) → HasThreshold shape pruned → IfSome (C.told store.old) (λ s. IfOk result (λ at.
-        opening_refusal (layout_of U.form shape digest_size pruned) (found_of U.form s pruned) bound ≡ content_refusal (layout_of U.form shape digest_size pruned) (found_of U.form s pruned) (option_map selected_view at))) }
-    ensures refused { (shape : Shape) (digest_size : ℕ) → HasThreshold shape pruned → IfSome (C.told store.old) (λ s. IfErr result (λ e. IsDue e (opening_refusal (layout_of U.form shape digest_size pruned) (found_of U.form s pruned) bound))) }
-    ensures floor { IfSome (C.told store.old) (λ s. IfOk result (λ at. IfSome at (λ c. floor_told U.form s (c.size - 1) ≡ Some c.floor))) }
-    ensures within { IfOk result (λ at. IfSome at (λ c. (C.start store.old ≤ c.floor) × (bits_of pruned ≤ c.floor) × (c.floor < c.size) × (c.size ≤ C.end store.old))) }
-    ensures empty { result ≡ Ok None → (C.start store.old ≡ 0) × (C.end store.old ≡ 0) × (bits_of pruned ≡ 0) }
+    ensures chosen { IfSome (C.told store.old) (λ s. IfOk result (λ at.
+        option_map selected_view at ≡ opening.selected (found_of U.form s pruned) bound)) }
+    ensures accepted { (shape : Shape) (digest_size : ℕ) → HasThreshold shape pruned
+        → IfSome (C.told store.old) (λ s. IfOk result (λ at.
+        opening_refusal (layout_of U.form shape digest_size pruned) (found_of U.form s pruned) bound
+        ≡ content_refusal (layout_of U.form shape digest_size pruned) (found_of U.form s pruned)
+        (option_map selected_view at))) }
+    ensures refused { (shape : Shape) (digest_size : ℕ) → HasThreshold shape pruned
+        → IfSome (C.told store.old) (λ s. IfErr result (λ e. IsDue e (opening_refusal
+        (layout_of U.form shape digest_size pruned) (found_of U.form s pruned) bound))) }
+    ensures floor { IfSome (C.told store.old) (λ s.
+        IfOk result (λ at. IfSome at (λ c. floor_told U.form s (c.size - 1) ≡ Some c.floor))) }
+    ensures within { IfOk result (λ at. IfSome at (λ c.
+        (C.start store.old ≤ c.floor) × (bits_of pruned ≤ c.floor) × (c.floor < c.size)
+        × (c.size ≤ C.end store.old))) }
+    ensures empty { result ≡ Ok None
+        → (C.start store.old ≡ 0) × (C.end store.old ≡ 0) × (bits_of pruned ≡ 0) }
     ensures kept { IsKept C.Store store.old store.new }
-    ensures cause { IsCause (C.faults store.old) (C.faults store.new) (IsErrOf result (Error.Journal JournalError.Store)) }
+    ensures cause { IsCause (C.faults store.old) (C.faults store.new)
+        (IsErrOf result (Error.Journal JournalError.Store)) }
 {
     if is_zero(bound) {
         return Err(Error::InvalidInitializationBound);

@@ -16,9 +16,13 @@ impl<F, U: Update> Operation<F, U> {
     /// The operation of which these bytes are the spelling, if there is one: `encode` turned round.
     /// Want of memory is the only error.
     pub fn decode(alloc: Global, bytes: &[u8]) -> Result<Option<Self>, AllocError>
-        ensures decoded { IfOk result (λ found. option_map (operation_view U.view U.Key.bytes U.Value.bytes) found ≡ model.decoded U.form bytes.now) }
-        ensures some { IfOk result (λ found. IfSome found (λ op. IsSpelling U.form bytes.now (operation_view U.view U.Key.bytes U.Value.bytes op))) }
-        ensures none { IfOk result (λ found. IfNone found ((op : _) → ¬ IsSpelling U.form bytes.now op)) }
+        ensures decoded { IfOk result (λ found.
+            option_map (operation_view U.view U.Key.bytes U.Value.bytes) found
+            ≡ model.decoded U.form bytes.now) }
+        ensures some { IfOk result (λ found. IfSome found (λ op.
+            IsSpelling U.form bytes.now (operation_view U.view U.Key.bytes U.Value.bytes op))) }
+        ensures none { IfOk result (λ found.
+            IfNone found ((op : _) → ¬ IsSpelling U.form bytes.now op)) }
     {
         decoded(alloc, bytes)
     }
@@ -26,7 +30,8 @@ impl<F, U: Update> Operation<F, U> {
     /// The key of an update, lent from its spelling. It copies nothing and takes no memory. Of bytes that are no
     /// operation's spelling it says nothing.
     pub fn update_key(bytes: &[u8]) -> Option<&[u8]>
-        ensures { (op : _) → IsSpelling U.form bytes.now op → option_map (λ key. key.now) result ≡ update_key op }
+        ensures { (op : _) → IsSpelling U.form bytes.now op
+            → option_map (λ key. key.now) result ≡ update_key op }
     {
         read_update_key::<U>(bytes)
     }
@@ -79,7 +84,8 @@ fn read_key<U: Update>(bytes: &[u8]) -> Option<(&[u8], &[u8])>
 
 // A value, and what is behind it.
 fn read_value<U: Update>(bytes: &[u8]) -> Option<(&[u8], &[u8])>
-    ensures value { option_map (λ p. (p.0.now, p.1.now)) result ≡ model.read_value U.form bytes.now }
+    ensures value { option_map (λ p. (p.0.now, p.1.now)) result
+        ≡ model.read_value U.form bytes.now }
     ensures known { IfSome result (λ p. U.form.is_value p.0.now ≡ true) }
     ensures sized { IfSome result (λ p. model.IsSized (model.value_size U.form.sizes) p.0.now) }
     ensures has { IfSome result (λ p. U.Value.has p.0.now ≡ true) }
@@ -107,10 +113,12 @@ fn read_update_key<U: Update>(bytes: &[u8]) -> Option<&[u8]>
 
 // The next key, in an ordered database, and what is behind it.
 fn read_next<U: Update>(bytes: &[u8]) -> Option<(Option<&[u8]>, &[u8])>
-    ensures value { option_map (λ p. (option_map (λ next. next.now) p.0, p.1.now)) result ≡ model.read_next U.form bytes.now }
+    ensures value { option_map (λ p. (option_map (λ next. next.now) p.0, p.1.now)) result
+        ≡ model.read_next U.form bytes.now }
     ensures kind { IfSome result (λ p. is_some p.0 ≡ U.form.ordered) }
     ensures known { IfSome result (λ p. IfSome p.0 (λ next. U.form.is_key next.now ≡ true)) }
-    ensures sized { IfSome result (λ p. IfSome p.0 (λ next. model.IsSized (model.key_size U.form.sizes) next.now)) }
+    ensures sized { IfSome result (λ p.
+        IfSome p.0 (λ next. model.IsSized (model.key_size U.form.sizes) next.now)) }
 {
     if U::is_ordered() {
         let (key, rest) = read_key::<U>(bytes)?;
@@ -122,7 +130,8 @@ fn read_next<U: Update>(bytes: &[u8]) -> Option<(Option<&[u8]>, &[u8])>
 
 // The metadata behind its mark, and what is behind it.
 fn read_metadata<U: Update>(bytes: &[u8]) -> Option<(Option<&[u8]>, &[u8])>
-    ensures value { option_map (λ p. (option_map (λ value. value.now) p.0, p.1.now)) result ≡ model.read_metadata U.form bytes.now }
+    ensures value { option_map (λ p. (option_map (λ value. value.now) p.0, p.1.now)) result
+        ≡ model.read_metadata U.form bytes.now }
     ensures has { IfSome result (λ p. IfSome p.0 (λ value. U.Value.has value.now ≡ true)) }
 {
     match bytes.split_first()? {
@@ -182,7 +191,9 @@ fn is_long(ordered: bool, sizes: Option<(u32, u32)>, bytes: &[u8]) -> bool
 
 // An update from the bytes behind its tag.
 fn update<F, U: Update>(alloc: Global, bytes: &[u8]) -> Result<Option<Operation<F, U>>, AllocError>
-    ensures { IfOk result (λ found. option_map (operation_view U.view U.Key.bytes U.Value.bytes) found ≡ model.decoded_update U.form bytes.now) }
+    ensures { IfOk result (λ found.
+        option_map (operation_view U.view U.Key.bytes U.Value.bytes) found
+        ≡ model.decoded_update U.form bytes.now) }
 {
     let Some((key, rest)) = read_key::<U>(bytes) else {
         return Ok(None);
@@ -202,7 +213,9 @@ fn update<F, U: Update>(alloc: Global, bytes: &[u8]) -> Result<Option<Operation<
 
 // A delete from the bytes behind its tag.
 fn delete<F, U: Update>(alloc: Global, bytes: &[u8]) -> Result<Option<Operation<F, U>>, AllocError>
-    ensures { IfOk result (λ found. option_map (operation_view U.view U.Key.bytes U.Value.bytes) found ≡ model.decoded_delete U.form bytes.now) }
+    ensures { IfOk result (λ found.
+        option_map (operation_view U.view U.Key.bytes U.Value.bytes) found
+        ≡ model.decoded_delete U.form bytes.now) }
 {
     let Some((key, rest)) = read_key::<U>(bytes) else {
         return Ok(None);
@@ -217,7 +230,8 @@ fn delete<F, U: Update>(alloc: Global, bytes: &[u8]) -> Result<Option<Operation<
 // The value of metadata.
 fn metadata<V: ByteString>(alloc: Global, bytes: Option<&[u8]>) -> Result<Option<V>, AllocError>
     requires { IfSome bytes (λ value. V.has value.now ≡ true) }
-    ensures { IfOk result (λ made. option_map V.bytes made ≡ option_map (λ value. value.now) bytes.entry) }
+    ensures { IfOk result (λ made.
+        option_map V.bytes made ≡ option_map (λ value. value.now) bytes.entry) }
 {
     match bytes {
         None => Ok(None),
@@ -227,7 +241,9 @@ fn metadata<V: ByteString>(alloc: Global, bytes: Option<&[u8]>) -> Result<Option
 
 // A commit from the bytes behind its tag.
 fn commit<F, U: Update>(alloc: Global, bytes: &[u8]) -> Result<Option<Operation<F, U>>, AllocError>
-    ensures { IfOk result (λ found. option_map (operation_view U.view U.Key.bytes U.Value.bytes) found ≡ model.decoded_commit U.form bytes.now) }
+    ensures { IfOk result (λ found.
+        option_map (operation_view U.view U.Key.bytes U.Value.bytes) found
+        ≡ model.decoded_commit U.form bytes.now) }
 {
     let Some((value, rest)) = read_metadata::<U>(bytes) else {
         return Ok(None);
@@ -244,7 +260,9 @@ fn commit<F, U: Update>(alloc: Global, bytes: &[u8]) -> Result<Option<Operation<
 
 // An operation by its tag.
 fn by_tag<F, U: Update>(alloc: Global, bytes: &[u8]) -> Result<Option<Operation<F, U>>, AllocError>
-    ensures { IfOk result (λ found. option_map (operation_view U.view U.Key.bytes U.Value.bytes) found ≡ model.by_tag U.form bytes.now) }
+    ensures { IfOk result (λ found.
+        option_map (operation_view U.view U.Key.bytes U.Value.bytes) found
+        ≡ model.by_tag U.form bytes.now) }
 {
     match bytes.split_first() {
         Some((1, rest)) => update(alloc, rest),
@@ -256,7 +274,9 @@ fn by_tag<F, U: Update>(alloc: Global, bytes: &[u8]) -> Result<Option<Operation<
 
 // An operation as the model decodes it.
 fn decoded<F, U: Update>(alloc: Global, bytes: &[u8]) -> Result<Option<Operation<F, U>>, AllocError>
-    ensures { IfOk result (λ found. option_map (operation_view U.view U.Key.bytes U.Value.bytes) found ≡ model.decoded U.form bytes.now) }
+    ensures { IfOk result (λ found.
+        option_map (operation_view U.view U.Key.bytes U.Value.bytes) found
+        ≡ model.decoded U.form bytes.now) }
 {
     if is_long(U::is_ordered(), U::sizes(), bytes) {
         by_tag(alloc, bytes)

@@ -33,7 +33,8 @@ impl<F, U: Update> Spelled for Operation<F, U> {
 
 // Adds a key or a value, and tells how many bytes that are.
 fn feed_field<H: Hasher, B: ByteString>(hasher: &mut H, size: Option<u32>, field: &B) -> u64
-    ensures holds { (m : List ℕ) → H.holds hasher.old m → H.holds hasher.new (m ++ forms.field size (B.bytes field.now)) }
+    ensures holds { (m : List ℕ) → H.holds hasher.old m
+        → H.holds hasher.new (m ++ forms.field size (B.bytes field.now)) }
     ensures count { result ≡ length (forms.field size (B.bytes field.now)) }
     ensures bound { result < 2 ^ 33 }
 {
@@ -57,7 +58,8 @@ fn feed_metadata<H: Hasher, B: ByteString>(
     size: Option<u32>,
     metadata: &Option<B>,
 ) -> u64
-    ensures holds { (m : List ℕ) → H.holds hasher.old m → H.holds hasher.new (m ++ forms.metadata_field size (option_map B.bytes metadata.now)) }
+    ensures holds { (m : List ℕ) → H.holds hasher.old m
+        → H.holds hasher.new (m ++ forms.metadata_field size (option_map B.bytes metadata.now)) }
     ensures count { result ≡ length (forms.metadata_field size (option_map B.bytes metadata.now)) }
     ensures bound { result < 2 ^ 34 }
 {
@@ -75,8 +77,11 @@ fn feed_metadata<H: Hasher, B: ByteString>(
 
 // Adds the next key, where there is one.
 fn feed_next<H: Hasher, B: ByteString>(hasher: &mut H, size: Option<u32>, next: Option<&B>) -> u64
-    ensures holds { (m : List ℕ) → H.holds hasher.old m → H.holds hasher.new (m ++ forms.optional_field size (option_map (λ k. B.bytes k.now) next.entry)) }
-    ensures count { result ≡ length (forms.optional_field size (option_map (λ k. B.bytes k.now) next.entry)) }
+    ensures holds { (m : List ℕ) → H.holds hasher.old m
+        → H.holds hasher.new
+        (m ++ forms.optional_field size (option_map (λ k. B.bytes k.now) next.entry)) }
+    ensures count { result
+        ≡ length (forms.optional_field size (option_map (λ k. B.bytes k.now) next.entry)) }
     ensures bound { result < 2 ^ 33 }
 {
     match next {
@@ -96,7 +101,8 @@ fn feed_zeros<H: Hasher>(hasher: &mut H, count: u64)
 
 // Adds what pads an operation of so many bytes.
 fn feed_padding<H: Hasher>(hasher: &mut H, ordered: bool, sizes: Option<(u32, u32)>, count: u64)
-    ensures { (m front : List ℕ) → length front ≡ count → H.holds hasher.old (m ++ front) → H.holds hasher.new (m ++ forms.padded ordered sizes front) }
+    ensures { (m front : List ℕ) → length front ≡ count → H.holds hasher.old (m ++ front)
+        → H.holds hasher.new (m ++ forms.padded ordered sizes front) }
 {
     if let Some(sizes) = sizes {
         feed_zeros(hasher, longest(ordered, sizes).saturating_sub(count));
@@ -113,7 +119,9 @@ fn feed_update<H: Hasher, K: ByteString, V: ByteString>(
     next: Option<&K>,
 )
     ensures { (m : List ℕ) → H.holds hasher.old m
-        → H.holds hasher.new (m ++ forms.padded ordered sizes (forms.plain sizes (model.update (K.bytes key.now) (V.bytes value.now) (option_map (λ k. K.bytes k.now) next.entry)))) }
+        → H.holds hasher.new (m
+        ++ forms.padded ordered sizes (forms.plain sizes (model.update (K.bytes key.now)
+        (V.bytes value.now) (option_map (λ k. K.bytes k.now) next.entry)))) }
 {
     let count = feed_plain_update(hasher, sizes, key, value, next);
     feed_padding(hasher, ordered, sizes, count);
@@ -128,8 +136,12 @@ fn feed_plain_update<H: Hasher, K: ByteString, V: ByteString>(
     next: Option<&K>,
 ) -> u64
     ensures holds { (m : List ℕ) → H.holds hasher.old m
-        → H.holds hasher.new (m ++ forms.plain sizes (model.update (K.bytes key.now) (V.bytes value.now) (option_map (λ k. K.bytes k.now) next.entry))) }
-    ensures count { result ≡ length (forms.plain sizes (model.update (K.bytes key.now) (V.bytes value.now) (option_map (λ k. K.bytes k.now) next.entry))) }
+        → H.holds hasher.new (m
+        ++ forms.plain sizes (model.update (K.bytes key.now) (V.bytes value.now)
+        (option_map (λ k. K.bytes k.now) next.entry))) }
+    ensures count { result
+        ≡ length (forms.plain sizes (model.update (K.bytes key.now) (V.bytes value.now)
+        (option_map (λ k. K.bytes k.now) next.entry))) }
 {
     hasher.update(&[1]);
     let key = feed_field(hasher, key_size(sizes), key);
@@ -145,7 +157,9 @@ fn feed_delete<H: Hasher, K: ByteString>(
     sizes: Option<(u32, u32)>,
     key: &K,
 )
-    ensures { (m : List ℕ) → H.holds hasher.old m → H.holds hasher.new (m ++ forms.padded ordered sizes (forms.plain sizes (model.delete (K.bytes key.now)))) }
+    ensures { (m : List ℕ) → H.holds hasher.old m
+        → H.holds hasher.new
+        (m ++ forms.padded ordered sizes (forms.plain sizes (model.delete (K.bytes key.now)))) }
 {
     let count = feed_plain_delete(hasher, sizes, key);
     feed_padding(hasher, ordered, sizes, count);
@@ -157,7 +171,8 @@ fn feed_plain_delete<H: Hasher, K: ByteString>(
     sizes: Option<(u32, u32)>,
     key: &K,
 ) -> u64
-    ensures holds { (m : List ℕ) → H.holds hasher.old m → H.holds hasher.new (m ++ forms.plain sizes (model.delete (K.bytes key.now))) }
+    ensures holds { (m : List ℕ) → H.holds hasher.old m
+        → H.holds hasher.new (m ++ forms.plain sizes (model.delete (K.bytes key.now))) }
     ensures count { result ≡ length (forms.plain sizes (model.delete (K.bytes key.now))) }
 {
     hasher.update(&[2]);
@@ -172,7 +187,10 @@ fn feed_commit<H: Hasher, V: ByteString>(
     metadata: &Option<V>,
     floor: u64,
 )
-    ensures { (m : List ℕ) → H.holds hasher.old m → H.holds hasher.new (m ++ forms.padded ordered sizes (forms.plain sizes (model.commit (option_map V.bytes metadata.now) floor))) }
+    ensures { (m : List ℕ) → H.holds hasher.old m
+        → H.holds hasher.new (m
+        ++ forms.padded ordered sizes
+        (forms.plain sizes (model.commit (option_map V.bytes metadata.now) floor))) }
 {
     let count = feed_plain_commit(hasher, sizes, metadata, floor);
     feed_padding(hasher, ordered, sizes, count);
@@ -185,8 +203,11 @@ fn feed_plain_commit<H: Hasher, V: ByteString>(
     metadata: &Option<V>,
     floor: u64,
 ) -> u64
-    ensures holds { (m : List ℕ) → H.holds hasher.old m → H.holds hasher.new (m ++ forms.plain sizes (model.commit (option_map V.bytes metadata.now) floor)) }
-    ensures count { result ≡ length (forms.plain sizes (model.commit (option_map V.bytes metadata.now) floor)) }
+    ensures holds { (m : List ℕ) → H.holds hasher.old m
+        → H.holds hasher.new
+        (m ++ forms.plain sizes (model.commit (option_map V.bytes metadata.now) floor)) }
+    ensures count { result
+        ≡ length (forms.plain sizes (model.commit (option_map V.bytes metadata.now) floor)) }
 {
     hasher.update(&[3]);
     let metadata = feed_metadata(hasher, value_size(sizes), metadata);

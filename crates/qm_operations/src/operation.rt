@@ -55,7 +55,8 @@ fn add_field<B: ByteString>(
     size: Option<u32>,
     field: &B,
 ) -> Result<(), AllocError>
-    ensures spelled { OnOk result (out.new.items ≡ out.old.items ++ forms.field size (B.bytes field.now)) }
+    ensures spelled { OnOk result
+        (out.new.items ≡ out.old.items ++ forms.field size (B.bytes field.now)) }
     ensures has { B.has (B.bytes field.now) ≡ true }
     ensures short { length (B.bytes field.now) < 2 ^ 32 }
 {
@@ -76,8 +77,10 @@ fn add_metadata<B: ByteString>(
     size: Option<u32>,
     metadata: &Option<B>,
 ) -> Result<(), AllocError>
-    ensures spelled { OnOk result (out.new.items ≡ out.old.items ++ forms.metadata_field size (option_map B.bytes metadata.now)) }
-    ensures has { OnOk result (IfSome (option_map B.bytes metadata.now) (λ bs. (B.has bs ≡ true) × (length bs < 2 ^ 32))) }
+    ensures spelled { OnOk result (out.new.items
+        ≡ out.old.items ++ forms.metadata_field size (option_map B.bytes metadata.now)) }
+    ensures has { OnOk result (IfSome (option_map B.bytes metadata.now) (λ bs.
+        (B.has bs ≡ true) × (length bs < 2 ^ 32))) }
 {
     match metadata {
         None => {
@@ -93,7 +96,8 @@ fn add_metadata<B: ByteString>(
 
 // Adds the fields of an update.
 fn add_update<U: Update>(out: &mut Vec<u8>, update: &U) -> Result<(), AllocError>
-    ensures spelled { OnOk result (out.new.items ≡ out.old.items ++ forms.plain U.form.sizes (U.view update.now)) }
+    ensures spelled { OnOk result
+        (out.new.items ≡ out.old.items ++ forms.plain U.form.sizes (U.view update.now)) }
     ensures of { OnOk result (forms.IsOf U.form (U.view update.now)) }
 {
     let (key, value, next) = update.parts();
@@ -123,8 +127,14 @@ fn pad(mut out: Vec<u8>, ordered: bool, sizes: Option<(u32, u32)>) -> Result<Vec
 
 // Adds the operation without padding.
 fn add_plain<F, U: Update>(out: &mut Vec<u8>, operation: &Operation<F, U>) -> Result<(), AllocError>
-    ensures spelled { OnOk result (out.new.items ≡ out.old.items ++ forms.plain U.form.sizes (operation_view U.view U.Key.bytes U.Value.bytes operation.now)) }
-    ensures of { OnOk result (IfSome (floor_of (operation_view U.view U.Key.bytes U.Value.bytes operation.now)) (λ floor. floor ≤ 2 ^ 62) → forms.IsOf U.form (operation_view U.view U.Key.bytes U.Value.bytes operation.now)) }
+    ensures spelled { OnOk result (out.new.items
+        ≡ out.old.items
+        ++ forms.plain U.form.sizes
+        (operation_view U.view U.Key.bytes U.Value.bytes operation.now)) }
+    ensures of { OnOk result (IfSome
+        (floor_of (operation_view U.view U.Key.bytes U.Value.bytes operation.now))
+        (λ floor. floor ≤ 2 ^ 62)
+        → forms.IsOf U.form (operation_view U.view U.Key.bytes U.Value.bytes operation.now)) }
 {
     let sizes = U::sizes();
     match operation {
@@ -168,8 +178,12 @@ fn room<F, U: Update>(operation: &Operation<F, U>) -> usize {
 impl<F, U: Update> Operation<F, U> {
     /// The spelling of the operation, with which a list is stored and hashed. Want of memory is the only error.
     pub fn encode(&self, alloc: Global) -> Result<Vec<u8>, AllocError>
-        ensures of { IfOk result (λ _. IfSome (floor_of (operation_view U.view U.Key.bytes U.Value.bytes self.now)) (λ floor. floor ≤ 2 ^ 62) → forms.IsOf U.form (operation_view U.view U.Key.bytes U.Value.bytes self.now)) }
-        ensures spelled { IfOk result (λ bytes. bytes.items ≡ forms.spelling U.form (operation_view U.view U.Key.bytes U.Value.bytes self.now)) }
+        ensures of { IfOk result (λ _.
+            IfSome (floor_of (operation_view U.view U.Key.bytes U.Value.bytes self.now))
+            (λ floor. floor ≤ 2 ^ 62)
+            → forms.IsOf U.form (operation_view U.view U.Key.bytes U.Value.bytes self.now)) }
+        ensures spelled { IfOk result (λ bytes. bytes.items
+            ≡ forms.spelling U.form (operation_view U.view U.Key.bytes U.Value.bytes self.now)) }
     {
         let mut out = Vec::with_capacity(alloc, room(self))?;
         add_plain(&mut out, self)?;
@@ -202,7 +216,8 @@ impl<F, U: Update> Operation<F, U> {
 
     /// Whether it is an update.
     pub fn is_update(&self) -> bool
-        ensures { result ≡ parts.is_update (operation_view U.view U.Key.bytes U.Value.bytes self.now) }
+        ensures { result
+            ≡ parts.is_update (operation_view U.view U.Key.bytes U.Value.bytes self.now) }
     {
         matches!(self, Operation::Update(_))
     }
@@ -210,7 +225,8 @@ impl<F, U: Update> Operation<F, U> {
     /// Whether it is a delete.
     #[tactic(auto, using(crate::proofs::Parts::is_delete_update))]
     pub fn is_delete(&self) -> bool
-        ensures { result ≡ parts.is_delete (operation_view U.view U.Key.bytes U.Value.bytes self.now) }
+        ensures { result
+            ≡ parts.is_delete (operation_view U.view U.Key.bytes U.Value.bytes self.now) }
     {
         match self {
             Operation::Delete(_) => true,

@@ -51,12 +51,15 @@ pub trait Update: Sized + Drop {
         next: Option<&[u8]>,
     ) -> Result<Self, AllocError>
         requires { IsOf form (model.update key.now value.now (option_map (λ n. n.now) next)) }
-        ensures { IfOk result (λ made. view made ≡ model.update key.now value.now (option_map (λ n. n.now) next.entry)) };
+        ensures { IfOk result (λ made.
+            view made ≡ model.update key.now value.now (option_map (λ n. n.now) next.entry)) };
 
     /// Key, value and next key.
     fn parts(&self) -> (&Self::Key, &Self::Value, Option<&Self::Key>)
         ensures kind { is_some result.2 ≡ form.ordered }
-        ensures parts { view self.now ≡ model.update (Self.Key.bytes result.0.now) (Self.Value.bytes result.1.now) (option_map (λ next. Self.Key.bytes next.now) result.2) };
+        ensures parts { view self.now
+            ≡ model.update (Self.Key.bytes result.0.now) (Self.Value.bytes result.1.now)
+            (option_map (λ next. Self.Key.bytes next.now) result.2) };
 
     /// The key.
     fn key(&self) -> &Self::Key
@@ -69,7 +72,9 @@ pub trait Update: Sized + Drop {
     /// Key, value and next key, by value.
     fn into_parts(self) -> (Self::Key, Self::Value, Option<Self::Key>)
         ensures kind { is_some result.2 ≡ form.ordered }
-        ensures parts { view self ≡ model.update (Self.Key.bytes result.0) (Self.Value.bytes result.1) (option_map Self.Key.bytes result.2) };
+        ensures parts { view self
+            ≡ model.update (Self.Key.bytes result.0) (Self.Value.bytes result.1)
+            (option_map Self.Key.bytes result.2) };
 
     /// The key, by value.
     fn into_key(self) -> Self::Key

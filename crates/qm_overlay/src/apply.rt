@@ -34,8 +34,13 @@ pub fn commit<N: Chunks>(
 pub(crate) fn write_chunk<N: Chunks>(bits: &mut Prunable<N>, at: usize, chunk: &Chunk<N>)
     ensures pruned { bits.new.pruned ≡ bits.old.pruned }
     ensures count { bit_count N.LEN bits.new ≡ bit_count N.LEN bits.old }
-    ensures here { (i : ℕ) → i / (8 * N.LEN) ≡ at → start N.LEN bits.old ≤ i → i < bit_count N.LEN bits.old → slice_index_or (all_bits N.LEN bits.new) i false ≡ slice_index_or chunk.now (i % (8 * N.LEN)) false }
-    ensures other { (i : ℕ) → i / (8 * N.LEN) ≢ at → slice_index_or (all_bits N.LEN bits.new) i false ≡ slice_index_or (all_bits N.LEN bits.old) i false }
+    ensures here { (i : ℕ) → i / (8 * N.LEN) ≡ at → start N.LEN bits.old ≤ i
+        → i < bit_count N.LEN bits.old
+        → slice_index_or (all_bits N.LEN bits.new) i false
+        ≡ slice_index_or chunk.now (i % (8 * N.LEN)) false }
+    ensures other { (i : ℕ) → i / (8 * N.LEN) ≢ at
+        → slice_index_or (all_bits N.LEN bits.new) i false
+        ≡ slice_index_or (all_bits N.LEN bits.old) i false }
 {
     let span = N::span();
     if at < bits.pruned_chunks() {
@@ -53,8 +58,12 @@ fn write_from<N: Chunks>(bits: &mut Prunable<N>, first: u64, chunk: &Chunk<N>)
     requires within { first ≤ bit_count N.LEN bits.old }
     ensures pruned { bits.new.pruned ≡ bits.old.pruned }
     ensures count { bit_count N.LEN bits.new ≡ bit_count N.LEN bits.old }
-    ensures here { (i : ℕ) → i < 8 * N.LEN → first + i < bit_count N.LEN bits.old → slice_index_or (all_bits N.LEN bits.new) (first + i) false ≡ slice_index_or chunk.now i false }
-    ensures other { (i : ℕ) → (i < first) ⊎ (first + 8 * N.LEN ≤ i) → slice_index_or (all_bits N.LEN bits.new) i false ≡ slice_index_or (all_bits N.LEN bits.old) i false }
+    ensures here { (i : ℕ) → i < 8 * N.LEN → first + i < bit_count N.LEN bits.old
+        → slice_index_or (all_bits N.LEN bits.new) (first + i) false
+        ≡ slice_index_or chunk.now i false }
+    ensures other { (i : ℕ) → (i < first) ⊎ (first + 8 * N.LEN ≤ i)
+        → slice_index_or (all_bits N.LEN bits.new) i false
+        ≡ slice_index_or (all_bits N.LEN bits.old) i false }
 {
     let end = N::span().min(bits.len() - first);
     for i in 0..end {

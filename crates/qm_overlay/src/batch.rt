@@ -45,8 +45,10 @@ impl<'a, N: Chunks> BitmapBatch<'a, N> {
     /// Puts a step over the others. Want of memory is the only error, and leaves all as it was.
     pub fn push(&mut self, layer: Rc<ChunkOverlay<N>>) -> Result<(), AllocError>
         requires { bit_count N.LEN (seen N.LEN self.old) ≤ layer.value.count }
-        ensures ok { OnOk result (self.new ≡ record { base = self.old.base; layers = self.old.layers ++ layer.value ∷ [] }) }
-        ensures bits { OnOk result (seen N.LEN self.new ≡ laid N.LEN layer.value (seen N.LEN self.old)) }
+        ensures ok { OnOk result (self.new
+            ≡ record { base = self.old.base; layers = self.old.layers ++ layer.value ∷ [] }) }
+        ensures bits { OnOk result
+            (seen N.LEN self.new ≡ laid N.LEN layer.value (seen N.LEN self.old)) }
         ensures err { OnErr result (self.new ≡ self.old) }
     {
         self.layers.push(layer)?;
@@ -86,7 +88,8 @@ impl<'a, N: Chunks> BitmapBatch<'a, N> {
     // The bytes of a chunk that is not pruned, zeros behind the last bit.
     fn chunk(&self, alloc: Global, at: usize) -> Result<Vec<u8>, AllocError>
         requires { (seen N.LEN self.now).pruned ≤ at }
-        ensures { IfOk result (λ bytes. bytes.items ≡ chunk N.LEN (all_bits N.LEN (seen N.LEN self.now)) at) }
+        ensures { IfOk result (λ bytes.
+            bytes.items ≡ chunk N.LEN (all_bits N.LEN (seen N.LEN self.now)) at) }
     {
         chunk_over(alloc, self.base, &self.layers, at)
     }
@@ -120,14 +123,18 @@ impl<'a, N: Chunks> Readable<N> for BitmapBatch<'a, N> {
     fn get_chunk(&self, alloc: Global, at: usize) -> Result<Vec<u8>, AllocError>
         requires not_pruned { (seen N.LEN self.now).pruned ≤ at }
         requires complete { at < bit_count N.LEN (seen N.LEN self.now) / (8 * N.LEN) }
-        ensures { IfOk result (λ bytes. bytes.items ≡ chunk N.LEN (all_bits N.LEN (seen N.LEN self.now)) at) }
+        ensures { IfOk result (λ bytes.
+            bytes.items ≡ chunk N.LEN (all_bits N.LEN (seen N.LEN self.now)) at) }
     {
         self.chunk(alloc, at)
     }
 
     fn last_chunk(&self, alloc: Global) -> Result<(Vec<u8>, u64), AllocError>
-        ensures bytes { IfOk result (λ last. last.0.items ≡ chunk N.LEN (all_bits N.LEN (seen N.LEN self.now)) (bit_count N.LEN (seen N.LEN self.now) / (8 * N.LEN))) }
-        ensures bits { IfOk result (λ last. last.1 ≡ bit_count N.LEN (seen N.LEN self.now) % (8 * N.LEN)) }
+        ensures bytes { IfOk result (λ last. last.0.items
+            ≡ chunk N.LEN (all_bits N.LEN (seen N.LEN self.now))
+            (bit_count N.LEN (seen N.LEN self.now) / (8 * N.LEN))) }
+        ensures bits { IfOk result (λ last.
+            last.1 ≡ bit_count N.LEN (seen N.LEN self.now) % (8 * N.LEN)) }
     {
         let len = Readable::<N>::len(self);
         let span = N::span();
@@ -161,7 +168,9 @@ fn chunk_over<N: Chunks>(
 ) -> Result<Vec<u8>, AllocError>
     requires stacked { AreStacked N.LEN (map (λ r. r.value) layers.now) base.now }
     requires kept { base.now.pruned ≤ at }
-    ensures { IfOk result (λ bytes. bytes.items ≡ chunk N.LEN (all_bits N.LEN (layered N.LEN (map (λ r. r.value) layers.now) base.now)) at) }
+    ensures { IfOk result (λ bytes. bytes.items
+        ≡ chunk N.LEN (all_bits N.LEN (layered N.LEN (map (λ r. r.value) layers.now) base.now))
+        at) }
 {
     let mut left = layers.len();
     while left > 0 {
@@ -177,7 +186,9 @@ fn chunk_over<N: Chunks>(
 fn bit_behind<N: Chunks>(base: &Prunable<N>, layers: &[Rc<ChunkOverlay<N>>], at: u64) -> bool
     requires stacked { AreStacked N.LEN (map (λ r. r.value) layers.now) base.now }
     requires kept { start N.LEN base.now ≤ at }
-    ensures { result ≡ slice_index_or (all_bits N.LEN (layered N.LEN (map (λ r. r.value) layers.now) base.now)) at false }
+    ensures { result
+        ≡ slice_index_or (all_bits N.LEN (layered N.LEN (map (λ r. r.value) layers.now) base.now))
+        at false }
 {
     let mut left = layers.len();
     while left > 0 {

@@ -71,7 +71,9 @@ impl<N: Chunks> Chunk<N> {
         at: usize,
     ) -> Result<Self, AllocError>
         requires { (B.bitmap base.now).pruned ≤ at }
-        ensures { IfOk result (λ read. (i : ℕ) → i < 8 * N.LEN → slice_index_or read i false ≡ slice_index_or (all_bits N.LEN (B.bitmap base.now)) (at * (8 * N.LEN) + i) false) }
+        ensures { IfOk result (λ read. (i : ℕ) → i < 8 * N.LEN
+            → slice_index_or read i false
+            ≡ slice_index_or (all_bits N.LEN (B.bitmap base.now)) (at * (8 * N.LEN) + i) false) }
     {
         Ok(Self::of(chunk_of(alloc, base, at)?))
     }
@@ -94,7 +96,8 @@ pub(crate) fn chunk_of<N: Chunks, B: Readable<N>>(
     at: usize,
 ) -> Result<Vec<u8>, AllocError>
     requires { (B.bitmap base.now).pruned ≤ at }
-    ensures { IfOk result (λ bytes. bytes.items ≡ chunk N.LEN (all_bits N.LEN (B.bitmap base.now)) at) }
+    ensures { IfOk result (λ bytes.
+        bytes.items ≡ chunk N.LEN (all_bits N.LEN (B.bitmap base.now)) at) }
 {
     let complete = base.complete_chunks();
     if at < complete {

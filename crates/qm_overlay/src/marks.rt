@@ -37,7 +37,9 @@ pub trait Marks<N: Chunks> {
     fn mark(&mut self, at: u64) -> Result<(), AllocError>
         ensures pruned { (bitmap self.new).pruned ≡ (bitmap self.old).pruned }
         ensures count { bit_count N.LEN (bitmap self.new) ≡ bit_count N.LEN (bitmap self.old) }
-        ensures bits { start N.LEN (bitmap self.old) ≤ at → OnOk result (all_bits N.LEN (bitmap self.new) ≡ set (all_bits N.LEN (bitmap self.old)) at true) }
+        ensures bits { start N.LEN (bitmap self.old) ≤ at
+            → OnOk result
+            (all_bits N.LEN (bitmap self.new) ≡ set (all_bits N.LEN (bitmap self.old)) at true) }
         ensures below { below self.new ≡ below self.old }
         ensures err { OnErr result wants };
 
@@ -45,7 +47,8 @@ pub trait Marks<N: Chunks> {
     fn unmark(&mut self, at: u64) -> Result<(), AllocError>
         ensures pruned { (bitmap self.new).pruned ≡ (bitmap self.old).pruned }
         ensures count { bit_count N.LEN (bitmap self.new) ≡ bit_count N.LEN (bitmap self.old) }
-        ensures bits { OnOk result (all_bits N.LEN (bitmap self.new) ≡ set (all_bits N.LEN (bitmap self.old)) at false) }
+        ensures bits { OnOk result
+            (all_bits N.LEN (bitmap self.new) ≡ set (all_bits N.LEN (bitmap self.old)) at false) }
         ensures below { below self.new ≡ below self.old }
         ensures err { OnErr result wants };
 }

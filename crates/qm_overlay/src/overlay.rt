@@ -37,7 +37,12 @@ impl<N: Chunks> ChunkOverlay<N> {
         requires not_below { bit_count N.LEN (B.bitmap base.now) ≤ len }
         requires bounded { len ≤ 2 ^ 62 }
         ensures value { result ≡ record { count = len; changed = [] } }
-        ensures bits { laid N.LEN result (B.bitmap base.now) ≡ record { pruned = (B.bitmap base.now).pruned; kept = (B.bitmap base.now).kept ++ replicate (len - bit_count N.LEN (B.bitmap base.now)) false } }
+        ensures bits { laid N.LEN result (B.bitmap base.now)
+            ≡ record {
+              pruned = (B.bitmap base.now).pruned;
+              kept = (B.bitmap base.now).kept
+                  ++ replicate (len - bit_count N.LEN (B.bitmap base.now)) false;
+            } }
     {
         ChunkOverlay {
             changed: BTreeMap::new(alloc),
@@ -59,7 +64,8 @@ impl<N: Chunks> ChunkOverlay<N> {
         requires bounded { len ≤ 2 ^ 62 }
         ensures count { self.new.count ≡ len }
         ensures from { (least : ℕ) → IsFrom least self.old → IsFrom least self.new }
-        ensures bits { (base : Bitmap) → bit_count N.LEN base ≤ self.old.count → laid N.LEN self.new base ≡ longer N.LEN (laid N.LEN self.old base) len }
+        ensures bits { (base : Bitmap) → bit_count N.LEN base ≤ self.old.count
+            → laid N.LEN self.new base ≡ longer N.LEN (laid N.LEN self.old base) len }
     {
         self.len = len;
     }
@@ -73,7 +79,8 @@ impl<N: Chunks> ChunkOverlay<N> {
 
     /// The bytes of a chunk, where the step changes it.
     pub fn get(&self, chunk: usize) -> Option<&[u8]>
-        ensures value { option_map (λ bytes. bytes.now) result ≡ option_map (packed N.LEN) (changed_at self.now.changed chunk) }
+        ensures value { option_map (λ bytes. bytes.now) result
+            ≡ option_map (packed N.LEN) (changed_at self.now.changed chunk) }
         ensures clear { IsClearBehind N.LEN self.now }
     {
         match self.changed.get(&chunk) {
@@ -96,7 +103,9 @@ impl<N: Chunks> ChunkOverlay<N> {
 
     // The bit at a place, where the step changes its chunk.
     pub(crate) fn bit(&self, at: u64) -> Option<bool>
-        ensures value { result ≡ option_map (λ bits. slice_index_or bits (at % (8 * N.LEN)) false) (changed_at self.now.changed (at / (8 * N.LEN))) }
+        ensures value { result
+            ≡ option_map (λ bits. slice_index_or bits (at % (8 * N.LEN)) false)
+            (changed_at self.now.changed (at / (8 * N.LEN))) }
         ensures clear { IsClearBehind N.LEN self.now }
     {
         let span = N::span();
@@ -110,7 +119,10 @@ impl<N: Chunks> ChunkOverlay<N> {
     pub(crate) fn write_into(&self, bits: &mut Prunable<N>)
         ensures pruned { bits.new.pruned ≡ bits.old.pruned }
         ensures count { bit_count N.LEN bits.new ≡ bit_count N.LEN bits.old }
-        ensures bits { (i : ℕ) → start N.LEN bits.old ≤ i → i < bit_count N.LEN bits.old → slice_index_or (all_bits N.LEN bits.new) i false ≡ bit_over (changed_at self.now.changed (i / (8 * N.LEN))) (i % (8 * N.LEN)) (slice_index_or (all_bits N.LEN bits.old) i false) }
+        ensures bits { (i : ℕ) → start N.LEN bits.old ≤ i → i < bit_count N.LEN bits.old
+            → slice_index_or (all_bits N.LEN bits.new) i false
+            ≡ bit_over (changed_at self.now.changed (i / (8 * N.LEN))) (i % (8 * N.LEN))
+            (slice_index_or (all_bits N.LEN bits.old) i false) }
         ensures clear { IsClearBehind N.LEN self.now }
     {
         for (at, chunk) in &self.changed {
@@ -124,7 +136,9 @@ impl<N: Chunks> ChunkOverlay<N> {
         requires held { IsSome (changed_at self.old.changed (at / (8 * N.LEN))) }
         ensures count { self.new.count ≡ self.old.count }
         ensures from { (least : ℕ) → IsFrom least self.old → IsFrom least self.new }
-        ensures bits { (base : Bitmap) → start N.LEN base ≤ at → all_bits N.LEN (laid N.LEN self.new base) ≡ set (all_bits N.LEN (laid N.LEN self.old base)) at value }
+        ensures bits { (base : Bitmap) → start N.LEN base ≤ at
+            → all_bits N.LEN (laid N.LEN self.new base)
+            ≡ set (all_bits N.LEN (laid N.LEN self.old base)) at value }
     {
         let span = N::span();
         put_in(
@@ -146,7 +160,8 @@ impl<N: Chunks> ChunkOverlay<N> {
         requires kept { (B.bitmap base.now).pruned ≤ chunk }
         ensures count { self.new.count ≡ self.old.count }
         ensures held { OnOk result (IsSome (changed_at self.new.changed chunk)) }
-        ensures same { laid N.LEN self.new (B.bitmap base.now) ≡ laid N.LEN self.old (B.bitmap base.now) }
+        ensures same { laid N.LEN self.new (B.bitmap base.now)
+            ≡ laid N.LEN self.old (B.bitmap base.now) }
         ensures from { (least : ℕ) → least ≤ chunk → IsFrom least self.old → IsFrom least self.new }
         ensures err { OnErr result (self.new ≡ self.old) }
     {
@@ -168,9 +183,12 @@ impl<N: Chunks> ChunkOverlay<N> {
         requires not_below { bit_count N.LEN (B.bitmap base.now) ≤ self.old.count }
         requires within { at < self.old.count }
         ensures count { self.new.count ≡ self.old.count }
-        ensures kept { start N.LEN (B.bitmap base.now) ≤ at → OnOk result (all_bits N.LEN (laid N.LEN self.new (B.bitmap base.now)) ≡ set (all_bits N.LEN (laid N.LEN self.old (B.bitmap base.now))) at value) }
+        ensures kept { start N.LEN (B.bitmap base.now) ≤ at
+            → OnOk result (all_bits N.LEN (laid N.LEN self.new (B.bitmap base.now))
+            ≡ set (all_bits N.LEN (laid N.LEN self.old (B.bitmap base.now))) at value) }
         ensures pruned { at < start N.LEN (B.bitmap base.now) → self.new ≡ self.old }
-        ensures from { IsFrom (B.bitmap base.now).pruned self.old → IsFrom (B.bitmap base.now).pruned self.new }
+        ensures from { IsFrom (B.bitmap base.now).pruned self.old
+            → IsFrom (B.bitmap base.now).pruned self.new }
         ensures err { OnErr result (self.new ≡ self.old) }
     {
         let chunk = (at / N::span()) as usize;
@@ -192,9 +210,12 @@ impl<N: Chunks> ChunkOverlay<N> {
         requires not_below { bit_count N.LEN (B.bitmap base.now) ≤ self.old.count }
         requires within { at < self.old.count }
         ensures count { self.new.count ≡ self.old.count }
-        ensures bits { start N.LEN (B.bitmap base.now) ≤ at → OnOk result (all_bits N.LEN (laid N.LEN self.new (B.bitmap base.now)) ≡ set (all_bits N.LEN (laid N.LEN self.old (B.bitmap base.now))) at true) }
+        ensures bits { start N.LEN (B.bitmap base.now) ≤ at
+            → OnOk result (all_bits N.LEN (laid N.LEN self.new (B.bitmap base.now))
+            ≡ set (all_bits N.LEN (laid N.LEN self.old (B.bitmap base.now))) at true) }
         ensures pruned { at < start N.LEN (B.bitmap base.now) → self.new ≡ self.old }
-        ensures from { IsFrom (B.bitmap base.now).pruned self.old → IsFrom (B.bitmap base.now).pruned self.new }
+        ensures from { IsFrom (B.bitmap base.now).pruned self.old
+            → IsFrom (B.bitmap base.now).pruned self.new }
         ensures err { OnErr result (self.new ≡ self.old) }
     {
         self.change(alloc, base, at, true)
@@ -210,9 +231,11 @@ impl<N: Chunks> ChunkOverlay<N> {
         requires not_below { bit_count N.LEN (B.bitmap base.now) ≤ self.old.count }
         requires within { at < self.old.count }
         ensures count { self.new.count ≡ self.old.count }
-        ensures bits { OnOk result (all_bits N.LEN (laid N.LEN self.new (B.bitmap base.now)) ≡ set (all_bits N.LEN (laid N.LEN self.old (B.bitmap base.now))) at false) }
+        ensures bits { OnOk result (all_bits N.LEN (laid N.LEN self.new (B.bitmap base.now))
+            ≡ set (all_bits N.LEN (laid N.LEN self.old (B.bitmap base.now))) at false) }
         ensures pruned { at < start N.LEN (B.bitmap base.now) → self.new ≡ self.old }
-        ensures from { IsFrom (B.bitmap base.now).pruned self.old → IsFrom (B.bitmap base.now).pruned self.new }
+        ensures from { IsFrom (B.bitmap base.now).pruned self.old
+            → IsFrom (B.bitmap base.now).pruned self.new }
         ensures err { OnErr result (self.new ≡ self.old) }
     {
         self.change(alloc, base, at, false)
@@ -228,9 +251,11 @@ fn put_in<N: Chunks>(
 )
     requires within { place < 8 * N.LEN }
     requires held { IsSome (changed_at changed.old.entries chunk) }
-    ensures here { IfSome (changed_at changed.old.entries chunk) (λ bits. changed_at changed.new.entries chunk ≡ Some (set bits place value)) }
+    ensures here { IfSome (changed_at changed.old.entries chunk) (λ bits.
+        changed_at changed.new.entries chunk ≡ Some (set bits place value)) }
     ensures long { IfSome (changed_at changed.old.entries chunk) (λ bits. length bits ≡ 8 * N.LEN) }
-    ensures other { (c : ℕ) → c ≢ chunk → changed_at changed.new.entries c ≡ changed_at changed.old.entries c }
+    ensures other { (c : ℕ) → c ≢ chunk
+        → changed_at changed.new.entries c ≡ changed_at changed.old.entries c }
 {
     if let Some(bits) = changed.get_mut(&chunk) {
         bits.put(place, value);
@@ -244,7 +269,8 @@ fn insert_in<N: Chunks>(
     bits: Chunk<N>,
 ) -> Result<(), AllocError>
     ensures here { OnOk result (changed_at changed.new.entries chunk ≡ Some bits) }
-    ensures other { OnOk result ((c : ℕ) → c ≢ chunk → changed_at changed.new.entries c ≡ changed_at changed.old.entries c) }
+    ensures other { OnOk result ((c : ℕ) → c ≢ chunk
+        → changed_at changed.new.entries c ≡ changed_at changed.old.entries c) }
     ensures err { OnErr result (changed.new.entries ≡ changed.old.entries) }
 {
     changed.insert(chunk, bits)?;

@@ -30,7 +30,10 @@ pub fn apply_bits<F, K: ByteString, V: ByteString, N: Chunks, M: Marks<N>>(
     requires not_below { bit_count N.LEN (M.bitmap activity.old) ≤ size }
     requires few { size ≤ 2 ^ 62 }
     ensures count { OnOk result (bit_count N.LEN (M.bitmap activity.new) ≡ size) }
-    ensures active { (from tip : List Operation) → LeadTo (map (λ d. changes_view K.bytes V.bytes d.value) diffs.now) from tip → IsCommitEnded from → size ≡ length tip → all_bits N.LEN (M.bitmap activity.old) ≡ bits from
+    ensures active { (from tip : List Operation)
+        → LeadTo (map (λ d. changes_view K.bytes V.bytes d.value) diffs.now) from tip
+        → IsCommitEnded from → size ≡ length tip
+        → all_bits N.LEN (M.bitmap activity.old) ≡ bits from
         → OnOk result (all_bits N.LEN (M.bitmap activity.new) ≡ bits tip) }
     ensures below { OnOk result (M.below activity.new ≡ M.below activity.old) }
     ensures err { OnErr result ((M.bitmap activity.new ≡ M.bitmap activity.old) ⊎ M.wants) }
@@ -55,8 +58,11 @@ pub fn overlay_of<F, K: ByteString, V: ByteString, N: Chunks, B: Readable<N>>(
     requires few { size ≤ 2 ^ 62 }
     ensures count { IfOk result (λ overlay. overlay.count ≡ size) }
     ensures from { IfOk result (IsFrom (B.bitmap base.now).pruned) }
-    ensures active { (from tip : List Operation) → LeadTo (map (λ d. changes_view K.bytes V.bytes d.value) diffs.now) from tip → IsCommitEnded from → size ≡ length tip → all_bits N.LEN (B.bitmap base.now) ≡ bits from
-        → IfOk result (λ overlay. all_bits N.LEN (laid N.LEN overlay (B.bitmap base.now)) ≡ bits tip) }
+    ensures active { (from tip : List Operation)
+        → LeadTo (map (λ d. changes_view K.bytes V.bytes d.value) diffs.now) from tip
+        → IsCommitEnded from → size ≡ length tip → all_bits N.LEN (B.bitmap base.now) ≡ bits from
+        → IfOk result (λ overlay.
+        all_bits N.LEN (laid N.LEN overlay (B.bitmap base.now)) ≡ bits tip) }
 {
     let mut laying = Laying::new(alloc, base);
     apply_bits(&mut laying, size, diffs)?;
@@ -69,7 +75,10 @@ fn move_bits<F, K: ByteString, V: ByteString, N: Chunks, M: Marks<N>>(
     diffs: &[Rc<Diff<F, K, V>>],
 ) -> Result<(), AllocError>
     ensures alike { OnOk result (IsAlike N.LEN (M.bitmap activity.old) (M.bitmap activity.new)) }
-    ensures live { (from tip : List Operation) → LeadTo (map (λ d. changes_view K.bytes V.bytes d.value) diffs.now) from tip → length tip ≤ bit_count N.LEN (M.bitmap activity.old) → HasLive N.LEN (M.bitmap activity.old) from
+    ensures live { (from tip : List Operation)
+        → LeadTo (map (λ d. changes_view K.bytes V.bytes d.value) diffs.now) from tip
+        → length tip ≤ bit_count N.LEN (M.bitmap activity.old)
+        → HasLive N.LEN (M.bitmap activity.old) from
         → OnOk result (HasLive N.LEN (M.bitmap activity.new) tip) }
     ensures below { OnOk result (M.below activity.new ≡ M.below activity.old) }
     ensures err { OnErr result M.wants }
@@ -87,7 +96,10 @@ fn move_entries<F, K: ByteString, V: ByteString, N: Chunks, M: Marks<N>>(
 ) -> Result<(), AllocError>
     requires { IsAscending (map (λ e. K.bytes e.0) entries.now) }
     ensures alike { OnOk result (IsAlike N.LEN (M.bitmap activity.old) (M.bitmap activity.new)) }
-    ensures live { (base tip : List Operation) → AreChanges (changes_view K.bytes V.bytes entries.now) base tip → length tip ≤ bit_count N.LEN (M.bitmap activity.old) → HasLive N.LEN (M.bitmap activity.old) base
+    ensures live { (base tip : List Operation)
+        → AreChanges (changes_view K.bytes V.bytes entries.now) base tip
+        → length tip ≤ bit_count N.LEN (M.bitmap activity.old)
+        → HasLive N.LEN (M.bitmap activity.old) base
         → OnOk result (HasLive N.LEN (M.bitmap activity.new) tip) }
     ensures below { OnOk result (M.below activity.new ≡ M.below activity.old) }
     ensures err { OnErr result M.wants }
@@ -105,7 +117,8 @@ fn clear_at<F, N: Chunks, M: Marks<N>>(
     at: Option<Location<F>>,
 ) -> Result<(), AllocError>
     ensures alike { IsAlike N.LEN (M.bitmap activity.old) (M.bitmap activity.new) }
-    ensures bits { OnOk result (all_bits N.LEN (M.bitmap activity.new) ≡ cleared (all_bits N.LEN (M.bitmap activity.old)) at) }
+    ensures bits { OnOk result (all_bits N.LEN (M.bitmap activity.new)
+        ≡ cleared (all_bits N.LEN (M.bitmap activity.old)) at) }
     ensures below { OnOk result (M.below activity.new ≡ M.below activity.old) }
     ensures err { OnErr result M.wants }
 {
@@ -121,7 +134,9 @@ fn mark_at<F, N: Chunks, M: Marks<N>>(
     at: Option<Location<F>>,
 ) -> Result<(), AllocError>
     ensures alike { IsAlike N.LEN (M.bitmap activity.old) (M.bitmap activity.new) }
-    ensures bits { IfSome at (λ at. start N.LEN (M.bitmap activity.old) ≤ at) → OnOk result (all_bits N.LEN (M.bitmap activity.new) ≡ marked (all_bits N.LEN (M.bitmap activity.old)) at) }
+    ensures bits { IfSome at (λ at. start N.LEN (M.bitmap activity.old) ≤ at)
+        → OnOk result (all_bits N.LEN (M.bitmap activity.new)
+        ≡ marked (all_bits N.LEN (M.bitmap activity.old)) at) }
     ensures below { OnOk result (M.below activity.new ≡ M.below activity.old) }
     ensures err { OnErr result M.wants }
 {

@@ -82,11 +82,17 @@ impl<D: Digest> Proof<D> {
         requires inactive { inactive_peaks ≤ length (trees.peaks F.shape leaves) }
         ensures leaves { IfOk result (λ p. p.leaves ≡ leaves) }
         ensures inactive { IfOk result (λ p. p.inactive_peaks ≡ inactive_peaks) }
-        ensures digests { IfOk result (λ p. map Some p.digests.items ≡ map (N.node_at nodes.now) (needed_positions F.shape leaves start end)) }
-        ensures tells { (hash : List ℕ → List ℕ) (list : List (List ℕ)) → leaves ≤ length list → Tells F.shape D.bytes hash (N.node_at nodes.now) list
-            → IfOk result (λ p. proof_view D.bytes p ≡ proof_of hash F.shape (take leaves list) inactive_peaks start end) }
-        ensures cause { IfErr result (Lacks (N.node_at nodes.now) (needed_positions F.shape leaves start end)) }
-        ensures held { OnOk result (first_lacked (N.node_at nodes.now) (needed_positions F.shape leaves start end) ≡ None) }
+        ensures digests { IfOk result (λ p. map Some p.digests.items
+            ≡ map (N.node_at nodes.now) (needed_positions F.shape leaves start end)) }
+        ensures tells { (hash : List ℕ → List ℕ) (list : List (List ℕ)) → leaves ≤ length list
+            → Tells F.shape D.bytes hash (N.node_at nodes.now) list
+            → IfOk result (λ p. proof_view D.bytes p
+            ≡ proof_of hash F.shape (take leaves list) inactive_peaks start end) }
+        ensures cause { IfErr result
+            (Lacks (N.node_at nodes.now) (needed_positions F.shape leaves start end)) }
+        ensures held { OnOk result (first_lacked (N.node_at nodes.now)
+            (needed_positions F.shape leaves start end)
+            ≡ None) }
     {
         let digests = list::list_peaks(alloc, nodes, leaves, start.get(), end.get())?;
         Ok(Proof {
@@ -105,10 +111,16 @@ impl<D: Digest> Proof<D> {
         start: Location<F>,
         root: &D,
     ) -> bool
-        ensures answer { result ≡ verdict H.hash F.shape (map E.spelling elements.now) start (proof_view D.bytes self.now) (D.bytes root.now) }
-        ensures speaks { (list : List (List ℕ)) (inactive : ℕ) → length list ≤ 2 ^ 62 → inactive ≤ length (trees.peaks F.shape (length list)) → D.bytes root.now ≡ trees.root H.hash F.shape (item_leaves H.hash F.shape 0 list) inactive → result ≡ true
+        ensures answer { result
+            ≡ verdict H.hash F.shape (map E.spelling elements.now) start
+            (proof_view D.bytes self.now) (D.bytes root.now) }
+        ensures speaks { (list : List (List ℕ)) (inactive : ℕ) → length list ≤ 2 ^ 62
+            → inactive ≤ length (trees.peaks F.shape (length list))
+            → D.bytes root.now
+            ≡ trees.root H.hash F.shape (item_leaves H.hash F.shape 0 list) inactive → result ≡ true
             → (take (length elements.now) (drop start list) ≡ map E.spelling elements.now)
-            ⊎ Collides H.hash (checked_inputs H.hash F.shape (map E.spelling elements.now) start (proof_view D.bytes self.now)) (root_inputs H.hash F.shape list inactive) }
+            ⊎ Collides H.hash (checked_inputs H.hash F.shape (map E.spelling elements.now) start
+            (proof_view D.bytes self.now)) (root_inputs H.hash F.shape list inactive) }
     {
         if !self.is_about::<F>(elements.len() as u64, start.get()) {
             return false;

@@ -20,8 +20,10 @@ pub(super) fn list_peaks<F: Family, D: Digest, N: Nodes<F, D>>(
     end: u64,
 ) -> Result<Vec<D>, MerkleError>
     requires { leaves ≤ 2 ^ 62 }
-    ensures digests { IfOk result (λ v. map Some v.items ≡ map (N.node_at nodes.now) (needed_positions F.shape leaves start end)) }
-    ensures cause { IfErr result (Lacks (N.node_at nodes.now) (needed_positions F.shape leaves start end)) }
+    ensures digests { IfOk result (λ v.
+        map Some v.items ≡ map (N.node_at nodes.now) (needed_positions F.shape leaves start end)) }
+    ensures cause { IfErr result
+        (Lacks (N.node_at nodes.now) (needed_positions F.shape leaves start end)) }
 {
     let mut digests = Vec::new(alloc);
     let count = F::peak_count(leaves);
@@ -41,8 +43,12 @@ fn list_node<F: Family, D: Digest, N: Nodes<F, D>>(
     digests: &mut Vec<D>,
 ) -> Result<(), MerkleError>
     requires { trees.end_of node ≤ 2 ^ 62 }
-    ensures digests { OnOk result (map Some digests.new.items ≡ map Some digests.old.items ++ map (N.node_at nodes.now) (map (trees.Shape.position F.shape) (model.needed start end node.height node.index))) }
-    ensures cause { IfErr result (Lacks (N.node_at nodes.now) (map (trees.Shape.position F.shape) (model.needed start end node.height node.index))) }
+    ensures digests { OnOk result (map Some digests.new.items
+        ≡ map Some digests.old.items
+        ++ map (N.node_at nodes.now)
+        (map (trees.Shape.position F.shape) (model.needed start end node.height node.index))) }
+    ensures cause { IfErr result (Lacks (N.node_at nodes.now)
+        (map (trees.Shape.position F.shape) (model.needed start end node.height node.index))) }
 {
     if !meets(node, start, end) {
         return list_digest(nodes, node, digests);
@@ -62,8 +68,11 @@ fn list_digest<F: Family, D: Digest, N: Nodes<F, D>>(
     digests: &mut Vec<D>,
 ) -> Result<(), MerkleError>
     requires { trees.end_of node ≤ 2 ^ 62 }
-    ensures digests { OnOk result (map Some digests.new.items ≡ map Some digests.old.items ++ N.node_at nodes.now (trees.Shape.position F.shape node) ∷ []) }
-    ensures cause { IfErr result (Lacks (N.node_at nodes.now) (trees.Shape.position F.shape node ∷ [])) }
+    ensures digests { OnOk result (map Some digests.new.items
+        ≡ map Some digests.old.items ++ N.node_at nodes.now (trees.Shape.position F.shape node)
+        ∷ []) }
+    ensures cause { IfErr result
+        (Lacks (N.node_at nodes.now) (trees.Shape.position F.shape node ∷ [])) }
 {
     let position = place::<F>(node);
     match nodes.get_node(position) {

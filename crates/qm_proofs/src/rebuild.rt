@@ -13,7 +13,9 @@ use qm_merkle::{Family, Node, StandardHasher};
 impl<D: Digest> Proof<D> {
     // Whether its numbers fit so many elements from a location on.
     pub(super) fn is_about<F: Family>(&self, count: u64, start: u64) -> bool
-        ensures { IsTrue result ↔ ((self.now.leaves ≤ 2 ^ 62) × (0 < count) × (start + count ≤ self.now.leaves) × (self.now.inactive_peaks ≤ length (trees.peaks F.shape self.now.leaves))) }
+        ensures { IsTrue result
+            ↔ ((self.now.leaves ≤ 2 ^ 62) × (0 < count) × (start + count ≤ self.now.leaves)
+            × (self.now.inactive_peaks ≤ length (trees.peaks F.shape self.now.leaves))) }
     {
         if self.leaves > 1 << 62
             || count == 0
@@ -36,8 +38,10 @@ impl<D: Digest> Proof<D> {
         requires some { 0 < length elements.now }
         requires within { start + length elements.now ≤ self.now.leaves }
         requires inactive { self.now.inactive_peaks ≤ length (trees.peaks F.shape self.now.leaves) }
-        ensures { option_map D.bytes result ≡ option_map (trees.root_of H.hash self.now.leaves self.now.inactive_peaks)
-            (rebuilt_peaks H.hash F.shape (map E.spelling elements.now) start (trees.peaks F.shape self.now.leaves) (map D.bytes self.now.digests.items)) }
+        ensures { option_map D.bytes result
+            ≡ option_map (trees.root_of H.hash self.now.leaves self.now.inactive_peaks)
+            (rebuilt_peaks H.hash F.shape (map E.spelling elements.now) start
+            (trees.peaks F.shape self.now.leaves) (map D.bytes self.now.digests.items)) }
     {
         let folded = self.fold(hasher, elements, start)?;
         let leaves = Location::<F>::new(self.leaves);
@@ -55,8 +59,12 @@ impl<D: Digest> Proof<D> {
         requires some { 0 < length elements.now }
         requires within { start + length elements.now ≤ self.now.leaves }
         requires inactive { self.now.inactive_peaks ≤ length (trees.peaks F.shape self.now.leaves) }
-        ensures { option_map D.bytes result ≡ option_map (λ ds. trees.fold_right H.hash (trees.fold_inactive H.hash (take self.now.inactive_peaks ds) ++ drop self.now.inactive_peaks ds))
-            (rebuilt_peaks H.hash F.shape (map E.spelling elements.now) start (trees.peaks F.shape self.now.leaves) (map D.bytes self.now.digests.items)) }
+        ensures { option_map D.bytes result
+            ≡ option_map (λ ds.
+            trees.fold_right H.hash (trees.fold_inactive H.hash (take self.now.inactive_peaks ds)
+            ++ drop self.now.inactive_peaks ds)) (rebuilt_peaks H.hash F.shape
+            (map E.spelling elements.now) start (trees.peaks F.shape self.now.leaves)
+            (map D.bytes self.now.digests.items)) }
     {
         if self.inactive_peaks == 0 {
             return self.fold_right(hasher, elements, start, 0, 0);
@@ -79,8 +87,10 @@ impl<D: Digest> Proof<D> {
         requires within { start + length elements.now ≤ self.now.leaves }
         requires number { number < length (trees.peaks F.shape self.now.leaves) }
         requires used { used ≤ length self.now.digests.items }
-        ensures { option_map D.bytes result ≡ option_map (trees.fold_right H.hash)
-            (rebuilt_peaks H.hash F.shape (map E.spelling elements.now) start (drop number (trees.peaks F.shape self.now.leaves)) (map D.bytes (drop used self.now.digests.items))) }
+        ensures { option_map D.bytes result
+            ≡ option_map (trees.fold_right H.hash) (rebuilt_peaks H.hash F.shape
+            (map E.spelling elements.now) start (drop number (trees.peaks F.shape self.now.leaves))
+            (map D.bytes (drop used self.now.digests.items))) }
     {
         let leaves = Location::new(self.leaves);
         let peak = F::peak(leaves, number);
@@ -108,8 +118,12 @@ impl<D: Digest> Proof<D> {
         requires number { number ≤ self.now.inactive_peaks }
         requires inactive { self.now.inactive_peaks ≤ length (trees.peaks F.shape self.now.leaves) }
         requires used { used ≤ length self.now.digests.items }
-        ensures { option_map D.bytes result ≡ option_map (λ ds. trees.fold_right H.hash (trees.fold_left H.hash (D.bytes folded) (take (self.now.inactive_peaks - number) ds) ∷ drop (self.now.inactive_peaks - number) ds))
-            (rebuilt_peaks H.hash F.shape (map E.spelling elements.now) start (drop number (trees.peaks F.shape self.now.leaves)) (map D.bytes (drop used self.now.digests.items))) }
+        ensures { option_map D.bytes result
+            ≡ option_map (λ ds. trees.fold_right H.hash (trees.fold_left H.hash (D.bytes folded)
+            (take (self.now.inactive_peaks - number) ds)
+            ∷ drop (self.now.inactive_peaks - number) ds)) (rebuilt_peaks H.hash F.shape
+            (map E.spelling elements.now) start (drop number (trees.peaks F.shape self.now.leaves))
+            (map D.bytes (drop used self.now.digests.items))) }
     {
         let leaves = Location::new(self.leaves);
         if number == F::peak_count(leaves) {
@@ -138,8 +152,10 @@ impl<D: Digest> Proof<D> {
         requires within { start + length elements.now ≤ 2 ^ 62 }
         requires used { used ≤ length self.now.digests.items }
         ensures used { IfSome result (λ r. r.1 ≤ length self.now.digests.items) }
-        ensures digest { option_map (λ r. (D.bytes r.0, map D.bytes (drop r.1 self.now.digests.items))) result
-            ≡ rebuilt H.hash F.shape (map E.spelling elements.now) start node.height node.index (map D.bytes (drop used self.now.digests.items)) }
+        ensures digest { option_map (λ r.
+            (D.bytes r.0, map D.bytes (drop r.1 self.now.digests.items))) result
+            ≡ rebuilt H.hash F.shape (map E.spelling elements.now) start node.height node.index
+            (map D.bytes (drop used self.now.digests.items)) }
     {
         if !meets(node, start.get(), start.get() + elements.len() as u64) {
             return self.next_digest(used);
@@ -158,7 +174,9 @@ impl<D: Digest> Proof<D> {
     fn next_digest(&self, used: usize) -> Option<(D, usize)>
         requires { used ≤ length self.now.digests.items }
         ensures used { IfSome result (λ r. r.1 ≤ length self.now.digests.items) }
-        ensures digest { option_map (λ r. (D.bytes r.0, map D.bytes (drop r.1 self.now.digests.items))) result ≡ taken (map D.bytes (drop used self.now.digests.items)) }
+        ensures digest { option_map (λ r.
+            (D.bytes r.0, map D.bytes (drop r.1 self.now.digests.items))) result
+            ≡ taken (map D.bytes (drop used self.now.digests.items)) }
     {
         if used < self.digests.len() {
             Some((self.digests[used], used + 1))

@@ -45,7 +45,10 @@ fn kind_named(word: &str) -> Option<bool>
 }
 
 fn kind_of_four(a: &str, b: &str, c: &str, d: &str) -> Option<bool>
-    ensures { result ≡ (if bytes_eq a.now (codes "run") && (bytes_eq b.now (codes "any") && bytes_eq d.now (codes "mmr")) then kind_word c.now else None) }
+    ensures { result
+        ≡ (if bytes_eq a.now (codes "run") &&
+        (bytes_eq b.now (codes "any") && bytes_eq d.now (codes "mmr")) then kind_word c.now else
+        None) }
 {
     if a == "run" && b == "any" && d == "mmr" {
         kind_named(c)
@@ -142,13 +145,16 @@ fn serve<
     K: Sink,
     G: Gate,
 >(alloc: Global, input: &[u8], store: C, sink: &mut K, gate: &G) -> (u8, C)
-    ensures headline { IfSome (C.told store) (λ stored. IfSome (K.text sink.old) (λ before.
-        (written : Bytes) × (K.text sink.new ≡ Some (before ++ written))
-        × Says (scheme trees.mmr U.form) stored input.now result.0 (Rose (C.faults store) (C.faults result.1)) written (C.told result.1))) }
-    ensures beside { (choices : List ℕ) × Turns (C.told store) (C.told result.1) (IsBeside choices) }
+    ensures headline { IfSome (C.told store) (λ stored. IfSome (K.text sink.old)
+        (λ before. (written : Bytes) × (K.text sink.new ≡ Some (before ++ written))
+        × Says (scheme trees.mmr U.form) stored input.now result.0
+        (Rose (C.faults store) (C.faults result.1)) written (C.told result.1))) }
+    ensures beside { (choices : List ℕ)
+        × Turns (C.told store) (C.told result.1) (IsBeside choices) }
     ensures write { result.0 ≡ 4 → Rose (K.faults sink.old) (K.faults sink.new) }
     ensures store { result.0 ≡ 6 → Rose (C.faults store) (C.faults result.1) }
-    ensures codes { (result.0 ≡ 0) ⊎ ((result.0 ≡ 2) ⊎ ((result.0 ≡ 4) ⊎ ((result.0 ≡ 5) ⊎ (result.0 ≡ 6)))) }
+    ensures codes { (result.0 ≡ 0)
+        ⊎ ((result.0 ≡ 2) ⊎ ((result.0 ≡ 4) ⊎ ((result.0 ≡ 5) ⊎ (result.0 ≡ 6)))) }
     ensures bad { result.0 ≡ 2 → IsSome (bad_in input.now) }
     ensures good { result.0 ≡ 0 → bad_in input.now ≡ None }
     ensures later { (K.faults sink.old ≤ K.faults sink.new) × (C.faults store ≤ C.faults result.1) }
@@ -179,13 +185,16 @@ fn run<C: Store + Drop, K: Sink, G: Gate>(
     sink: &mut K,
     gate: &G,
 ) -> (u8, C)
-    ensures headline { IfSome (C.told store) (λ stored. IfSome (K.text sink.old) (λ before.
-        (written : Bytes) × (K.text sink.new ≡ Some (before ++ written))
-        × Says (machine_of is_ordered) stored input.now result.0 (Rose (C.faults store) (C.faults result.1)) written (C.told result.1))) }
-    ensures beside { (choices : List ℕ) × Turns (C.told store) (C.told result.1) (IsBeside choices) }
+    ensures headline { IfSome (C.told store) (λ stored. IfSome (K.text sink.old)
+        (λ before. (written : Bytes) × (K.text sink.new ≡ Some (before ++ written))
+        × Says (machine_of is_ordered) stored input.now result.0
+        (Rose (C.faults store) (C.faults result.1)) written (C.told result.1))) }
+    ensures beside { (choices : List ℕ)
+        × Turns (C.told store) (C.told result.1) (IsBeside choices) }
     ensures write { result.0 ≡ 4 → Rose (K.faults sink.old) (K.faults sink.new) }
     ensures store { result.0 ≡ 6 → Rose (C.faults store) (C.faults result.1) }
-    ensures codes { (result.0 ≡ 0) ⊎ ((result.0 ≡ 2) ⊎ ((result.0 ≡ 4) ⊎ ((result.0 ≡ 5) ⊎ (result.0 ≡ 6)))) }
+    ensures codes { (result.0 ≡ 0)
+        ⊎ ((result.0 ≡ 2) ⊎ ((result.0 ≡ 4) ⊎ ((result.0 ≡ 5) ⊎ (result.0 ≡ 6)))) }
     ensures bad { result.0 ≡ 2 → IsSome (bad_in input.now) }
     ensures good { result.0 ≡ 0 → bad_in input.now ≡ None }
     ensures later { (K.faults sink.old ≤ K.faults sink.new) × (C.faults store ≤ C.faults result.1) }
@@ -214,14 +223,18 @@ pub fn qmdb_main<C: Store + Drop, S: Source, K: Sink, G: Gate>(
 ) -> (u8, C)
     // From a store that the program left, or the empty one, that tells what it holds, the source and the sink telling their
     // bytes.
-    ensures headline { IfSome (scheme_of (map string_bytes words.now)) (λ m. IfSome (C.told store) (λ stored. IfSome (S.left source.old) (λ input. IfSome (K.text sink.old) (λ before.
-        (written : Bytes) × (K.text sink.new ≡ Some (before ++ written))
-        × Says m stored input result.0 (Rose (C.faults store) (C.faults result.1)) written (C.told result.1))))) }
+    ensures headline { IfSome (scheme_of (map string_bytes words.now)) (λ m. IfSome (C.told store)
+        (λ stored. IfSome (S.left source.old) (λ input. IfSome (K.text sink.old)
+        (λ before. (written : Bytes) × (K.text sink.new ≡ Some (before ++ written))
+        × Says m stored input result.0 (Rose (C.faults store) (C.faults result.1)) written
+        (C.told result.1))))) }
 
     // What stays as it was.
-    ensures untouched { (result.0 ≡ 1) ⊎ ((result.0 ≡ 3) ⊎ (result.0 ≡ 7)) → (result.1 ≡ store) × (sink.new ≡ sink.old) }
+    ensures untouched { (result.0 ≡ 1) ⊎ ((result.0 ≡ 3) ⊎ (result.0 ≡ 7))
+        → (result.1 ≡ store) × (sink.new ≡ sink.old) }
     ensures unread { result.0 ≡ 1 → source.new ≡ source.old }
-    ensures beside { (choices : List ℕ) × Turns (C.told store) (C.told result.1) (IsBeside choices) }
+    ensures beside { (choices : List ℕ)
+        × Turns (C.told store) (C.told result.1) (IsBeside choices) }
 
     // When each status comes.
     ensures usage { (result.0 ≡ 1) ↔ (are_words (map string_bytes words.now) ≡ false) }
@@ -229,19 +242,27 @@ pub fn qmdb_main<C: Store + Drop, S: Source, K: Sink, G: Gate>(
     ensures steady { result.0 ≢ 3 → S.faults source.new ≡ S.faults source.old }
     ensures write { result.0 ≡ 4 → Rose (K.faults sink.old) (K.faults sink.new) }
     ensures store { result.0 ≡ 6 → Rose (C.faults store) (C.faults result.1) }
-    ensures ended { (result.0 ≡ 0) ⊎ ((result.0 ≡ 2) ⊎ ((result.0 ≡ 4) ⊎ (result.0 ≡ 6))) → IsAtEnd (S.left source.new) }
+    ensures ended { (result.0 ≡ 0) ⊎ ((result.0 ≡ 2) ⊎ ((result.0 ≡ 4) ⊎ (result.0 ≡ 6)))
+        → IsAtEnd (S.left source.new) }
     ensures good { IfSome (S.left source.old) (λ input. result.0 ≡ 0 → bad_in input ≡ None) }
     ensures bad_line { IfSome (S.left source.old) (λ input. result.0 ≡ 2 → IsSome (bad_in input)) }
     ensures long { result.0 ≡ 7 → IfSome (S.left source.old) (λ input. LIMIT < length input) }
-    ensures long_only { IfSome (S.left source.old) (λ input. LIMIT < length input → (result.0 ≡ 1) ⊎ ((result.0 ≡ 3) ⊎ ((result.0 ≡ 5) ⊎ (result.0 ≡ 7)))) }
+    ensures long_only { IfSome (S.left source.old) (λ input. LIMIT < length input
+        → (result.0 ≡ 1) ⊎ ((result.0 ≡ 3) ⊎ ((result.0 ≡ 5) ⊎ (result.0 ≡ 7)))) }
     ensures codes { result.0 ≤ 7 }
 
     // Where nothing failed, an input has all its replies, unless memory ran out.
-    ensures complete { are_words (map string_bytes words.now) ≡ true → IfSome (S.left source.old) (λ input. length input ≤ LIMIT → bad_in input ≡ None
-        → ¬ Rose (S.faults source.old) (S.faults source.new) → ¬ Rose (K.faults sink.old) (K.faults sink.new) → ¬ Rose (C.faults store) (C.faults result.1)
+    ensures complete { are_words (map string_bytes words.now) ≡ true
+        → IfSome (S.left source.old) (λ input. length input ≤ LIMIT → bad_in input ≡ None
+        → ¬ Rose (S.faults source.old) (S.faults source.new)
+        → ¬ Rose (K.faults sink.old) (K.faults sink.new)
+        → ¬ Rose (C.faults store) (C.faults result.1)
         → (result.0 ≡ 0) ⊎ (result.0 ≡ 5)) }
-    ensures complete_bad { are_words (map string_bytes words.now) ≡ true → IfSome (S.left source.old) (λ input. length input ≤ LIMIT → (n : ℕ) → bad_in input ≡ Some n
-        → ¬ Rose (S.faults source.old) (S.faults source.new) → ¬ Rose (K.faults sink.old) (K.faults sink.new) → ¬ Rose (C.faults store) (C.faults result.1)
+    ensures complete_bad { are_words (map string_bytes words.now) ≡ true
+        → IfSome (S.left source.old) (λ input. length input ≤ LIMIT → (n : ℕ)
+        → bad_in input ≡ Some n → ¬ Rose (S.faults source.old) (S.faults source.new)
+        → ¬ Rose (K.faults sink.old) (K.faults sink.new)
+        → ¬ Rose (C.faults store) (C.faults result.1)
         → (result.0 ≡ 2) ⊎ (result.0 ≡ 5)) }
 {
     let Some(is_ordered) = kind_from(words) else {

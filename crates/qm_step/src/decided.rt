@@ -41,7 +41,8 @@ pub fn evicted<K, V>(decided: &[Decided<K, V>]) -> usize
 fn touch_of<F, K: ByteString, V: ValueEncoding<K>>(
     decided: Decided<K, V::Value>,
 ) -> Touch<F, Unordered<K, V>>
-    ensures { unordered_touch K.bytes V.Value.bytes result ≡ touch_for (decided_view K.bytes V.Value.bytes decided) }
+    ensures { unordered_touch K.bytes V.Value.bytes result
+        ≡ touch_for (decided_view K.bytes V.Value.bytes decided) }
 {
     let Decided {
         key,
@@ -61,7 +62,9 @@ pub fn add_decided<F, K: ByteString, V: ValueEncoding<K>>(
     touches: &mut Vec<Touch<F, Unordered<K, V>>>,
     decided: Vec<Decided<K, V::Value>>,
 ) -> Result<(), AllocError>
-    ensures { OnOk result (unordered_touches K.bytes V.Value.bytes touches.new.items ≡ unordered_touches K.bytes V.Value.bytes touches.old.items ++ map touch_for (decided_views K.bytes V.Value.bytes decided.items)) }
+    ensures { OnOk result (unordered_touches K.bytes V.Value.bytes touches.new.items
+        ≡ unordered_touches K.bytes V.Value.bytes touches.old.items
+        ++ map touch_for (decided_views K.bytes V.Value.bytes decided.items)) }
 {
     for one in decided {
         touches.push(touch_of(one))?;

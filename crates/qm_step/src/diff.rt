@@ -29,9 +29,13 @@ fn note<'a, F, U: Update>(
     at: u64,
     touch: &'a Touch<F, U>,
 ) -> Result<(), AllocError>
-    ensures noted { OnOk result ((base own : List model.Operation) → at ≡ length (base ++ own) → IsFrom base (touch_view U.view U.Key.bytes U.Value.bytes touch.now) → IsNoted U.Value.bytes notes.old base (base ++ own)
-        → IsNoted U.Value.bytes notes.new base ((base ++ own) ++ (touch_view U.view U.Key.bytes U.Value.bytes touch.now).operation ∷ [])) }
-    ensures known { OnOk result (All (λ e. U.Key.has e.0.now ≡ true) notes.old.entries → All (λ e. U.Key.has e.0.now ≡ true) notes.new.entries) }
+    ensures noted { OnOk result ((base own : List model.Operation) → at ≡ length (base ++ own)
+        → IsFrom base (touch_view U.view U.Key.bytes U.Value.bytes touch.now)
+        → IsNoted U.Value.bytes notes.old base (base ++ own)
+        → IsNoted U.Value.bytes notes.new base
+        ((base ++ own) ++ (touch_view U.view U.Key.bytes U.Value.bytes touch.now).operation ∷ [])) }
+    ensures known { OnOk result (All (λ e. U.Key.has e.0.now ≡ true) notes.old.entries
+        → All (λ e. U.Key.has e.0.now ≡ true) notes.new.entries) }
 {
     match &touch.operation {
         Operation::Update(update) => {
@@ -59,8 +63,10 @@ fn notes_of<'a, F, U: Update>(
     touches: &'a [Touch<F, U>],
 ) -> Result<BTreeMap<&'a [u8], Noted<'a, U::Value>>, AllocError>
     requires { size ≤ 2 ^ 62 }
-    ensures noted { IfOk result (λ notes. (base : List model.Operation) → size ≡ length base → All (IsFrom base) (touch_views U.view U.Key.bytes U.Value.bytes touches.now)
-        → IsNoted U.Value.bytes notes base (base ++ operations_of (touch_views U.view U.Key.bytes U.Value.bytes touches.now))) }
+    ensures noted { IfOk result (λ notes. (base : List model.Operation) → size ≡ length base
+        → All (IsFrom base) (touch_views U.view U.Key.bytes U.Value.bytes touches.now)
+        → IsNoted U.Value.bytes notes base
+        (base ++ operations_of (touch_views U.view U.Key.bytes U.Value.bytes touches.now))) }
     ensures known { IfOk result (λ notes. All (λ e. U.Key.has e.0.now ≡ true) notes.entries) }
 {
     let mut notes = BTreeMap::new(alloc);
@@ -85,7 +91,8 @@ fn entry_of<F, V: ByteString>(
     alloc: Global,
     noted: &Noted<'_, V>,
 ) -> Result<DiffEntry<F, V>, AllocError>
-    ensures { IfOk result (λ entry. change_view V.bytes entry ≡ noted_view V.bytes noted.entry.now) }
+    ensures { IfOk result (λ entry.
+        change_view V.bytes entry ≡ noted_view V.bytes noted.entry.now) }
 {
     match noted.now {
         Some((at, value)) => {
@@ -108,7 +115,8 @@ fn diff_of<F, K: ByteString, V: ByteString>(
     notes: &BTreeMap<&[u8], Noted<'_, V>>,
 ) -> Result<Diff<F, K, V>, AllocError>
     requires { All (λ e. K.has e.0.now ≡ true) notes.now.entries }
-    ensures { IfOk result (λ diff. changes_view K.bytes V.bytes diff ≡ map (λ e. (e.0.now, noted_view V.bytes e.1)) notes.now.entries) }
+    ensures { IfOk result (λ diff. changes_view K.bytes V.bytes diff
+        ≡ map (λ e. (e.0.now, noted_view V.bytes e.1)) notes.now.entries) }
 {
     let mut entries = Vec::with_capacity(alloc, notes.len())?;
     for (key, noted) in notes {
@@ -126,8 +134,10 @@ pub fn diff_of_touches<F, U: Update>(
     touches: &[Touch<F, U>],
 ) -> Result<Diff<F, U::Key, U::Value>, AllocError>
     requires { size ≤ 2 ^ 62 }
-    ensures { IfOk result (λ diff. (base : List model.Operation) → size ≡ length base → All (IsFrom base) (touch_views U.view U.Key.bytes U.Value.bytes touches.now)
-        → AreChanges (changes_view U.Key.bytes U.Value.bytes diff) base (base ++ operations_of (touch_views U.view U.Key.bytes U.Value.bytes touches.now))) }
+    ensures { IfOk result (λ diff. (base : List model.Operation) → size ≡ length base
+        → All (IsFrom base) (touch_views U.view U.Key.bytes U.Value.bytes touches.now)
+        → AreChanges (changes_view U.Key.bytes U.Value.bytes diff) base
+        (base ++ operations_of (touch_views U.view U.Key.bytes U.Value.bytes touches.now))) }
 {
     let notes = notes_of(alloc, size, touches)?;
     diff_of(alloc, &notes)

@@ -41,7 +41,8 @@ pub fn stands_at<U: Update>(
     at: u64,
     update: &U,
 ) -> Result<Option<Stands<U::Key>>, AllocError>
-    ensures { IfOk result (λ stands. option_map (stands_view U.Key.bytes) stands ≡ Some (link_of (at, U.view update.now))) }
+    ensures { IfOk result (λ stands.
+        option_map (stands_view U.Key.bytes) stands ≡ Some (link_of (at, U.view update.now))) }
 {
     let next = twin_next(alloc, update)?;
     Ok(Some(Stands { at, next }))
@@ -52,7 +53,8 @@ pub fn stands_of<F, U: Update>(
     alloc: Global,
     found: &Option<(Location<F>, U)>,
 ) -> Result<Option<Stands<U::Key>>, AllocError>
-    ensures { IfOk result (λ stands. option_map (stands_view U.Key.bytes) stands ≡ option_map link_of (option_map (read_view U.view) found.now)) }
+    ensures { IfOk result (λ stands. option_map (stands_view U.Key.bytes) stands
+        ≡ option_map link_of (option_map (read_view U.view) found.now)) }
 {
     match found {
         Some((at, update)) => stands_at(alloc, at.get(), update),
@@ -66,7 +68,9 @@ pub fn next_above<F, U: Update>(
     found: Option<(Location<F>, U)>,
     key: &[u8],
 ) -> Result<Option<U::Key>, AllocError>
-    ensures { IfOk result (λ next. option_map U.Key.bytes next ≡ kept (λ k. key_lt key.now k) (option_and_then (λ p. next_in p.1) (option_map (read_view U.view) found))) }
+    ensures { IfOk result (λ next. option_map U.Key.bytes next
+        ≡ kept (λ k. key_lt key.now k)
+        (option_and_then (λ p. next_in p.1) (option_map (read_view U.view) found))) }
 {
     let Some((_, update)) = found else {
         return Ok(None);
@@ -83,7 +87,9 @@ pub fn next_above<F, U: Update>(
 
 /// The key of an update, where it is below the key.
 pub fn key_under<F, U: Update>(found: Option<(Location<F>, U)>, key: &[u8]) -> Option<U::Key>
-    ensures { option_map U.Key.bytes result ≡ kept (λ k. key_lt k key.now) (option_map (λ p. said_key p.1) (option_map (read_view U.view) found)) }
+    ensures { option_map U.Key.bytes result
+        ≡ kept (λ k. key_lt k key.now)
+        (option_map (λ p. said_key p.1) (option_map (read_view U.view) found)) }
 {
     let (_, update) = found?;
     if is_below(update.key().as_bytes(), key) {
@@ -95,7 +101,8 @@ pub fn key_under<F, U: Update>(found: Option<(Location<F>, U)>, key: &[u8]) -> O
 
 /// The update that the bytes spell, if they spell one.
 pub fn update_in<U: Update>(alloc: Global, item: &[u8]) -> Result<Option<U>, AllocError>
-    ensures { (op : model.Operation) → IsSpelling U.form item.now op → IfOk result (λ update. option_map (U.view) update ≡ said_by op) }
+    ensures { (op : model.Operation) → IsSpelling U.form item.now op
+        → IfOk result (λ update. option_map (U.view) update ≡ said_by op) }
 {
     let operation: Option<Operation<(), U>> = Operation::decode(alloc, item)?;
     match operation {

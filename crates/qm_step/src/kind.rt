@@ -36,17 +36,26 @@ pub trait Steps<F, I: qm_index::Unordered<Value = Location<F>>>: Update {
     /// In an ordered database the bucket of the greatest index key below the key's, or else, flagged as wrapped, of the
     /// greatest of all; none only where the index is empty.
     fn bucket_before<'a>(index: &'a I, key: &[u8]) -> Option<(&'a [Location<F>], bool)>
-        ensures { Self.form.ordered ≡ true → option_map (λ b. (b.0.now, b.1)) result ≡ neighbour_at (I.entries index.now) (prev_key (keys_of (I.entries index.now)) (I.index_key key.now)) };
+        ensures { Self.form.ordered ≡ true
+            → option_map (λ b. (b.0.now, b.1)) result
+            ≡ neighbour_at (I.entries index.now)
+            (prev_key (keys_of (I.entries index.now)) (I.index_key key.now)) };
 
     /// In an ordered database the bucket of the least index key above the key's, or else, flagged as wrapped, of the least
     /// of all; none only where the index is empty.
     fn bucket_behind<'a>(index: &'a I, key: &[u8]) -> Option<(&'a [Location<F>], bool)>
-        ensures value { Self.form.ordered ≡ true → option_map (λ b. (b.0.now, b.1)) result ≡ neighbour_at (I.entries index.now) (next_key (keys_of (I.entries index.now)) (I.index_key key.now)) }
+        ensures value { Self.form.ordered ≡ true
+            → option_map (λ b. (b.0.now, b.1)) result
+            ≡ neighbour_at (I.entries index.now)
+            (next_key (keys_of (I.entries index.now)) (I.index_key key.now)) }
         ensures index { Self.form.ordered ≡ true → IsIndex (I.entries index.now) };
 
     /// In an ordered database the bucket of the least index key; none only where the index is empty.
     fn first_bucket(index: &I) -> Option<&[Location<F>]>
-        ensures value { Self.form.ordered ≡ true → option_map (λ b. b.now) result ≡ option_map (bucket_at (I.entries index.now)) (least_key (keys_of (I.entries index.now))) }
+        ensures value { Self.form.ordered ≡ true
+            → option_map (λ b. b.now) result
+            ≡ option_map (bucket_at (I.entries index.now))
+            (least_key (keys_of (I.entries index.now))) }
         ensures index { Self.form.ordered ≡ true → IsIndex (I.entries index.now) };
 
     /// The operations of the last writes, of which it is known where their keys stand and, in an ordered database, what
@@ -56,10 +65,15 @@ pub trait Steps<F, I: qm_index::Unordered<Value = Location<F>>>: Update {
         sites: &[Site<'_, Self::Key, Self::Value>],
         neighbours: &[Neighbour<'_, F, Self>],
     ) -> Result<Vec<Touch<F, Self>>, AllocError>
-        ensures { IfOk result (λ touches. (base : List model.Operation) (ws : List writes.Write) → HasRing Self.form base
-            → map (linked_view Self.Key.bytes Self.Value.bytes) sites.now ≡ map (linked_in base) (writes.last_writes ws)
-            → (Self.form.ordered ≡ true → map (neighbour_view Self.view Self.Key.bytes) neighbours.now ≡ filter_map (neighbour_in base) (writes.last_writes ws))
-            → AreWritten (kind_of Self.form) base ws (touch_views Self.view Self.Key.bytes Self.Value.bytes touches.items)) };
+        ensures { IfOk result (λ touches.
+            (base : List model.Operation) (ws : List writes.Write) → HasRing Self.form base
+            → map (linked_view Self.Key.bytes Self.Value.bytes) sites.now
+            ≡ map (linked_in base) (writes.last_writes ws)
+            → (Self.form.ordered ≡ true
+            → map (neighbour_view Self.view Self.Key.bytes) neighbours.now
+            ≡ filter_map (neighbour_in base) (writes.last_writes ws))
+            → AreWritten (kind_of Self.form) base ws
+            (touch_views Self.view Self.Key.bytes Self.Value.bytes touches.items)) };
 
     /// The operations of writes, and behind them those of what was decided of the list with them. In an ordered database
     /// the live updates before the keys that go were found.
@@ -70,13 +84,25 @@ pub trait Steps<F, I: qm_index::Unordered<Value = Location<F>>>: Update {
         decided: Vec<Decided<Self::Key, Self::Value>>,
         found: &[(Location<F>, Self)],
     ) -> Result<Vec<Touch<F, Self>>, AllocError>
-        ensures value { IfOk result (λ touches. (list : List model.Operation) (ws : List writes.Write) → size ≡ length list → HasRing Self.form list
-            → AreWritten (kind_of Self.form) list ws (touch_views Self.view Self.Key.bytes Self.Value.bytes made.items)
-            → All (IsDecided list (list ++ operations_of (touch_views Self.view Self.Key.bytes Self.Value.bytes made.items))) (decided_views Self.Key.bytes Self.Value.bytes decided.items)
-            → IsDistinct bytes_eq (map (λ d. d.key) (map write_for (decided_views Self.Key.bytes Self.Value.bytes decided.items)))
-            → (Self.form.ordered ≡ true → map (read_view Self.view) found.now ≡ filter_map (before_evicted (list ++ operations_of (touch_views Self.view Self.Key.bytes Self.Value.bytes made.items))) (decided_views Self.Key.bytes Self.Value.bytes decided.items))
-            → touch_views Self.view Self.Key.bytes Self.Value.bytes touches.items ≡ touch_views Self.view Self.Key.bytes Self.Value.bytes made.items
-            ++ map (touch_in list) ((kind_of Self.form).moves (list ++ operations_of (touch_views Self.view Self.Key.bytes Self.Value.bytes made.items)) (map write_for (decided_views Self.Key.bytes Self.Value.bytes decided.items)))) }
+        ensures value { IfOk result (λ touches. (list : List model.Operation)
+            (ws : List writes.Write) → size ≡ length list → HasRing Self.form list
+            → AreWritten (kind_of Self.form) list ws
+            (touch_views Self.view Self.Key.bytes Self.Value.bytes made.items)
+            → All (IsDecided list (list
+            ++ operations_of (touch_views Self.view Self.Key.bytes Self.Value.bytes made.items)))
+            (decided_views Self.Key.bytes Self.Value.bytes decided.items)
+            → IsDistinct bytes_eq (map (λ d. d.key)
+            (map write_for (decided_views Self.Key.bytes Self.Value.bytes decided.items)))
+            → (Self.form.ordered ≡ true
+            → map (read_view Self.view) found.now
+            ≡ filter_map (before_evicted (list
+            ++ operations_of (touch_views Self.view Self.Key.bytes Self.Value.bytes made.items)))
+            (decided_views Self.Key.bytes Self.Value.bytes decided.items))
+            → touch_views Self.view Self.Key.bytes Self.Value.bytes touches.items
+            ≡ touch_views Self.view Self.Key.bytes Self.Value.bytes made.items
+            ++ map (touch_in list) ((kind_of Self.form).moves (list
+            ++ operations_of (touch_views Self.view Self.Key.bytes Self.Value.bytes made.items))
+            (map write_for (decided_views Self.Key.bytes Self.Value.bytes decided.items)))) }
         ensures live { CountsMoves (kind_of Self.form).moves }
         ensures count { IfOk result (λ touches. length made.items ≤ length touches.items) };
 
@@ -120,11 +146,22 @@ impl<F, I: qm_index::Unordered<Value = Location<F>>, K: ByteString, V: ValueEnco
         decided: Vec<Decided<K, V::Value>>,
         _found: &[(Location<F>, Self)],
     ) -> Result<Vec<Touch<F, Self>>, AllocError>
-        ensures value { IfOk result (λ touches. (list : List model.Operation) (ws : List writes.Write) → size ≡ length list → AreWritten unordered list ws (touch_views ⟦<Unordered<K, V> as Update>⟧.view K.bytes V.Value.bytes made.items)
-            → All (IsDecided list (list ++ operations_of (touch_views ⟦<Unordered<K, V> as Update>⟧.view K.bytes V.Value.bytes made.items))) (decided_views K.bytes V.Value.bytes decided.items)
-            → IsDistinct bytes_eq (map (λ d. d.key) (map write_for (decided_views K.bytes V.Value.bytes decided.items)))
-            → touch_views ⟦<Unordered<K, V> as Update>⟧.view K.bytes V.Value.bytes touches.items ≡ touch_views ⟦<Unordered<K, V> as Update>⟧.view K.bytes V.Value.bytes made.items
-            ++ map (touch_in list) (unordered.moves (list ++ operations_of (touch_views ⟦<Unordered<K, V> as Update>⟧.view K.bytes V.Value.bytes made.items)) (map write_for (decided_views K.bytes V.Value.bytes decided.items)))) }
+        ensures value { IfOk result (λ touches.
+            (list : List model.Operation) (ws : List writes.Write) → size ≡ length list
+            → AreWritten unordered list ws
+            (touch_views ⟦<Unordered<K, V> as Update>⟧.view K.bytes V.Value.bytes made.items)
+            → All (IsDecided list (list
+            ++ operations_of
+            (touch_views ⟦<Unordered<K, V> as Update>⟧.view K.bytes V.Value.bytes made.items)))
+            (decided_views K.bytes V.Value.bytes decided.items)
+            → IsDistinct bytes_eq
+            (map (λ d. d.key) (map write_for (decided_views K.bytes V.Value.bytes decided.items)))
+            → touch_views ⟦<Unordered<K, V> as Update>⟧.view K.bytes V.Value.bytes touches.items
+            ≡ touch_views ⟦<Unordered<K, V> as Update>⟧.view K.bytes V.Value.bytes made.items
+            ++ map (touch_in list) (unordered.moves (list
+            ++ operations_of
+            (touch_views ⟦<Unordered<K, V> as Update>⟧.view K.bytes V.Value.bytes made.items))
+            (map write_for (decided_views K.bytes V.Value.bytes decided.items)))) }
         ensures live { CountsMoves unordered.moves }
         ensures count { IfOk result (λ touches. length made.items ≤ length touches.items) }
     {
@@ -167,12 +204,29 @@ impl<F, I: qm_index::Ordered<Value = Location<F>>, K: ByteString, V: ValueEncodi
         decided: Vec<Decided<K, V::Value>>,
         found: &[(Location<F>, Self)],
     ) -> Result<Vec<Touch<F, Self>>, AllocError>
-        ensures value { IfOk result (λ touches. (list : List model.Operation) (ws : List writes.Write) → size ≡ length list → HasRing ⟦<Ordered<K, V> as Update>⟧.form list → AreWritten ordered list ws (touch_views ⟦<Ordered<K, V> as Update>⟧.view K.bytes V.Value.bytes made.items)
-            → All (IsDecided list (list ++ operations_of (touch_views ⟦<Ordered<K, V> as Update>⟧.view K.bytes V.Value.bytes made.items))) (decided_views K.bytes V.Value.bytes decided.items)
-            → IsDistinct bytes_eq (map (λ d. d.key) (map write_for (decided_views K.bytes V.Value.bytes decided.items)))
-            → (⟦<Ordered<K, V> as Update>⟧.form.ordered ≡ true → map (read_view ⟦<Ordered<K, V> as Update>⟧.view) found.now ≡ filter_map (before_evicted (list ++ operations_of (touch_views ⟦<Ordered<K, V> as Update>⟧.view K.bytes V.Value.bytes made.items))) (decided_views K.bytes V.Value.bytes decided.items))
-            → touch_views ⟦<Ordered<K, V> as Update>⟧.view K.bytes V.Value.bytes touches.items ≡ touch_views ⟦<Ordered<K, V> as Update>⟧.view K.bytes V.Value.bytes made.items
-            ++ map (touch_in list) (ordered.moves (list ++ operations_of (touch_views ⟦<Ordered<K, V> as Update>⟧.view K.bytes V.Value.bytes made.items)) (map write_for (decided_views K.bytes V.Value.bytes decided.items)))) }
+        ensures value { IfOk result (λ touches.
+            (list : List model.Operation) (ws : List writes.Write) → size ≡ length list
+            → HasRing ⟦<Ordered<K, V> as Update>⟧.form list
+            → AreWritten ordered list ws
+            (touch_views ⟦<Ordered<K, V> as Update>⟧.view K.bytes V.Value.bytes made.items)
+            → All (IsDecided list (list
+            ++ operations_of
+            (touch_views ⟦<Ordered<K, V> as Update>⟧.view K.bytes V.Value.bytes made.items)))
+            (decided_views K.bytes V.Value.bytes decided.items)
+            → IsDistinct bytes_eq
+            (map (λ d. d.key) (map write_for (decided_views K.bytes V.Value.bytes decided.items)))
+            → (⟦<Ordered<K, V> as Update>⟧.form.ordered ≡ true
+            → map (read_view ⟦<Ordered<K, V> as Update>⟧.view) found.now
+            ≡ filter_map (before_evicted (list
+            ++ operations_of
+            (touch_views ⟦<Ordered<K, V> as Update>⟧.view K.bytes V.Value.bytes made.items)))
+            (decided_views K.bytes V.Value.bytes decided.items))
+            → touch_views ⟦<Ordered<K, V> as Update>⟧.view K.bytes V.Value.bytes touches.items
+            ≡ touch_views ⟦<Ordered<K, V> as Update>⟧.view K.bytes V.Value.bytes made.items
+            ++ map (touch_in list) (ordered.moves (list
+            ++ operations_of
+            (touch_views ⟦<Ordered<K, V> as Update>⟧.view K.bytes V.Value.bytes made.items))
+            (map write_for (decided_views K.bytes V.Value.bytes decided.items)))) }
         ensures live { CountsMoves ordered.moves }
         ensures count { IfOk result (λ touches. length made.items ≤ length touches.items) }
     {

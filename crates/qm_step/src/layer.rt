@@ -34,7 +34,13 @@ impl<F, U: Update> Layer<F, U> {
         operations: Vec<Operation<F, U>>,
         diff: Rc<Diff<F, U::Key, U::Value>>,
     ) -> Self
-        ensures { result ≡ record { base = base; operations = operation_views U.view U.Key.bytes U.Value.bytes operations.items; changes = changes_view U.Key.bytes U.Value.bytes diff.value } }
+        ensures { result
+            ≡ record {
+              base = base;
+              operations = operation_views U.view U.Key.bytes U.Value.bytes
+                  operations.items;
+              changes = changes_view U.Key.bytes U.Value.bytes diff.value;
+            } }
     {
         Layer {
             base,
@@ -52,7 +58,8 @@ impl<F, U: Update> Layer<F, U> {
 
     /// The operations behind the base list.
     pub fn operations(&self) -> &[Operation<F, U>]
-        ensures { operation_views U.view U.Key.bytes U.Value.bytes result.now ≡ self.now.operations }
+        ensures { operation_views U.view U.Key.bytes U.Value.bytes result.now
+            ≡ self.now.operations }
     {
         &self.operations
     }

@@ -55,7 +55,8 @@ fn keys_of<'a, K: ByteString, V: ByteString>(
     linked: &'a [Site<'a, K, V>],
     kind: Kind,
 ) -> Result<Keys<'a>, AllocError>
-    ensures { IfOk result (λ keys. SameKeys (keys_in keys.entries) (keys_of_kind kind (map (linked_view K.bytes V.bytes) linked.now))) }
+    ensures { IfOk result (λ keys. SameKeys (keys_in keys.entries)
+        (keys_of_kind kind (map (linked_view K.bytes V.bytes) linked.now))) }
 {
     let mut keys = BTreeMap::new(alloc);
     for written in linked {
@@ -72,9 +73,13 @@ fn add_before<'a, F, K: ByteString, V: ValueEncoding<K>>(
     deleted: &Keys<'_>,
     neighbour: &'a Neighbour<'a, F, Ordered<K, V>>,
 ) -> Result<(), AllocError>
-    ensures keys { OnOk result (SameKeys (keys_in befores.new.entries) (keys_in befores.old.entries ++ without (keys_in deleted.now.entries) (option_to_list (before_of (ordered_neighbour K.bytes V.Value.bytes neighbour.now))))) }
-    ensures standing { OnOk result ((base : List operations.Operation) → IsStanding base (ordered_neighbour K.bytes V.Value.bytes neighbour.now)
-        → AreLive (ordered_update K.bytes V.Value.bytes) base befores.old.entries → AreLive (ordered_update K.bytes V.Value.bytes) base befores.new.entries) }
+    ensures keys { OnOk result (SameKeys (keys_in befores.new.entries) (keys_in befores.old.entries
+        ++ without (keys_in deleted.now.entries)
+        (option_to_list (before_of (ordered_neighbour K.bytes V.Value.bytes neighbour.now))))) }
+    ensures standing { OnOk result ((base : List operations.Operation)
+        → IsStanding base (ordered_neighbour K.bytes V.Value.bytes neighbour.now)
+        → AreLive (ordered_update K.bytes V.Value.bytes) base befores.old.entries
+        → AreLive (ordered_update K.bytes V.Value.bytes) base befores.new.entries) }
 {
     let Some(found) = &neighbour.before else {
         return Ok(());
@@ -93,8 +98,11 @@ fn befores_of<'a, F, K: ByteString, V: ValueEncoding<K>>(
     deleted: &Keys<'_>,
     neighbours: &'a [Neighbour<'a, F, Ordered<K, V>>],
 ) -> Result<Befores<'a, F, K, V>, AllocError>
-    ensures keys { IfOk result (λ befores. SameKeys (keys_in befores.entries) (without (keys_in deleted.now.entries) (filter_map before_of (map (ordered_neighbour K.bytes V.Value.bytes) neighbours.now)))) }
-    ensures standing { IfOk result (λ befores. (base : List operations.Operation) → All (IsStanding base) (map (ordered_neighbour K.bytes V.Value.bytes) neighbours.now)
+    ensures keys { IfOk result (λ befores.
+        SameKeys (keys_in befores.entries) (without (keys_in deleted.now.entries)
+        (filter_map before_of (map (ordered_neighbour K.bytes V.Value.bytes) neighbours.now)))) }
+    ensures standing { IfOk result (λ befores. (base : List operations.Operation)
+        → All (IsStanding base) (map (ordered_neighbour K.bytes V.Value.bytes) neighbours.now)
         → AreLive (ordered_update K.bytes V.Value.bytes) base befores.entries) }
 {
     let mut befores = BTreeMap::new(alloc);
@@ -110,7 +118,9 @@ fn add_kept<'a, K: ByteString>(
     deleted: &Keys<'_>,
     key: Option<&'a K>,
 ) -> Result<(), AllocError>
-    ensures keys { OnOk result (SameKeys (keys_in keys.new.entries) (keys_in keys.old.entries ++ without (keys_in deleted.now.entries) (option_to_list (option_map (λ k. K.bytes k.now) key.entry)))) }
+    ensures keys { OnOk result (SameKeys (keys_in keys.new.entries) (keys_in keys.old.entries
+        ++ without (keys_in deleted.now.entries)
+        (option_to_list (option_map (λ k. K.bytes k.now) key.entry)))) }
     ensures known { OnOk result (AreKeys K.has keys.old.entries → AreKeys K.has keys.new.entries) }
 {
     let Some(key) = key else {
@@ -126,7 +136,8 @@ fn add_kept<'a, K: ByteString>(
 
 // The key that a written key's live update names, or the key itself where it is created.
 fn named_by<'a, K: ByteString, V: ByteString>(linked: &'a Site<'a, K, V>) -> Option<&'a K>
-    ensures { option_map (λ k. K.bytes k.now) result ≡ after_of (linked_view K.bytes V.bytes linked.now) }
+    ensures { option_map (λ k. K.bytes k.now) result
+        ≡ after_of (linked_view K.bytes V.bytes linked.now) }
 {
     match &linked.stands {
         Some(stands) => stands.next.as_ref(),
@@ -141,7 +152,9 @@ fn add_named<'a, K: ByteString, V: ByteString>(
     deleted: &Keys<'_>,
     linked: &'a [Site<'a, K, V>],
 ) -> Result<(), AllocError>
-    ensures keys { OnOk result (SameKeys (keys_in keys.new.entries) (keys_in keys.old.entries ++ without (keys_in deleted.now.entries) (filter_map after_of (map (linked_view K.bytes V.bytes) linked.now)))) }
+    ensures keys { OnOk result (SameKeys (keys_in keys.new.entries) (keys_in keys.old.entries
+        ++ without (keys_in deleted.now.entries)
+        (filter_map after_of (map (linked_view K.bytes V.bytes) linked.now)))) }
     ensures known { OnOk result (AreKeys K.has keys.old.entries → AreKeys K.has keys.new.entries) }
 {
     for written in linked {
@@ -154,7 +167,8 @@ fn add_named<'a, K: ByteString, V: ByteString>(
 fn next_by<'a, F, K: ByteString, V: ValueEncoding<K>>(
     neighbour: &'a Neighbour<'a, F, Ordered<K, V>>,
 ) -> Option<&'a K>
-    ensures { option_map (λ k. K.bytes k.now) result ≡ next_of (ordered_neighbour K.bytes V.Value.bytes neighbour.now) }
+    ensures { option_map (λ k. K.bytes k.now) result
+        ≡ next_of (ordered_neighbour K.bytes V.Value.bytes neighbour.now) }
 {
     match &neighbour.before {
         Some(found) => Some(&found.1.next_key),
@@ -168,7 +182,9 @@ fn add_next<'a, F, K: ByteString, V: ValueEncoding<K>>(
     deleted: &Keys<'_>,
     neighbours: &'a [Neighbour<'a, F, Ordered<K, V>>],
 ) -> Result<(), AllocError>
-    ensures keys { OnOk result (SameKeys (keys_in keys.new.entries) (keys_in keys.old.entries ++ without (keys_in deleted.now.entries) (filter_map next_of (map (ordered_neighbour K.bytes V.Value.bytes) neighbours.now)))) }
+    ensures keys { OnOk result (SameKeys (keys_in keys.new.entries) (keys_in keys.old.entries
+        ++ without (keys_in deleted.now.entries)
+        (filter_map next_of (map (ordered_neighbour K.bytes V.Value.bytes) neighbours.now)))) }
     ensures known { OnOk result (AreKeys K.has keys.old.entries → AreKeys K.has keys.new.entries) }
 {
     for neighbour in neighbours {
@@ -184,7 +200,11 @@ fn afters_of<'a, F, K: ByteString, V: ValueEncoding<K>>(
     linked: &'a [Site<'a, K, V::Value>],
     neighbours: &'a [Neighbour<'a, F, Ordered<K, V>>],
 ) -> Result<Keys<'a>, AllocError>
-    ensures keys { IfOk result (λ keys. SameKeys (keys_in keys.entries) (without (keys_in deleted.now.entries) (filter_map after_of (map (linked_view K.bytes V.Value.bytes) linked.now)) ++ without (keys_in deleted.now.entries) (filter_map next_of (map (ordered_neighbour K.bytes V.Value.bytes) neighbours.now)))) }
+    ensures keys { IfOk result (λ keys.
+        SameKeys (keys_in keys.entries) (without (keys_in deleted.now.entries)
+        (filter_map after_of (map (linked_view K.bytes V.Value.bytes) linked.now))
+        ++ without (keys_in deleted.now.entries)
+        (filter_map next_of (map (ordered_neighbour K.bytes V.Value.bytes) neighbours.now)))) }
     ensures known { IfOk result (λ keys. AreKeys K.has keys.entries) }
 {
     let mut keys = BTreeMap::new(alloc);
@@ -200,7 +220,8 @@ fn next_key<'a, K: ByteString>(
     key: &'a K,
 ) -> Result<K, AllocError>
     requires { AreKeys K.has afters.now.entries }
-    ensures { IfOk result (λ next. K.bytes next ≡ key_after (keys_in afters.now.entries) (K.bytes key.now)) }
+    ensures { IfOk result (λ next.
+        K.bytes next ≡ key_after (keys_in afters.now.entries) (K.bytes key.now)) }
 {
     match key_behind(afters, key.as_bytes()) {
         Some(next) => K::from_bytes(alloc, next),
@@ -216,7 +237,9 @@ fn update_with<'a, F, K: ByteString, V: ValueEncoding<K>>(
     value: &V::Value,
 ) -> Result<Operation<F, Ordered<K, V>>, AllocError>
     requires { AreKeys K.has afters.now.entries }
-    ensures { IfOk result (λ operation. ordered_operation K.bytes V.Value.bytes operation ≡ named (keys_in afters.now.entries) (operations.update (K.bytes key.now) (V.Value.bytes value.now) None)) }
+    ensures { IfOk result (λ operation. ordered_operation K.bytes V.Value.bytes operation
+        ≡ named (keys_in afters.now.entries)
+        (operations.update (K.bytes key.now) (V.Value.bytes value.now) None)) }
 {
     let next_key = next_key(alloc, afters, key)?;
     let key = key.twin(alloc)?;
@@ -235,7 +258,9 @@ fn operation_of<'a, F, K: ByteString, V: ValueEncoding<K>>(
     write: &LastWrite<'a, K, V::Value>,
 ) -> Result<Operation<F, Ordered<K, V>>, AllocError>
     requires { AreKeys K.has afters.now.entries }
-    ensures { IfOk result (λ operation. ordered_operation K.bytes V.Value.bytes operation ≡ named (keys_in afters.now.entries) (model.operation_of (last_write_view K.bytes V.Value.bytes write.now))) }
+    ensures { IfOk result (λ operation. ordered_operation K.bytes V.Value.bytes operation
+        ≡ named (keys_in afters.now.entries)
+        (model.operation_of (last_write_view K.bytes V.Value.bytes write.now))) }
 {
     match write.value {
         Some(value) => update_with(alloc, afters, write.key, value),
@@ -252,8 +277,10 @@ fn add_written<'a, F, K: ByteString, V: ValueEncoding<K>>(
     kind: Kind,
 ) -> Result<(), AllocError>
     requires { AreKeys K.has afters.now.entries }
-    ensures { OnOk result (ordered_touches K.bytes V.Value.bytes touches.new.items ≡ ordered_touches K.bytes V.Value.bytes touches.old.items
-        ++ map (touch_of (keys_in afters.now.entries)) (of_kind kind (map (linked_view K.bytes V.Value.bytes) linked.now))) }
+    ensures { OnOk result (ordered_touches K.bytes V.Value.bytes touches.new.items
+        ≡ ordered_touches K.bytes V.Value.bytes touches.old.items
+        ++ map (touch_of (keys_in afters.now.entries))
+        (of_kind kind (map (linked_view K.bytes V.Value.bytes) linked.now))) }
 {
     for written in linked {
         if is_of(written, kind) {
@@ -277,9 +304,14 @@ fn add_link<'a, F, K: ByteString, V: ValueEncoding<K>>(
     key: &'a K,
 ) -> Result<(), AllocError>
     requires { AreKeys K.has afters.now.entries }
-    ensures { OnOk result ((base : List operations.Operation) (front : List lists.Touch) (before keys : List operations.Bytes) → AreLive (ordered_update K.bytes V.Value.bytes) base befores.now.entries
-        → AreRelinked base (keys_in afters.now.entries) front before keys (ordered_touches K.bytes V.Value.bytes touches.old.items) (keys_in written.old.entries)
-        → AreRelinked base (keys_in afters.now.entries) front before (keys ++ option_to_list (predecessor (keys_in befores.now.entries) (K.bytes key.now))) (ordered_touches K.bytes V.Value.bytes touches.new.items) (keys_in written.new.entries)) }
+    ensures { OnOk result ((base : List operations.Operation) (front : List lists.Touch)
+        (before keys : List operations.Bytes)
+        → AreLive (ordered_update K.bytes V.Value.bytes) base befores.now.entries
+        → AreRelinked base (keys_in afters.now.entries) front before keys
+        (ordered_touches K.bytes V.Value.bytes touches.old.items) (keys_in written.old.entries)
+        → AreRelinked base (keys_in afters.now.entries) front before
+        (keys ++ option_to_list (predecessor (keys_in befores.now.entries) (K.bytes key.now)))
+        (ordered_touches K.bytes V.Value.bytes touches.new.items) (keys_in written.new.entries)) }
 {
     let Some((before, found)) = entry_before(befores, key.as_bytes()) else {
         return Ok(());
@@ -306,9 +338,15 @@ fn add_links<'a, F, K: ByteString, V: ValueEncoding<K>>(
     kind: Kind,
 ) -> Result<(), AllocError>
     requires { AreKeys K.has afters.now.entries }
-    ensures { OnOk result ((base : List operations.Operation) (front : List lists.Touch) (before keys : List operations.Bytes) → AreLive (ordered_update K.bytes V.Value.bytes) base befores.now.entries
-        → AreRelinked base (keys_in afters.now.entries) front before keys (ordered_touches K.bytes V.Value.bytes touches.old.items) (keys_in written.old.entries)
-        → AreRelinked base (keys_in afters.now.entries) front before (keys ++ filter_map (predecessor (keys_in befores.now.entries)) (keys_of_kind kind (map (linked_view K.bytes V.Value.bytes) linked.now))) (ordered_touches K.bytes V.Value.bytes touches.new.items) (keys_in written.new.entries)) }
+    ensures { OnOk result ((base : List operations.Operation) (front : List lists.Touch)
+        (before keys : List operations.Bytes)
+        → AreLive (ordered_update K.bytes V.Value.bytes) base befores.now.entries
+        → AreRelinked base (keys_in afters.now.entries) front before keys
+        (ordered_touches K.bytes V.Value.bytes touches.old.items) (keys_in written.old.entries)
+        → AreRelinked base (keys_in afters.now.entries) front before (keys
+        ++ filter_map (predecessor (keys_in befores.now.entries))
+        (keys_of_kind kind (map (linked_view K.bytes V.Value.bytes) linked.now)))
+        (ordered_touches K.bytes V.Value.bytes touches.new.items) (keys_in written.new.entries)) }
 {
     for changed in linked {
         if is_of(changed, kind) {
@@ -327,11 +365,16 @@ fn add_relinked<'a, F, K: ByteString, V: ValueEncoding<K>>(
     linked: &'a [Site<'a, K, V::Value>],
 ) -> Result<(), AllocError>
     requires { AreKeys K.has afters.now.entries }
-    ensures { OnOk result ((base : List operations.Operation) → AreLive (ordered_update K.bytes V.Value.bytes) base befores.now.entries
-        → ordered_touches K.bytes V.Value.bytes touches.new.items ≡ ordered_touches K.bytes V.Value.bytes touches.old.items
-        ++ relinked_touches base (keys_in afters.now.entries) (keys_of_kind Kind.Update (map (linked_view K.bytes V.Value.bytes) linked.now))
-        (filter_map (predecessor (keys_in befores.now.entries)) (keys_of_kind Kind.Create (map (linked_view K.bytes V.Value.bytes) linked.now))
-        ++ filter_map (predecessor (keys_in befores.now.entries)) (keys_of_kind Kind.Delete (map (linked_view K.bytes V.Value.bytes) linked.now)))) }
+    ensures { OnOk result ((base : List operations.Operation)
+        → AreLive (ordered_update K.bytes V.Value.bytes) base befores.now.entries
+        → ordered_touches K.bytes V.Value.bytes touches.new.items
+        ≡ ordered_touches K.bytes V.Value.bytes touches.old.items
+        ++ relinked_touches base (keys_in afters.now.entries)
+        (keys_of_kind Kind.Update (map (linked_view K.bytes V.Value.bytes) linked.now))
+        (filter_map (predecessor (keys_in befores.now.entries))
+        (keys_of_kind Kind.Create (map (linked_view K.bytes V.Value.bytes) linked.now))
+        ++ filter_map (predecessor (keys_in befores.now.entries))
+        (keys_of_kind Kind.Delete (map (linked_view K.bytes V.Value.bytes) linked.now)))) }
 {
     let mut written = keys_of(alloc, linked, Kind::Update)?;
     add_links(
@@ -362,14 +405,21 @@ fn written_touches<'a, F, K: ByteString, V: ValueEncoding<K>>(
     linked: &'a [Site<'a, K, V::Value>],
 ) -> Result<Vec<Touch<F, Ordered<K, V>>>, AllocError>
     requires { AreKeys K.has afters.now.entries }
-    ensures { IfOk result (λ touches. (base : List operations.Operation) → AreLive (ordered_update K.bytes V.Value.bytes) base befores.now.entries
+    ensures { IfOk result (λ touches. (base : List operations.Operation)
+        → AreLive (ordered_update K.bytes V.Value.bytes) base befores.now.entries
         → ordered_touches K.bytes V.Value.bytes touches.items
-        ≡ (map (touch_of (keys_in afters.now.entries)) (of_kind Kind.Delete (map (linked_view K.bytes V.Value.bytes) linked.now))
-        ++ map (touch_of (keys_in afters.now.entries)) (of_kind Kind.Update (map (linked_view K.bytes V.Value.bytes) linked.now))
-        ++ map (touch_of (keys_in afters.now.entries)) (of_kind Kind.Create (map (linked_view K.bytes V.Value.bytes) linked.now)))
-        ++ relinked_touches base (keys_in afters.now.entries) (keys_of_kind Kind.Update (map (linked_view K.bytes V.Value.bytes) linked.now))
-        (filter_map (predecessor (keys_in befores.now.entries)) (keys_of_kind Kind.Create (map (linked_view K.bytes V.Value.bytes) linked.now))
-        ++ filter_map (predecessor (keys_in befores.now.entries)) (keys_of_kind Kind.Delete (map (linked_view K.bytes V.Value.bytes) linked.now)))) }
+        ≡ (map (touch_of (keys_in afters.now.entries))
+        (of_kind Kind.Delete (map (linked_view K.bytes V.Value.bytes) linked.now))
+        ++ map (touch_of (keys_in afters.now.entries))
+        (of_kind Kind.Update (map (linked_view K.bytes V.Value.bytes) linked.now))
+        ++ map (touch_of (keys_in afters.now.entries))
+        (of_kind Kind.Create (map (linked_view K.bytes V.Value.bytes) linked.now)))
+        ++ relinked_touches base (keys_in afters.now.entries)
+        (keys_of_kind Kind.Update (map (linked_view K.bytes V.Value.bytes) linked.now))
+        (filter_map (predecessor (keys_in befores.now.entries))
+        (keys_of_kind Kind.Create (map (linked_view K.bytes V.Value.bytes) linked.now))
+        ++ filter_map (predecessor (keys_in befores.now.entries))
+        (keys_of_kind Kind.Delete (map (linked_view K.bytes V.Value.bytes) linked.now)))) }
 {
     let mut touches = Vec::new(alloc);
     add_written(alloc, &mut touches, afters, linked, Kind::Delete)?;
@@ -386,9 +436,14 @@ pub fn linked_touches<'a, F, K: ByteString, V: ValueEncoding<K>>(
     linked: &'a [Site<'a, K, V::Value>],
     neighbours: &'a [Neighbour<'a, F, Ordered<K, V>>],
 ) -> Result<Vec<Touch<F, Ordered<K, V>>>, AllocError>
-    ensures { IfOk result (λ touches. (base : List operations.Operation) (ws : List model.Write) → IsRing base → map (linked_view K.bytes V.Value.bytes) linked.now ≡ map (linked_in base) (model.last_writes ws)
-        → map (neighbour_view ⟦<Ordered<K, V> as Update>⟧.view K.bytes) neighbours.now ≡ filter_map (neighbour_in base) (model.last_writes ws)
-        → ordered_touches K.bytes V.Value.bytes touches.items ≡ map (touch_in base) (ordered_writes base ws)) }
+    ensures { IfOk result (λ touches.
+        (base : List operations.Operation) (ws : List model.Write) → IsRing base
+        → map (linked_view K.bytes V.Value.bytes) linked.now
+        ≡ map (linked_in base) (model.last_writes ws)
+        → map (neighbour_view ⟦<Ordered<K, V> as Update>⟧.view K.bytes) neighbours.now
+        ≡ filter_map (neighbour_in base) (model.last_writes ws)
+        → ordered_touches K.bytes V.Value.bytes touches.items
+        ≡ map (touch_in base) (ordered_writes base ws)) }
 {
     let deleted = keys_of(alloc, linked, Kind::Delete)?;
     let befores = befores_of(alloc, &deleted, neighbours)?;

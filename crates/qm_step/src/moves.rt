@@ -47,7 +47,9 @@ type FoundByKey<'a, F, K, V> = BTreeMap<&'a [u8], &'a Found<F, K, V>>;
 fn touch_of<F, K: ByteString, V: ValueEncoding<K>>(
     decided: Decided<K, V::Value>,
 ) -> Touch<F, Ordered<K, V>>
-    ensures { ordered_touch K.bytes V.Value.bytes result ≡ touch_naming (decided_view K.bytes V.Value.bytes decided).next (decided_view K.bytes V.Value.bytes decided) }
+    ensures { ordered_touch K.bytes V.Value.bytes result
+        ≡ touch_naming (decided_view K.bytes V.Value.bytes decided).next
+        (decided_view K.bytes V.Value.bytes decided) }
 {
     let Decided {
         key,
@@ -71,7 +73,9 @@ fn with_moves<F, K: ByteString, V: ValueEncoding<K>>(
     made: Vec<Touch<F, Ordered<K, V>>>,
     decided: Vec<Decided<K, V::Value>>,
 ) -> Result<Vec<Touch<F, Ordered<K, V>>>, AllocError>
-    ensures { IfOk result (λ touches. ordered_touches K.bytes V.Value.bytes touches.items ≡ ordered_touches K.bytes V.Value.bytes made.items ++ map (λ d. touch_naming d.next d) (decided_views K.bytes V.Value.bytes decided.items)) }
+    ensures { IfOk result (λ touches. ordered_touches K.bytes V.Value.bytes touches.items
+        ≡ ordered_touches K.bytes V.Value.bytes made.items
+        ++ map (λ d. touch_naming d.next d) (decided_views K.bytes V.Value.bytes decided.items)) }
 {
     let mut touches = made;
     for one in decided {
@@ -113,7 +117,8 @@ fn twin_operations<F, U: Update>(
 
 // A layer, or anything that is kept like one, before others.
 fn layered<T: Drop>(alloc: Global, newest: T, layers: &[Rc<T>]) -> Result<Vec<Rc<T>>, AllocError>
-    ensures { IfOk result (λ all. map (λ l. l.value) all.items ≡ newest ∷ map (λ l. l.value) layers.now) }
+    ensures { IfOk result (λ all.
+        map (λ l. l.value) all.items ≡ newest ∷ map (λ l. l.value) layers.now) }
 {
     let mut all = layers.to_vec(alloc)?;
     all.insert(0, Rc::new(alloc, newest)?)?;
@@ -127,8 +132,11 @@ pub fn layers_over<F, U: Update>(
     made: &[Touch<F, U>],
 ) -> Result<Vec<Rc<Layer<F, U>>>, AllocError>
     requires { base.now.size ≤ 2 ^ 62 }
-    ensures { IfOk result (λ layers. (lent list : List model.Operation) → IsBase (base_view base.now) lent list → All (IsFrom list) (touch_views U.view U.Key.bytes U.Value.bytes made.now)
-        → LeadOver (map (λ l. l.value) layers.items) lent (list ++ operations_of (touch_views U.view U.Key.bytes U.Value.bytes made.now))) }
+    ensures { IfOk result (λ layers.
+        (lent list : List model.Operation) → IsBase (base_view base.now) lent list
+        → All (IsFrom list) (touch_views U.view U.Key.bytes U.Value.bytes made.now)
+        → LeadOver (map (λ l. l.value) layers.items) lent
+        (list ++ operations_of (touch_views U.view U.Key.bytes U.Value.bytes made.now))) }
 {
     let diff = diff_of_touches(alloc, base.size, made)?;
     let operations = twin_operations(alloc, made)?;
@@ -141,8 +149,12 @@ fn add_named<'a, K: ByteString, V>(
     keys: &mut Keys<'a>,
     one: &'a Decided<K, V>,
 ) -> Result<(), AllocError>
-    ensures has { OnOk result ((x : model.Bytes) → has_key keys.new x ≡ (has_key keys.old x || contains_key (option_to_list (option_map K.bytes one.now.next)) x)) }
-    ensures known { OnOk result (All (λ e. K.has e.0.now ≡ true) keys.old.entries → All (λ e. K.has e.0.now ≡ true) keys.new.entries) }
+    ensures has { OnOk result ((x : model.Bytes)
+        → has_key keys.new x
+        ≡ (has_key keys.old x || contains_key (option_to_list (option_map K.bytes one.now.next))
+        x)) }
+    ensures known { OnOk result (All (λ e. K.has e.0.now ≡ true) keys.old.entries
+        → All (λ e. K.has e.0.now ≡ true) keys.new.entries) }
 {
     match &one.next {
         Some(next) => { put(keys, next.as_bytes(), ()) }
@@ -155,7 +167,9 @@ fn all_named<'a, K: ByteString, V>(
     alloc: Global,
     decided: &'a [Decided<K, V>],
 ) -> Result<Keys<'a>, AllocError>
-    ensures has { IfOk result (λ keys. (x : model.Bytes) → has_key keys x ≡ contains_key (filter_map (λ d. option_map K.bytes d.next) decided.now) x) }
+    ensures has { IfOk result (λ keys. (x : model.Bytes)
+        → has_key keys x
+        ≡ contains_key (filter_map (λ d. option_map K.bytes d.next) decided.now) x) }
     ensures known { IfOk result (λ keys. All (λ e. K.has e.0.now ≡ true) keys.entries) }
 {
     let mut keys = BTreeMap::new(alloc);
@@ -167,8 +181,11 @@ fn all_named<'a, K: ByteString, V>(
 
 // Takes out a key that goes.
 fn drop_gone<K: ByteString, V>(keys: &mut Keys<'_>, one: &Decided<K, V>)
-    ensures has { (x : model.Bytes) → has_key keys.new x ≡ (has_key keys.old x && not (is_none one.now.value && bytes_eq (K.bytes one.now.key) x)) }
-    ensures known { All (λ e. K.has e.0.now ≡ true) keys.old.entries → All (λ e. K.has e.0.now ≡ true) keys.new.entries }
+    ensures has { (x : model.Bytes)
+        → has_key keys.new x
+        ≡ (has_key keys.old x && not (is_none one.now.value && bytes_eq (K.bytes one.now.key) x)) }
+    ensures known { All (λ e. K.has e.0.now ≡ true) keys.old.entries
+        → All (λ e. K.has e.0.now ≡ true) keys.new.entries }
 {
     if one.value.is_none() {
         keys.remove(one.key.as_bytes());
@@ -180,7 +197,10 @@ fn named<'a, K: ByteString, V>(
     alloc: Global,
     decided: &'a [Decided<K, V>],
 ) -> Result<Keys<'a>, AllocError>
-    ensures has { IfOk result (λ keys. (x : model.Bytes) → has_key keys x ≡ (contains_key (filter_map (λ d. option_map K.bytes d.next) decided.now) x && not (contains_key (map (λ d. K.bytes d.key) (filter (λ d. is_none d.value) decided.now)) x))) }
+    ensures has { IfOk result (λ keys. (x : model.Bytes)
+        → has_key keys x
+        ≡ (contains_key (filter_map (λ d. option_map K.bytes d.next) decided.now) x && not
+        (contains_key (map (λ d. K.bytes d.key) (filter (λ d. is_none d.value) decided.now)) x))) }
     ensures known { IfOk result (λ keys. All (λ e. K.has e.0.now ≡ true) keys.entries) }
 {
     let mut keys = all_named(alloc, decided)?;
@@ -195,8 +215,15 @@ fn by_key<'a, F, K: ByteString, V: ValueEncoding<K>>(
     alloc: Global,
     found: &'a [(Location<F>, Ordered<K, V>)],
 ) -> Result<FoundByKey<'a, F, K, V>, AllocError>
-    ensures has { IfOk result (λ all. (x : model.Bytes) → has_key all x ≡ contains_key (map (λ f. K.bytes f.1.key) found.now) x) }
-    ensures stand { IfOk result (λ all. (list : List model.Operation) → All (λ f. update_of list (K.bytes f.1.key) ≡ Some (read_view ⟦<Ordered<K, V> as Update>⟧.view f)) found.now → All (λ e. update_of list e.0.now ≡ Some (read_view ⟦<Ordered<K, V> as Update>⟧.view e.1.now)) all.entries) }
+    ensures has { IfOk result (λ all.
+        (x : model.Bytes) → has_key all x ≡ contains_key (map (λ f. K.bytes f.1.key) found.now) x) }
+    ensures stand { IfOk result (λ all. (list : List model.Operation)
+        → All (λ f.
+        update_of list (K.bytes f.1.key) ≡ Some (read_view ⟦<Ordered<K, V> as Update>⟧.view f))
+        found.now
+        → All (λ e.
+        update_of list e.0.now ≡ Some (read_view ⟦<Ordered<K, V> as Update>⟧.view e.1.now))
+        all.entries) }
 {
     let mut all = BTreeMap::new(alloc);
     for one in found {
@@ -211,8 +238,17 @@ fn undecided<'a, F, K: ByteString, V: ValueEncoding<K>>(
     found: &'a [(Location<F>, Ordered<K, V>)],
     decided: &[Decided<K, V::Value>],
 ) -> Result<FoundByKey<'a, F, K, V>, AllocError>
-    ensures has { IfOk result (λ all. (x : model.Bytes) → has_key all x ≡ (contains_key (map (λ f. K.bytes f.1.key) found.now) x && not (contains_key (map (λ d. K.bytes d.key) decided.now) x))) }
-    ensures stand { IfOk result (λ all. (list : List model.Operation) → All (λ f. update_of list (K.bytes f.1.key) ≡ Some (read_view ⟦<Ordered<K, V> as Update>⟧.view f)) found.now → All (λ e. update_of list e.0.now ≡ Some (read_view ⟦<Ordered<K, V> as Update>⟧.view e.1.now)) all.entries) }
+    ensures has { IfOk result (λ all. (x : model.Bytes)
+        → has_key all x
+        ≡ (contains_key (map (λ f. K.bytes f.1.key) found.now) x && not
+        (contains_key (map (λ d. K.bytes d.key) decided.now) x))) }
+    ensures stand { IfOk result (λ all. (list : List model.Operation)
+        → All (λ f.
+        update_of list (K.bytes f.1.key) ≡ Some (read_view ⟦<Ordered<K, V> as Update>⟧.view f))
+        found.now
+        → All (λ e.
+        update_of list e.0.now ≡ Some (read_view ⟦<Ordered<K, V> as Update>⟧.view e.1.now))
+        all.entries) }
 {
     let mut all = by_key(alloc, found)?;
     for one in decided {
@@ -229,7 +265,9 @@ fn relinked<'a, K: ByteString, V: ValueEncoding<K>>(
     value: &V::Value,
 ) -> Result<Option<Ordered<K, V>>, AllocError>
     requires { All (λ e. K.has e.0.now ≡ true) keys.now.entries }
-    ensures { IfOk result (λ update. option_map (ordered_update K.bytes V.Value.bytes) update ≡ update_naming (successor (map (λ e. e.0.now) keys.now.entries) (K.bytes key.now)) (K.bytes key.now) (Some (V.Value.bytes value.now))) }
+    ensures { IfOk result (λ update. option_map (ordered_update K.bytes V.Value.bytes) update
+        ≡ update_naming (successor (map (λ e. e.0.now) keys.now.entries) (K.bytes key.now))
+        (K.bytes key.now) (Some (V.Value.bytes value.now))) }
 {
     let Some(next) = key_behind(keys, key.as_bytes()) else {
         return Ok(None);
@@ -251,7 +289,9 @@ fn moved<'a, K: ByteString, V: ValueEncoding<K>>(
     one: &'a Decided<K, V::Value>,
 ) -> Result<Option<Ordered<K, V>>, AllocError>
     requires { All (λ e. K.has e.0.now ≡ true) keys.now.entries }
-    ensures { IfOk result (λ update. option_map (ordered_update K.bytes V.Value.bytes) update ≡ update_naming (successor (map (λ e. e.0.now) keys.now.entries) (K.bytes one.now.key)) (K.bytes one.now.key) (option_map V.Value.bytes one.now.value)) }
+    ensures { IfOk result (λ update. option_map (ordered_update K.bytes V.Value.bytes) update
+        ≡ update_naming (successor (map (λ e. e.0.now) keys.now.entries) (K.bytes one.now.key))
+        (K.bytes one.now.key) (option_map V.Value.bytes one.now.value)) }
 {
     match &one.value {
         Some(value) => relinked(alloc, keys, &one.key, value),
@@ -266,7 +306,9 @@ fn moved_touch<'a, F, K: ByteString, V: ValueEncoding<K>>(
     one: &'a Decided<K, V::Value>,
 ) -> Result<Touch<F, Ordered<K, V>>, AllocError>
     requires { All (λ e. K.has e.0.now ≡ true) keys.now.entries }
-    ensures { IfOk result (λ touch. ordered_touch K.bytes V.Value.bytes touch ≡ touch_naming (successor (map (λ e. e.0.now) keys.now.entries) (K.bytes one.now.key)) (decided_view K.bytes V.Value.bytes one.now)) }
+    ensures { IfOk result (λ touch. ordered_touch K.bytes V.Value.bytes touch
+        ≡ touch_naming (successor (map (λ e. e.0.now) keys.now.entries) (K.bytes one.now.key))
+        (decided_view K.bytes V.Value.bytes one.now)) }
 {
     let operation = match moved(alloc, keys, one)? {
         Some(update) => Operation::Update(update),
@@ -285,7 +327,9 @@ fn moved_touches<'a, F, K: ByteString, V: ValueEncoding<K>>(
     decided: &'a [Decided<K, V::Value>],
 ) -> Result<Vec<Touch<F, Ordered<K, V>>>, AllocError>
     requires { All (λ e. K.has e.0.now ≡ true) keys.now.entries }
-    ensures { IfOk result (λ touches. ordered_touches K.bytes V.Value.bytes touches.items ≡ map (λ d. touch_naming (successor (map (λ e. e.0.now) keys.now.entries) d.key) d) (decided_views K.bytes V.Value.bytes decided.now)) }
+    ensures { IfOk result (λ touches. ordered_touches K.bytes V.Value.bytes touches.items
+        ≡ map (λ d. touch_naming (successor (map (λ e. e.0.now) keys.now.entries) d.key) d)
+        (decided_views K.bytes V.Value.bytes decided.now)) }
 {
     let mut touches = Vec::with_capacity(alloc, decided.len())?;
     for one in decided {
@@ -296,7 +340,8 @@ fn moved_touches<'a, F, K: ByteString, V: ValueEncoding<K>>(
 
 // Where the key of the update at a location stood in a base list of this size, which these operations follow.
 fn place_before<F, U: Update>(size: u64, made: &[Touch<F, U>], at: u64) -> Option<u64>
-    ensures { result ≡ place_before size (touch_views U.view U.Key.bytes U.Value.bytes made.now) at }
+    ensures { result
+        ≡ place_before size (touch_views U.view U.Key.bytes U.Value.bytes made.now) at }
 {
     if at < size {
         return Some(at);
@@ -316,7 +361,11 @@ fn rewritten<'a, F, K: ByteString, V: ValueEncoding<K>>(
     found: &'a (Location<F>, Ordered<K, V>),
 ) -> Result<Option<Touch<F, Ordered<K, V>>>, AllocError>
     requires { All (λ e. K.has e.0.now ≡ true) keys.now.entries }
-    ensures { IfOk result (λ touch. option_map (ordered_touch K.bytes V.Value.bytes) touch ≡ rewritten_naming (successor (map (λ e. e.0.now) keys.now.entries) (K.bytes found.now.1.key)) (place_before size (ordered_touches K.bytes V.Value.bytes made.now) found.now.0) (K.bytes found.now.1.key) (V.Value.bytes found.now.1.value)) }
+    ensures { IfOk result (λ touch. option_map (ordered_touch K.bytes V.Value.bytes) touch
+        ≡ rewritten_naming
+        (successor (map (λ e. e.0.now) keys.now.entries) (K.bytes found.now.1.key))
+        (place_before size (ordered_touches K.bytes V.Value.bytes made.now) found.now.0)
+        (K.bytes found.now.1.key) (V.Value.bytes found.now.1.value)) }
 {
     match relinked(alloc, keys, &found.1.key, &found.1.value)? {
         Some(update) => Ok(Some(Touch {
@@ -337,9 +386,14 @@ fn add_rewritten<'a, F, K: ByteString, V: ValueEncoding<K>>(
     broken: &FoundByKey<'a, F, K, V>,
 ) -> Result<(), AllocError>
     requires { All (λ e. K.has e.0.now ≡ true) keys.now.entries }
-    ensures made { OnOk result (ordered_touches K.bytes V.Value.bytes touches.new.items ≡ ordered_touches K.bytes V.Value.bytes touches.old.items
-        ++ filter_map (λ e. rewritten_naming (successor (map (λ e. e.0.now) keys.now.entries) (K.bytes e.1.now.1.key)) (place_before size (ordered_touches K.bytes V.Value.bytes made.now) e.1.now.0) (K.bytes e.1.now.1.key) (V.Value.bytes e.1.now.1.value)) broken.now.entries) }
-    ensures ordered { IsStrictlySortedBy (λ x y. slice_cmp nat_cmp x.now y.now) (map (λ e. e.0) broken.now.entries) }
+    ensures made { OnOk result (ordered_touches K.bytes V.Value.bytes touches.new.items
+        ≡ ordered_touches K.bytes V.Value.bytes touches.old.items
+        ++ filter_map (λ e.
+        rewritten_naming (successor (map (λ e. e.0.now) keys.now.entries) (K.bytes e.1.now.1.key))
+        (place_before size (ordered_touches K.bytes V.Value.bytes made.now) e.1.now.0)
+        (K.bytes e.1.now.1.key) (V.Value.bytes e.1.now.1.value)) broken.now.entries) }
+    ensures ordered { IsStrictlySortedBy (λ x y. slice_cmp nat_cmp x.now y.now)
+        (map (λ e. e.0) broken.now.entries) }
 {
     for found in broken.values() {
         let touch = rewritten(alloc, keys, size, made, found)?;
@@ -358,11 +412,21 @@ fn linked_moves<'a, F, K: ByteString, V: ValueEncoding<K>>(
     found: &'a [(Location<F>, Ordered<K, V>)],
 ) -> Result<Vec<Touch<F, Ordered<K, V>>>, AllocError>
     ensures { IfOk result (λ touches. (list : List model.Operation) → size ≡ length list
-        → IsRing (list ++ operations_of (ordered_touches K.bytes V.Value.bytes made.now)) → All (IsFrom list) (ordered_touches K.bytes V.Value.bytes made.now)
-        → All (IsDecided list (list ++ operations_of (ordered_touches K.bytes V.Value.bytes made.now))) (decided_views K.bytes V.Value.bytes decided.now)
-        → IsDistinct bytes_eq (map (λ d. d.key) (map write_for (decided_views K.bytes V.Value.bytes decided.now)))
-        → map (read_view ⟦<Ordered<K, V> as Update>⟧.view) found.now ≡ filter_map (before_evicted (list ++ operations_of (ordered_touches K.bytes V.Value.bytes made.now))) (decided_views K.bytes V.Value.bytes decided.now)
-        → ordered_touches K.bytes V.Value.bytes touches.items ≡ map (touch_in list) (ordered.ordered_moves (list ++ operations_of (ordered_touches K.bytes V.Value.bytes made.now)) (map write_for (decided_views K.bytes V.Value.bytes decided.now)))) }
+        → IsRing (list ++ operations_of (ordered_touches K.bytes V.Value.bytes made.now))
+        → All (IsFrom list) (ordered_touches K.bytes V.Value.bytes made.now)
+        → All
+        (IsDecided list (list ++ operations_of (ordered_touches K.bytes V.Value.bytes made.now)))
+        (decided_views K.bytes V.Value.bytes decided.now)
+        → IsDistinct bytes_eq
+        (map (λ d. d.key) (map write_for (decided_views K.bytes V.Value.bytes decided.now)))
+        → map (read_view ⟦<Ordered<K, V> as Update>⟧.view) found.now
+        ≡ filter_map
+        (before_evicted (list ++ operations_of (ordered_touches K.bytes V.Value.bytes made.now)))
+        (decided_views K.bytes V.Value.bytes decided.now)
+        → ordered_touches K.bytes V.Value.bytes touches.items
+        ≡ map (touch_in list) (ordered.ordered_moves
+        (list ++ operations_of (ordered_touches K.bytes V.Value.bytes made.now))
+        (map write_for (decided_views K.bytes V.Value.bytes decided.now)))) }
 {
     let keys = named(alloc, decided)?;
     let broken = undecided(alloc, found, decided)?;
@@ -381,12 +445,22 @@ pub fn moved_behind<F, K: ByteString, V: ValueEncoding<K>>(
     found: &[(Location<F>, Ordered<K, V>)],
 ) -> Result<Vec<Touch<F, Ordered<K, V>>>, AllocError>
     ensures value { IfOk result (λ touches. (list : List model.Operation) → size ≡ length list
-        → IsRing (list ++ operations_of (ordered_touches K.bytes V.Value.bytes made.items)) → All (IsFrom list) (ordered_touches K.bytes V.Value.bytes made.items)
-        → All (IsDecided list (list ++ operations_of (ordered_touches K.bytes V.Value.bytes made.items))) (decided_views K.bytes V.Value.bytes decided.items)
-        → IsDistinct bytes_eq (map (λ d. d.key) (map write_for (decided_views K.bytes V.Value.bytes decided.items)))
-        → map (read_view ⟦<Ordered<K, V> as Update>⟧.view) found.now ≡ filter_map (before_evicted (list ++ operations_of (ordered_touches K.bytes V.Value.bytes made.items))) (decided_views K.bytes V.Value.bytes decided.items)
-        → ordered_touches K.bytes V.Value.bytes touches.items ≡ ordered_touches K.bytes V.Value.bytes made.items
-        ++ map (touch_in list) (ordered.ordered_moves (list ++ operations_of (ordered_touches K.bytes V.Value.bytes made.items)) (map write_for (decided_views K.bytes V.Value.bytes decided.items)))) }
+        → IsRing (list ++ operations_of (ordered_touches K.bytes V.Value.bytes made.items))
+        → All (IsFrom list) (ordered_touches K.bytes V.Value.bytes made.items)
+        → All
+        (IsDecided list (list ++ operations_of (ordered_touches K.bytes V.Value.bytes made.items)))
+        (decided_views K.bytes V.Value.bytes decided.items)
+        → IsDistinct bytes_eq
+        (map (λ d. d.key) (map write_for (decided_views K.bytes V.Value.bytes decided.items)))
+        → map (read_view ⟦<Ordered<K, V> as Update>⟧.view) found.now
+        ≡ filter_map
+        (before_evicted (list ++ operations_of (ordered_touches K.bytes V.Value.bytes made.items)))
+        (decided_views K.bytes V.Value.bytes decided.items)
+        → ordered_touches K.bytes V.Value.bytes touches.items
+        ≡ ordered_touches K.bytes V.Value.bytes made.items
+        ++ map (touch_in list) (ordered.ordered_moves
+        (list ++ operations_of (ordered_touches K.bytes V.Value.bytes made.items))
+        (map write_for (decided_views K.bytes V.Value.bytes decided.items)))) }
     ensures count { IfOk result (λ touches. length made.items ≤ length touches.items) }
 {
     if evicted(&decided) == 0 {

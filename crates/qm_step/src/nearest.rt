@@ -8,7 +8,8 @@ use std::ops::Bound;
 
 /// The key behind this one, or else the first of all.
 pub(crate) fn key_behind<'a, X>(keys: &BTreeMap<&'a [u8], X>, key: &'a [u8]) -> Option<&'a [u8]>
-    ensures { option_map (λ k. k.now) result ≡ successor (map (λ e. e.0.now) keys.now.entries) key.now }
+    ensures { option_map (λ k. k.now) result
+        ≡ successor (map (λ e. e.0.now) keys.now.entries) key.now }
 {
     match keys.range((Bound::Excluded(key), Bound::Unbounded)).next() {
         Some((behind, _)) => Some(*behind),
@@ -24,7 +25,9 @@ pub(crate) fn entry_before<'m, 'a, X>(
     entries: &'m BTreeMap<&'a [u8], X>,
     key: &'a [u8],
 ) -> Option<(&'a [u8], &'m X)>
-    ensures { MatchOption result (entries.now.entries ≡ []) (λ e. Contains entries.now.entries (e.0, e.1.now) × (predecessor (map (λ e. e.0.now) entries.now.entries) key.now ≡ Some e.0.now)) }
+    ensures { MatchOption result (entries.now.entries ≡ []) (λ e.
+        Contains entries.now.entries (e.0, e.1.now)
+        × (predecessor (map (λ e. e.0.now) entries.now.entries) key.now ≡ Some e.0.now)) }
 {
     match entries
         .range((Bound::Unbounded, Bound::Excluded(key)))

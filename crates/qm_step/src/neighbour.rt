@@ -22,7 +22,10 @@ pub struct Neighbour<'a, F, U: Update> {
 
 /// Whether the write creates its key, or deletes it.
 pub fn is_changed<K, V>(site: &Site<'_, K, V>) -> bool
-    ensures { (key : K → operations.Bytes) (value : V → operations.Bytes) (base : List operations.Operation) (w : model.Write) → linked_view key value site.now ≡ linked_in base w → result ≡ is_changed (live base) w }
+    ensures { (key : K → operations.Bytes) (value : V → operations.Bytes)
+        (base : List operations.Operation) (w : model.Write)
+        → linked_view key value site.now ≡ linked_in base w
+        → result ≡ is_changed (live base) w }
 {
     site.write.value.is_some() != site.stands.is_some()
 }

@@ -22,7 +22,8 @@ pub fn replaced_by<F, U: Update>(
     alloc: Global,
     touches: &[Touch<F, U>],
 ) -> Result<BTreeSet<u64>, AllocError>
-    ensures { IfOk result (λ replaced. AreReplaced replaced (touch_views U.view U.Key.bytes U.Value.bytes touches.now)) }
+    ensures { IfOk result (λ replaced.
+        AreReplaced replaced (touch_views U.view U.Key.bytes U.Value.bytes touches.now)) }
 {
     let mut replaced = BTreeSet::new(alloc);
     for touch in touches {

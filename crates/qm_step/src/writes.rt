@@ -54,8 +54,12 @@ fn add_write<'a, K: ByteString, V: ByteString>(
     key: &'a K,
     value: Option<&'a V>,
 ) -> Result<(), AllocError>
-    ensures { OnOk result ((ws : List model.Write) → map (last_view K.bytes V.bytes) last.old.entries ≡ map keyed (model.last_writes ws)
-        → map (last_view K.bytes V.bytes) last.new.entries ≡ map keyed (model.last_writes (ws ++ record { key = K.bytes key.now; value = option_map (λ v. V.bytes v.now) value.entry } ∷ []))) }
+    ensures { OnOk result ((ws : List model.Write)
+        → map (last_view K.bytes V.bytes) last.old.entries ≡ map keyed (model.last_writes ws)
+        → map (last_view K.bytes V.bytes) last.new.entries
+        ≡ map keyed (model.last_writes (ws
+        ++ record { key = K.bytes key.now; value = option_map (λ v. V.bytes v.now) value.entry }
+        ∷ []))) }
 {
     put(last, key.as_bytes(), LastWrite { key, value })
 }
@@ -65,8 +69,10 @@ fn add_writes<'a, K: ByteString, V: ByteString>(
     last: &mut Last<'a, K, V>,
     writes: &'a [Write<K, V>],
 ) -> Result<(), AllocError>
-    ensures { OnOk result ((ws : List model.Write) → map (last_view K.bytes V.bytes) last.old.entries ≡ map keyed (model.last_writes ws)
-        → map (last_view K.bytes V.bytes) last.new.entries ≡ map keyed (model.last_writes (ws ++ map (write_view K.bytes V.bytes) writes.now))) }
+    ensures { OnOk result ((ws : List model.Write)
+        → map (last_view K.bytes V.bytes) last.old.entries ≡ map keyed (model.last_writes ws)
+        → map (last_view K.bytes V.bytes) last.new.entries
+        ≡ map keyed (model.last_writes (ws ++ map (write_view K.bytes V.bytes) writes.now))) }
 {
     for write in writes {
         add_write(last, &write.key, write.value.as_ref())?;
@@ -80,8 +86,11 @@ fn add_slot<'a, K: ByteString, V: ByteString>(
     key: &'a K,
     slot: &'a Slot<V>,
 ) -> Result<(), AllocError>
-    ensures { OnOk result ((ws : List model.Write) → map (last_view K.bytes V.bytes) last.old.entries ≡ map keyed (model.last_writes ws)
-        → map (last_view K.bytes V.bytes) last.new.entries ≡ map keyed (model.last_writes (ws ++ option_to_list (write_in (K.bytes key.now, slot_view V.bytes slot.now))))) }
+    ensures { OnOk result ((ws : List model.Write)
+        → map (last_view K.bytes V.bytes) last.old.entries ≡ map keyed (model.last_writes ws)
+        → map (last_view K.bytes V.bytes) last.new.entries
+        ≡ map keyed (model.last_writes
+        (ws ++ option_to_list (write_in (K.bytes key.now, slot_view V.bytes slot.now))))) }
 {
     match slot {
         Slot::Keep => Ok(()),
@@ -96,8 +105,13 @@ fn add_slots<'a, F, U: Update>(
     reads: &'a [Read<F, U>],
     slots: &'a [Slot<U::Value>],
 ) -> Result<(), AllocError>
-    ensures { OnOk result ((ws : List model.Write) → map (last_view U.Key.bytes U.Value.bytes) last.old.entries ≡ map keyed (model.last_writes ws)
-        → map (last_view U.Key.bytes U.Value.bytes) last.new.entries ≡ map keyed (model.last_writes (ws ++ filter_map write_in (zip (keys_of U.Key.bytes reads.now) (slot_views U.Value.bytes slots.now))))) }
+    ensures { OnOk result ((ws : List model.Write)
+        → map (last_view U.Key.bytes U.Value.bytes) last.old.entries
+        ≡ map keyed (model.last_writes ws)
+        → map (last_view U.Key.bytes U.Value.bytes) last.new.entries
+        ≡ map keyed (model.last_writes (ws
+        ++ filter_map write_in
+        (zip (keys_of U.Key.bytes reads.now) (slot_views U.Value.bytes slots.now))))) }
 {
     for (read, slot) in reads.iter().zip(slots) {
         add_slot(last, &read.key, slot)?;
@@ -110,7 +124,8 @@ pub fn last_writes<'a, F, U: Update>(
     alloc: Global,
     wanted: &Wanted<'a, F, U>,
 ) -> Result<Last<'a, U::Key, U::Value>, AllocError>
-    ensures { IfOk result (λ last. map (last_view U.Key.bytes U.Value.bytes) last.entries ≡ map keyed (model.last_writes (wanted_view U.Key.bytes U.Value.bytes wanted.now))) }
+    ensures { IfOk result (λ last. map (last_view U.Key.bytes U.Value.bytes) last.entries
+        ≡ map keyed (model.last_writes (wanted_view U.Key.bytes U.Value.bytes wanted.now))) }
 {
     let mut last = BTreeMap::new(alloc);
     add_writes(&mut last, wanted.writes)?;
@@ -124,7 +139,8 @@ fn operation_of<F, K: ByteString, V: ValueEncoding<K>>(
     alloc: Global,
     write: &LastWrite<'_, K, V::Value>,
 ) -> Result<Operation<F, Unordered<K, V>>, AllocError>
-    ensures { IfOk result (λ operation. unordered_view K.bytes V.Value.bytes operation ≡ model.operation_of (last_write_view K.bytes V.Value.bytes write.now)) }
+    ensures { IfOk result (λ operation. unordered_view K.bytes V.Value.bytes operation
+        ≡ model.operation_of (last_write_view K.bytes V.Value.bytes write.now)) }
 {
     let key = write.key.twin(alloc)?;
     match write.value {
@@ -142,9 +158,13 @@ fn put_rewrite<F, K: ByteString, V: ValueEncoding<K>>(
     rewrites: &mut ByLocation<F, Unordered<K, V>>,
     site: &Site<'_, K, V::Value>,
 ) -> Result<(), AllocError>
-    ensures live { OnOk result ((at : ℕ) → (site_view K.bytes V.Value.bytes site.now).1 ≡ Some at → located_views (unordered_view K.bytes V.Value.bytes) rewrites.new.entries
-        ≡ insert_entry nat_cmp (located_views (unordered_view K.bytes V.Value.bytes) rewrites.old.entries) at (model.operation_of (last_write_view K.bytes V.Value.bytes site.now.write))) }
-    ensures other { OnOk result ((site_view K.bytes V.Value.bytes site.now).1 ≡ None → rewrites.new.entries ≡ rewrites.old.entries) }
+    ensures live { OnOk result ((at : ℕ) → (site_view K.bytes V.Value.bytes site.now).1 ≡ Some at
+        → located_views (unordered_view K.bytes V.Value.bytes) rewrites.new.entries
+        ≡ insert_entry nat_cmp
+        (located_views (unordered_view K.bytes V.Value.bytes) rewrites.old.entries) at
+        (model.operation_of (last_write_view K.bytes V.Value.bytes site.now.write))) }
+    ensures other { OnOk result ((site_view K.bytes V.Value.bytes site.now).1 ≡ None
+        → rewrites.new.entries ≡ rewrites.old.entries) }
 {
     match site.at() {
         Some(at) => {
@@ -160,8 +180,11 @@ fn by_location<F, K: ByteString, V: ValueEncoding<K>>(
     alloc: Global,
     sites: &[Site<'_, K, V::Value>],
 ) -> Result<ByLocation<F, Unordered<K, V>>, AllocError>
-    ensures { IfOk result (λ rewrites. (base : List operations.Operation) (ws : List model.Write) → map (site_view K.bytes V.Value.bytes) sites.now ≡ map (site_in base) (model.last_writes ws)
-        → located_views (unordered_view K.bytes V.Value.bytes) rewrites.entries ≡ filter_map (rewrite_here (model.last_writes ws)) (live base)) }
+    ensures { IfOk result (λ rewrites. (base : List operations.Operation) (ws : List model.Write)
+        → map (site_view K.bytes V.Value.bytes) sites.now
+        ≡ map (site_in base) (model.last_writes ws)
+        → located_views (unordered_view K.bytes V.Value.bytes) rewrites.entries
+        ≡ filter_map (rewrite_here (model.last_writes ws)) (live base)) }
 {
     let mut rewrites = BTreeMap::new(alloc);
     for site in sites {
@@ -175,7 +198,8 @@ fn moved_touches<F, K: ByteString, V: ValueEncoding<K>>(
     alloc: Global,
     rewrites: ByLocation<F, Unordered<K, V>>,
 ) -> Result<Vec<Touch<F, Unordered<K, V>>>, AllocError>
-    ensures { IfOk result (λ touches. unordered_touches K.bytes V.Value.bytes touches.items ≡ map (λ e. moved_touch (e.0, unordered_view K.bytes V.Value.bytes e.1)) rewrites.entries) }
+    ensures { IfOk result (λ touches. unordered_touches K.bytes V.Value.bytes touches.items
+        ≡ map (λ e. moved_touch (e.0, unordered_view K.bytes V.Value.bytes e.1)) rewrites.entries) }
 {
     let mut touches = Vec::with_capacity(alloc, rewrites.len())?;
     for (at, operation) in rewrites {
@@ -192,8 +216,10 @@ fn create_of<F, K: ByteString, V: ValueEncoding<K>>(
     alloc: Global,
     site: &Site<'_, K, V::Value>,
 ) -> Result<Option<Touch<F, Unordered<K, V>>>, AllocError>
-    ensures { IfOk result (λ made. (base : List operations.Operation) (w : model.Write) → site_view K.bytes V.Value.bytes site.now ≡ site_in base w
-        → option_map (unordered_touch K.bytes V.Value.bytes) made ≡ option_map new_touch (model.create_of (live base) w)) }
+    ensures { IfOk result (λ made. (base : List operations.Operation) (w : model.Write)
+        → site_view K.bytes V.Value.bytes site.now ≡ site_in base w
+        → option_map (unordered_touch K.bytes V.Value.bytes) made
+        ≡ option_map new_touch (model.create_of (live base) w)) }
 {
     if site.at().is_some() {
         return Ok(None);
@@ -227,8 +253,11 @@ fn add_creates<F, K: ByteString, V: ValueEncoding<K>>(
     touches: &mut Vec<Touch<F, Unordered<K, V>>>,
     sites: &[Site<'_, K, V::Value>],
 ) -> Result<(), AllocError>
-    ensures { OnOk result ((base : List operations.Operation) (ws : List model.Write) → map (site_view K.bytes V.Value.bytes) sites.now ≡ map (site_in base) ws
-        → unordered_touches K.bytes V.Value.bytes touches.new.items ≡ unordered_touches K.bytes V.Value.bytes touches.old.items ++ map new_touch (filter_map (model.create_of (live base)) ws)) }
+    ensures { OnOk result ((base : List operations.Operation) (ws : List model.Write)
+        → map (site_view K.bytes V.Value.bytes) sites.now ≡ map (site_in base) ws
+        → unordered_touches K.bytes V.Value.bytes touches.new.items
+        ≡ unordered_touches K.bytes V.Value.bytes touches.old.items
+        ++ map new_touch (filter_map (model.create_of (live base)) ws)) }
 {
     for site in sites {
         let touch = create_of(alloc, site)?;
@@ -242,8 +271,11 @@ pub fn written<F, K: ByteString, V: ValueEncoding<K>>(
     alloc: Global,
     sites: &[Site<'_, K, V::Value>],
 ) -> Result<Vec<Touch<F, Unordered<K, V>>>, AllocError>
-    ensures { IfOk result (λ touches. (base : List operations.Operation) (ws : List model.Write) → map (site_view K.bytes V.Value.bytes) sites.now ≡ map (site_in base) (model.last_writes ws)
-        → unordered_touches K.bytes V.Value.bytes touches.items ≡ written_touches base (model.last_writes ws)) }
+    ensures { IfOk result (λ touches. (base : List operations.Operation) (ws : List model.Write)
+        → map (site_view K.bytes V.Value.bytes) sites.now
+        ≡ map (site_in base) (model.last_writes ws)
+        → unordered_touches K.bytes V.Value.bytes touches.items
+        ≡ written_touches base (model.last_writes ws)) }
 {
     let rewrites = by_location(alloc, sites)?;
     let mut touches = moved_touches(alloc, rewrites)?;

@@ -71,15 +71,25 @@ impl<F: Family, D: Digest> KeptTree<F, D> {
         boundary: u64,
     ) -> Result<(KeptTree<F, D>, D), AllocError>
         requires room { self.now.leaves + length items.now ≤ 2 ^ 62 }
-        requires peaks { inactive ≤ length (trees.peaks F.shape (self.now.leaves + length items.now)) }
+        requires peaks { inactive
+            ≤ length (trees.peaks F.shape (self.now.leaves + length items.now)) }
         requires reach { Contains (stops self.now.leaves self.now.layers) log.old.tree.leaves }
         requires boundary { boundary ≤ log.old.tree.leaves }
-        ensures leaves { IfOk result (λ grown. grown.0.leaves ≡ self.now.leaves + length items.now) }
-        ensures stops { IfOk result (λ grown. stops grown.0.leaves grown.0.layers ≡ grown.0.leaves ∷ stops_since boundary (stops self.now.leaves self.now.layers)) }
-        ensures tree { (list base : List (List ℕ)) (older : List (List (List ℕ))) → IsLog C.Store F.shape D.bytes H.hash log.old list → IsKeptTree D.bytes H.hash F.shape self.now base older → Contains (base ∷ older) list
-            → IfOk result (λ grown. IsKeptTree D.bytes H.hash F.shape grown.0 (base ++ map (λ v. v.items) items.now) (lists_since boundary (base ∷ older))) }
-        ensures root { (list base : List (List ℕ)) (older : List (List (List ℕ))) → IsLog C.Store F.shape D.bytes H.hash log.old list → IsKeptTree D.bytes H.hash F.shape self.now base older → Contains (base ∷ older) list
-            → IfOk result (λ grown. D.bytes grown.1 ≡ trees.root H.hash F.shape (leaves_of H.hash F.shape (base ++ map (λ v. v.items) items.now)) inactive) }
+        ensures leaves { IfOk result (λ grown.
+            grown.0.leaves ≡ self.now.leaves + length items.now) }
+        ensures stops { IfOk result (λ grown. stops grown.0.leaves grown.0.layers
+            ≡ grown.0.leaves ∷ stops_since boundary (stops self.now.leaves self.now.layers)) }
+        ensures tree { (list base : List (List ℕ)) (older : List (List (List ℕ)))
+            → IsLog C.Store F.shape D.bytes H.hash log.old list
+            → IsKeptTree D.bytes H.hash F.shape self.now base older → Contains (base ∷ older) list
+            → IfOk result (λ grown. IsKeptTree D.bytes H.hash F.shape grown.0
+            (base ++ map (λ v. v.items) items.now) (lists_since boundary (base ∷ older))) }
+        ensures root { (list base : List (List ℕ)) (older : List (List (List ℕ)))
+            → IsLog C.Store F.shape D.bytes H.hash log.old list
+            → IsKeptTree D.bytes H.hash F.shape self.now base older → Contains (base ∷ older) list
+            → IfOk result (λ grown. D.bytes grown.1
+            ≡ trees.root H.hash F.shape
+            (leaves_of H.hash F.shape (base ++ map (λ v. v.items) items.now)) inactive) }
         ensures same { log.new ≡ log.old }
     {
         let leaves = self.leaves + items.len() as u64;
@@ -103,12 +113,21 @@ impl<F: Family, D: Digest> KeptTree<F, D> {
         requires room { self.now.leaves + length items.now ≤ 2 ^ 62 }
         requires reach { Contains (stops self.now.leaves self.now.layers) log.old.tree.leaves }
         requires boundary { boundary ≤ log.old.tree.leaves }
-        ensures history { (list base : List (List ℕ)) (lists : List (List (List ℕ))) → IsLog C.Store F.shape D.bytes H.hash log.old list
-            → IsHistory F.shape D.bytes H.hash self.now.layers (digests_from H.hash F.shape 0 base ∷ lists) → Contains (digests_from H.hash F.shape 0 base ∷ lists) (digests_from H.hash F.shape 0 list)
-            → IfOk result (λ b. IsHistory F.shape D.bytes H.hash (all_layers b) (digests_from H.hash F.shape 0 (base ++ map (λ v. v.items) items.now) ∷ lists_since boundary (digests_from H.hash F.shape 0 base ∷ lists))) }
-        ensures leaves { IfOk result (λ b. b.newest.tree.leaves ≡ self.now.leaves + length items.now) }
-        ensures adding { All (IsAdding F.shape) self.now.layers → IfOk result (λ b. All (IsAdding F.shape) (all_layers b)) }
-        ensures stops { IfOk result (λ b. stops b.newest.tree.leaves (all_layers b) ≡ b.newest.tree.leaves ∷ stops_since boundary (stops self.now.leaves self.now.layers)) }
+        ensures history { (list base : List (List ℕ)) (lists : List (List (List ℕ)))
+            → IsLog C.Store F.shape D.bytes H.hash log.old list
+            → IsHistory F.shape D.bytes H.hash self.now.layers
+            (digests_from H.hash F.shape 0 base ∷ lists)
+            → Contains (digests_from H.hash F.shape 0 base ∷ lists)
+            (digests_from H.hash F.shape 0 list)
+            → IfOk result (λ b. IsHistory F.shape D.bytes H.hash (all_layers b)
+            (digests_from H.hash F.shape 0 (base ++ map (λ v. v.items) items.now)
+            ∷ lists_since boundary (digests_from H.hash F.shape 0 base ∷ lists))) }
+        ensures leaves { IfOk result (λ b.
+            b.newest.tree.leaves ≡ self.now.leaves + length items.now) }
+        ensures adding { All (IsAdding F.shape) self.now.layers
+            → IfOk result (λ b. All (IsAdding F.shape) (all_layers b)) }
+        ensures stops { IfOk result (λ b. stops b.newest.tree.leaves (all_layers b)
+            ≡ b.newest.tree.leaves ∷ stops_since boundary (stops self.now.leaves self.now.layers)) }
         ensures same { log.new ≡ log.old }
     {
         match &self.batch {
@@ -130,11 +149,20 @@ impl<F: Family, D: Digest> KeptTree<F, D> {
         requires within { end ≤ self.now.leaves }
         requires inactive { inactive ≤ length (trees.peaks F.shape self.now.leaves) }
         requires reach { Contains (stops self.now.leaves self.now.layers) log.now.tree.leaves }
-        ensures value { (list tip : List (List ℕ)) (older : List (List (List ℕ))) → IsLog C.Store F.shape D.bytes H.hash log.now list → IsKeptTree D.bytes H.hash F.shape self.now tip older → Contains (tip ∷ older) list
-            → IfOk result (λ p. proof_view D.bytes p ≡ proof_of H.hash F.shape (leaves_of H.hash F.shape tip) inactive start end) }
-        ensures held { OnOk result (first_lacked (held_at F.shape self.now log.now.tree) (needed_positions F.shape self.now.leaves start end) ≡ None) }
-        ensures cause { IfErr result (IsLacked (held_at F.shape self.now log.now.tree) (needed_positions F.shape self.now.leaves start end)) }
-        ensures whole { log.now.tree.start ≤ start → (list tip : List (List ℕ)) (older : List (List (List ℕ))) → IsLog C.Store F.shape D.bytes H.hash log.now list → IsKeptTree D.bytes H.hash F.shape self.now tip older → Contains (tip ∷ older) list
+        ensures value { (list tip : List (List ℕ)) (older : List (List (List ℕ)))
+            → IsLog C.Store F.shape D.bytes H.hash log.now list
+            → IsKeptTree D.bytes H.hash F.shape self.now tip older → Contains (tip ∷ older) list
+            → IfOk result (λ p. proof_view D.bytes p
+            ≡ proof_of H.hash F.shape (leaves_of H.hash F.shape tip) inactive start end) }
+        ensures held { OnOk result (first_lacked (held_at F.shape self.now log.now.tree)
+            (needed_positions F.shape self.now.leaves start end)
+            ≡ None) }
+        ensures cause { IfErr result (IsLacked (held_at F.shape self.now log.now.tree)
+            (needed_positions F.shape self.now.leaves start end)) }
+        ensures whole { log.now.tree.start ≤ start
+            → (list tip : List (List ℕ)) (older : List (List (List ℕ)))
+            → IsLog C.Store F.shape D.bytes H.hash log.now list
+            → IsKeptTree D.bytes H.hash F.shape self.now tip older → Contains (tip ∷ older) list
             → IfErr result (λ e. e ≡ Error.Memory) }
     {
         match &self.batch {
@@ -152,11 +180,21 @@ impl<F: Family, D: Digest> KeptTree<F, D> {
     ) -> Result<Vec<D>, Error>
         requires count { count ≤ self.now.leaves }
         requires reach { Contains (stops self.now.leaves self.now.layers) log.now.tree.leaves }
-        ensures value { (list tip : List (List ℕ)) (older : List (List (List ℕ))) → IsLog C.Store F.shape D.bytes H.hash log.now list → IsKeptTree D.bytes H.hash F.shape self.now tip older → Contains (tip ∷ older) list
-            → IfOk result (λ pins. map D.bytes pins.items ≡ map (trees.digest_of H.hash F.shape (leaves_of H.hash F.shape tip)) (trees.peaks F.shape count)) }
-        ensures held { OnOk result (first_lacked (held_at F.shape self.now log.now.tree) (trees.peak_positions F.shape count) ≡ None) }
-        ensures cause { IfErr result (IsLacked (held_at F.shape self.now log.now.tree) (trees.peak_positions F.shape count)) }
-        ensures whole { log.now.tree.start ≤ count → (list tip : List (List ℕ)) (older : List (List (List ℕ))) → IsLog C.Store F.shape D.bytes H.hash log.now list → IsKeptTree D.bytes H.hash F.shape self.now tip older → Contains (tip ∷ older) list
+        ensures value { (list tip : List (List ℕ)) (older : List (List (List ℕ)))
+            → IsLog C.Store F.shape D.bytes H.hash log.now list
+            → IsKeptTree D.bytes H.hash F.shape self.now tip older → Contains (tip ∷ older) list
+            → IfOk result (λ pins. map D.bytes pins.items
+            ≡ map (trees.digest_of H.hash F.shape (leaves_of H.hash F.shape tip))
+            (trees.peaks F.shape count)) }
+        ensures held { OnOk result (first_lacked (held_at F.shape self.now log.now.tree)
+            (trees.peak_positions F.shape count)
+            ≡ None) }
+        ensures cause { IfErr result (IsLacked (held_at F.shape self.now log.now.tree)
+            (trees.peak_positions F.shape count)) }
+        ensures whole { log.now.tree.start ≤ count
+            → (list tip : List (List ℕ)) (older : List (List (List ℕ)))
+            → IsLog C.Store F.shape D.bytes H.hash log.now list
+            → IsKeptTree D.bytes H.hash F.shape self.now tip older → Contains (tip ∷ older) list
             → IfErr result (λ e. e ≡ Error.Memory) }
     {
         match &self.batch {
@@ -168,10 +206,17 @@ impl<F: Family, D: Digest> KeptTree<F, D> {
     /// The digest of the node at this position, if the tree has it of its own: it has the nodes that its lists came to have
     /// behind the oldest of them.
     pub fn get_node(&self, position: Position<F>) -> Option<D>
-        ensures held { (boundary : ℕ) → All (IsAdding F.shape) self.now.layers → Contains (stops self.now.leaves self.now.layers) boundary → All (λ n. boundary ≤ n) (stops self.now.leaves self.now.layers)
-            → (IsSome result ↔ ((trees.Shape.size F.shape boundary ≤ position) × (position < trees.Shape.size F.shape self.now.leaves))) }
-        ensures value { (hash : List ℕ → List ℕ) (tip : List (List ℕ)) (older : List (List (List ℕ))) → IsKeptTree D.bytes hash F.shape self.now tip older
-            → (x : trees.Node) → trees.Shape.position F.shape x ≡ position → IfSome result (λ d. D.bytes d ≡ trees.digest_of hash F.shape (leaves_of hash F.shape tip) x) }
+        ensures held { (boundary : ℕ) → All (IsAdding F.shape) self.now.layers
+            → Contains (stops self.now.leaves self.now.layers) boundary
+            → All (λ n. boundary ≤ n) (stops self.now.leaves self.now.layers)
+            → (IsSome result
+            ↔ ((trees.Shape.size F.shape boundary ≤ position)
+            × (position < trees.Shape.size F.shape self.now.leaves))) }
+        ensures value { (hash : List ℕ → List ℕ) (tip : List (List ℕ))
+            (older : List (List (List ℕ))) → IsKeptTree D.bytes hash F.shape self.now tip older
+            → (x : trees.Node) → trees.Shape.position F.shape x ≡ position
+            → IfSome result (λ d.
+            D.bytes d ≡ trees.digest_of hash F.shape (leaves_of hash F.shape tip) x) }
     {
         match &self.batch {
             Some(batch) => batch.find_node(position),
@@ -185,7 +230,10 @@ impl<F: Family, D: Digest> KeptTree<F, D> {
         ensures start { OnOk result (tree.new.start ≡ tree.old.start) }
         ensures leaves { OnOk result (tree.new.leaves ≡ self.now.leaves) }
         ensures few { OnOk result (tree.new.leaves ≤ 2 ^ 62) }
-        ensures stands { (hash : List ℕ → List ℕ) (list new : List (List ℕ)) (lists : List (List (List ℕ))) → IsHistory F.shape D.bytes hash self.now.layers (new ∷ lists) → Contains (new ∷ lists) list → Stands F.shape D.bytes hash tree.old list
+        ensures stands { (hash : List ℕ → List ℕ) (list new : List (List ℕ))
+            (lists : List (List (List ℕ)))
+            → IsHistory F.shape D.bytes hash self.now.layers (new ∷ lists)
+            → Contains (new ∷ lists) list → Stands F.shape D.bytes hash tree.old list
             → OnOk result (Stands F.shape D.bytes hash tree.new new) }
         ensures err { OnErr result (tree.new ≡ tree.old) }
     {

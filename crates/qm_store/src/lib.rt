@@ -108,7 +108,8 @@ pub trait Store {
         ensures ends { result.1 ≡ end self.now }
         ensures order { result.0 ≤ result.1 }
         ensures limit { result.1 ≤ 2 ^ 62 }
-        ensures stable { IfSome (told self.now) (λ s. (s.start ≤ s.stable) × (s.stable ≤ end_of s)) };
+        ensures stable { IfSome (told self.now) (λ s.
+            (s.start ≤ s.stable) × (s.stable ≤ end_of s)) };
 
     /// How often it has failed.
     fn faults(&self) -> u64
@@ -118,11 +119,13 @@ pub trait Store {
     fn read(&mut self, at: u64) -> Result<Vec<u8>, StoreError>
         requires from { start self.old ≤ at }
         requires before { at < end self.old }
-        ensures item { IfOk result (λ v. IfSome (told self.old) (λ s. slice_get s.items (at - s.start) ≡ Some v.items)) }
+        ensures item { IfOk result (λ v.
+            IfSome (told self.old) (λ s. slice_get s.items (at - s.start) ≡ Some v.items)) }
         ensures same_start { start self.new ≡ start self.old }
         ensures same_end { end self.new ≡ end self.old }
         ensures same { told self.new ≡ told self.old }
-        ensures cause { IsCause (faults self.old) (faults self.new) (IsErrOf result StoreError.Failed) };
+        ensures cause { IsCause (faults self.old) (faults self.new)
+            (IsErrOf result StoreError.Failed) };
 
     /// The digests of the peaks at the start, one after another. At start 0 there are none, and yet no law says that the head
     /// is empty there, since what a store keeps may be damaged: who opens a log checks the head's length.
@@ -131,44 +134,54 @@ pub trait Store {
         ensures same_start { start self.new ≡ start self.old }
         ensures same_end { end self.new ≡ end self.old }
         ensures same { told self.new ≡ told self.old }
-        ensures cause { IsCause (faults self.old) (faults self.new) (IsErrOf result StoreError.Failed) };
+        ensures cause { IsCause (faults self.old) (faults self.new)
+            (IsErrOf result StoreError.Failed) };
 
     /// The metadata of a name, none where none was put.
     fn meta(&mut self, name: &str) -> Result<Vec<MetaEntry>, StoreError>
-        ensures value { IfOk result (λ v. IfSome (told self.old) (λ s. v.items ≡ metadata_in s.metadata name.now)) }
+        ensures value { IfOk result (λ v.
+            IfSome (told self.old) (λ s. v.items ≡ metadata_in s.metadata name.now)) }
         ensures same_start { start self.new ≡ start self.old }
         ensures same_end { end self.new ≡ end self.old }
         ensures same { told self.new ≡ told self.old }
-        ensures cause { IsCause (faults self.old) (faults self.new) (IsErrOf result StoreError.Failed) };
+        ensures cause { IsCause (faults self.old) (faults self.new)
+            (IsErrOf result StoreError.Failed) };
 
     /// Puts these behind the last item. After an error a first part of them may be there.
     fn append(&mut self, added: &[Vec<u8>]) -> Result<(), StoreError>
         requires room { end self.old + length added.now ≤ 2 ^ 62 }
-        ensures ok { OnOk result (Becomes (told self.old) (told self.new) (appended (map (λ v. v.items) added.now))) }
+        ensures ok { OnOk result
+            (Becomes (told self.old) (told self.new) (appended (map (λ v. v.items) added.now))) }
         ensures ok_end { OnOk result (end self.new ≡ end self.old + length added.now) }
-        ensures err { OnErr result (Grows (told self.old) (told self.new) (map (λ v. v.items) added.now)) }
+        ensures err { OnErr result
+            (Grows (told self.old) (told self.new) (map (λ v. v.items) added.now)) }
         ensures same_start { start self.new ≡ start self.old }
         ensures grows { end self.old ≤ end self.new }
         ensures within { end self.new ≤ end self.old + length added.now }
-        ensures cause { IsCause (faults self.old) (faults self.new) (IsErrOf result StoreError.Failed) };
+        ensures cause { IsCause (faults self.old) (faults self.new)
+            (IsErrOf result StoreError.Failed) };
 
     /// Makes the items stable: from then on a crash leaves them all.
     fn commit(&mut self) -> Result<(), StoreError>
         ensures ok { OnOk result (Becomes (told self.old) (told self.new) settled) }
         ensures ok_end { OnOk result (end self.new ≡ end self.old) }
-        ensures err { OnErr result (Leaves (told self.old) (told self.new) (λ s. ReadsAs s.stable (IsImage s))) }
+        ensures err { OnErr result
+            (Leaves (told self.old) (told self.new) (λ s. ReadsAs s.stable (IsImage s))) }
         ensures same_start { start self.new ≡ start self.old }
         ensures within { end self.new ≤ end self.old }
-        ensures cause { IsCause (faults self.old) (faults self.new) (IsErrOf result StoreError.Failed) };
+        ensures cause { IsCause (faults self.old) (faults self.new)
+            (IsErrOf result StoreError.Failed) };
 
     /// Makes all that it holds stable. What is told of it is what is told of `commit`.
     fn sync(&mut self) -> Result<(), StoreError>
         ensures ok { OnOk result (Becomes (told self.old) (told self.new) settled) }
         ensures ok_end { OnOk result (end self.new ≡ end self.old) }
-        ensures err { OnErr result (Leaves (told self.old) (told self.new) (λ s. ReadsAs s.stable (IsImage s))) }
+        ensures err { OnErr result
+            (Leaves (told self.old) (told self.new) (λ s. ReadsAs s.stable (IsImage s))) }
         ensures same_start { start self.new ≡ start self.old }
         ensures within { end self.new ≤ end self.old }
-        ensures cause { IsCause (faults self.old) (faults self.new) (IsErrOf result StoreError.Failed) };
+        ensures cause { IsCause (faults self.old) (faults self.new)
+            (IsErrOf result StoreError.Failed) };
 
     /// Takes the items from this location on away.
     fn rewind(&mut self, to: u64) -> Result<(), StoreError>
@@ -176,10 +189,12 @@ pub trait Store {
         requires before { to ≤ end self.old }
         ensures ok { OnOk result (Becomes (told self.old) (told self.new) (rewound to)) }
         ensures ok_end { OnOk result (end self.new ≡ to) }
-        ensures err { OnErr result (Leaves (told self.old) (told self.new) (λ s. ReadsAs (min s.stable to) (RewindLeaves to s))) }
+        ensures err { OnErr result (Leaves (told self.old) (told self.new) (λ s.
+            ReadsAs (min s.stable to) (RewindLeaves to s))) }
         ensures same_start { start self.new ≡ start self.old }
         ensures within { end self.new ≤ end self.old }
-        ensures cause { IsCause (faults self.old) (faults self.new) (IsErrOf result StoreError.Failed) };
+        ensures cause { IsCause (faults self.old) (faults self.new)
+            (IsErrOf result StoreError.Failed) };
 
     /// Takes the items before this location away, and replaces the head.
     fn prune(&mut self, to: u64, head: &[u8]) -> Result<(), StoreError>
@@ -189,27 +204,34 @@ pub trait Store {
         ensures ok { OnOk result (Becomes (told self.old) (told self.new) (pruned to head.now)) }
         ensures ok_start { OnOk result (start self.new ≡ to) }
         ensures ok_end { OnOk result (end self.new ≡ end self.old) }
-        ensures err { OnErr result (Leaves (told self.old) (told self.new) (λ s. ReadsAs s.stable (IsOldOrNew (pruned to head.now) s))) }
+        ensures err { OnErr result (Leaves (told self.old) (told self.new) (λ s.
+            ReadsAs s.stable (IsOldOrNew (pruned to head.now) s))) }
         ensures within { end self.new ≤ end self.old }
-        ensures cause { IsCause (faults self.old) (faults self.new) (IsErrOf result StoreError.Failed) };
+        ensures cause { IsCause (faults self.old) (faults self.new)
+            (IsErrOf result StoreError.Failed) };
 
     /// Replaces the metadata of a name, whole.
     fn put_meta(&mut self, name: &str, entries: &[MetaEntry]) -> Result<(), StoreError>
-        ensures ok { OnOk result (Becomes (told self.old) (told self.new) (with_metadata name.now entries.now)) }
+        ensures ok { OnOk result
+            (Becomes (told self.old) (told self.new) (with_metadata name.now entries.now)) }
         ensures ok_end { OnOk result (end self.new ≡ end self.old) }
-        ensures err { OnErr result (Leaves (told self.old) (told self.new) (λ s. ReadsAs s.stable (IsOldOrNew (with_metadata name.now entries.now) s))) }
+        ensures err { OnErr result (Leaves (told self.old) (told self.new) (λ s.
+            ReadsAs s.stable (IsOldOrNew (with_metadata name.now entries.now) s))) }
         ensures same_start { start self.new ≡ start self.old }
         ensures within { end self.new ≤ end self.old }
-        ensures cause { IsCause (faults self.old) (faults self.new) (IsErrOf result StoreError.Failed) };
+        ensures cause { IsCause (faults self.old) (faults self.new)
+            (IsErrOf result StoreError.Failed) };
 
     /// A crash, and the start after it: the end becomes a location from the stable length to the old end, and all is stable.
     /// The store is asked to keep the items up to `keep`, and tells the end that it chose.
     fn restart(&mut self, keep: u64) -> Result<(), StoreError>
         ensures ok { OnOk result (Turns (told self.old) (told self.new) HasRestarted) }
-        ensures err { OnErr result (Leaves (told self.old) (told self.new) (λ s. ReadsAs s.stable (IsImage s))) }
+        ensures err { OnErr result
+            (Leaves (told self.old) (told self.new) (λ s. ReadsAs s.stable (IsImage s))) }
         ensures same_start { start self.new ≡ start self.old }
         ensures within { end self.new ≤ end self.old }
-        ensures cause { IsCause (faults self.old) (faults self.new) (IsErrOf result StoreError.Failed) };
+        ensures cause { IsCause (faults self.old) (faults self.new)
+            (IsErrOf result StoreError.Failed) };
 
     /// Empties the store: start 0, no items, no head, no metadata. Only the ends that its restarts chose stay told.
     fn destroy(&mut self) -> Result<(), StoreError>
@@ -218,7 +240,8 @@ pub trait Store {
         ensures ok_end { OnOk result (end self.new ≡ 0) }
         ensures err { OnErr result (Leaves (told self.old) (told self.new) DestroyLeaves) }
         ensures within { end self.new ≤ end self.old }
-        ensures cause { IsCause (faults self.old) (faults self.new) (IsErrOf result StoreError.Failed) };
+        ensures cause { IsCause (faults self.old) (faults self.new)
+            (IsErrOf result StoreError.Failed) };
 
     /// The start is not behind the end.
     ghost ordered: { (s : Self) → start s ≤ end s };

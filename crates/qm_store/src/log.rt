@@ -78,16 +78,26 @@ impl<F: Family, C: Store, H: Hasher + Drop> AuthLog<F, C, H> {
     pub fn open(alloc: Global, store: C, hasher: H, size: u64) -> Result<Self, LogRefusal<Self, C>>
         requires start { C.start store ≤ size }
         requires end { size ≤ C.end store }
-        ensures stands { (list : List (List ℕ)) → length list ≡ size → IfSome (C.told store) (λ held.
-            take (size - C.start store) held.items ≡ drop (C.start store) list → IsHead F.shape H.Digest.bytes H.hash (C.start store) (digests_from H.hash F.shape 0 list) held.head
+        ensures stands { (list : List (List ℕ)) → length list ≡ size
+            → IfSome (C.told store) (λ held.
+            take (size - C.start store) held.items ≡ drop (C.start store) list
+            → IsHead F.shape H.Digest.bytes H.hash (C.start store)
+            (digests_from H.hash F.shape 0 list) held.head
             → IfOk result (λ log. IsLog C.Store F.shape H.Digest.bytes H.hash log list)) }
         ensures start { IfOk result (λ log. log.tree.start ≡ C.start store) }
         ensures size { IfOk result (λ log. log.tree.leaves ≡ size) }
         ensures kept { IfOk result (λ log. IsKept C.Store store log.store) }
-        ensures back { IfErr result (λ r. (s : C) × (r.given ≡ LogGiven.Store s) × IsKept C.Store store s × IsCause (C.faults store) (C.faults s) (r.error ≡ Error.Journal JournalError.Store)) }
-        ensures long { IfOk result (λ _. IfSome (C.told store) (λ held. length held.head ≡ length (trees.peaks F.shape (C.start store)) * H.Digest.SIZE)) }
-        ensures head { IfErr result (λ r. r.error ≡ Error.DataCorrupted Corrupt.HeadDoesNotMatch → IfSome (C.told store) (λ held. length held.head ≢ length (trees.peaks F.shape (C.start store)) * H.Digest.SIZE)) }
-        ensures never { IfErr result (λ r. (r.error ≡ Error.Memory) ⊎ ((r.error ≡ Error.Journal JournalError.Store) ⊎ (r.error ≡ Error.DataCorrupted Corrupt.HeadDoesNotMatch))) }
+        ensures back { IfErr result (λ r.
+            (s : C) × (r.given ≡ LogGiven.Store s) × IsKept C.Store store s
+            × IsCause (C.faults store) (C.faults s) (r.error ≡ Error.Journal JournalError.Store)) }
+        ensures long { IfOk result (λ _. IfSome (C.told store) (λ held.
+            length held.head ≡ length (trees.peaks F.shape (C.start store)) * H.Digest.SIZE)) }
+        ensures head { IfErr result (λ r. r.error ≡ Error.DataCorrupted Corrupt.HeadDoesNotMatch
+            → IfSome (C.told store) (λ held.
+            length held.head ≢ length (trees.peaks F.shape (C.start store)) * H.Digest.SIZE)) }
+        ensures never { IfErr result (λ r. (r.error ≡ Error.Memory)
+            ⊎ ((r.error ≡ Error.Journal JournalError.Store)
+            ⊎ (r.error ≡ Error.DataCorrupted Corrupt.HeadDoesNotMatch))) }
         ensures later { IfOk result (λ log. C.faults store ≤ C.faults log.store) }
     {
         let mut store = store;
@@ -110,11 +120,16 @@ impl<F: Family, C: Store, H: Hasher + Drop> AuthLog<F, C, H> {
     pub fn append_batch(self, alloc: Global, items: &[Vec<u8>]) -> Result<Self, LogRefusal<Self, C>>
         requires room { self.tree.leaves + length items.now ≤ 2 ^ 62 }
         requires last { C.end self.store ≡ self.tree.leaves }
-        ensures stands { (list : List (List ℕ)) → IsLog C.Store F.shape H.Digest.bytes H.hash self list → IfOk result (λ log. IsLog C.Store F.shape H.Digest.bytes H.hash log (list ++ map (λ v. v.items) items.now)) }
+        ensures stands { (list : List (List ℕ))
+            → IsLog C.Store F.shape H.Digest.bytes H.hash self list
+            → IfOk result (λ log. IsLog C.Store F.shape H.Digest.bytes H.hash log
+            (list ++ map (λ v. v.items) items.now)) }
         ensures start { IfOk result (λ log. log.tree.start ≡ self.tree.start) }
         ensures size { IfOk result (λ log. log.tree.leaves ≡ self.tree.leaves + length items.now) }
-        ensures grown { IfOk result (λ log. HasGrown C.Store self.store log.store (map (λ v. v.items) items.now)) }
-        ensures refused { IfErr result (λ r. IsRefused C.Store (λ old new. HasGrownPart C.Store old new (map (λ v. v.items) items.now)) self r.given r.error) }
+        ensures grown { IfOk result (λ log.
+            HasGrown C.Store self.store log.store (map (λ v. v.items) items.now)) }
+        ensures refused { IfErr result (λ r. IsRefused C.Store (λ old new.
+            HasGrownPart C.Store old new (map (λ v. v.items) items.now)) self r.given r.error) }
         ensures later { IfOk result (λ log. C.faults self.store ≤ C.faults log.store) }
     {
         let AuthLog {
@@ -145,13 +160,19 @@ impl<F: Family, C: Store, H: Hasher + Drop> AuthLog<F, C, H> {
         requires last { C.end self.store ≡ self.tree.leaves }
         requires reach { Contains (stops tree.now.leaves tree.now.layers) self.tree.leaves }
         requires count { tree.now.leaves ≡ self.tree.leaves + length items.now }
-        ensures stands { (list : List (List ℕ)) (older : List (List (List ℕ))) → IsLog C.Store F.shape H.Digest.bytes H.hash self list
-            → IsKeptTree H.Digest.bytes H.hash F.shape tree.now (list ++ map (λ v. v.items) items.now) older → Contains ((list ++ map (λ v. v.items) items.now) ∷ older) list
-            → IfOk result (λ log. IsLog C.Store F.shape H.Digest.bytes H.hash log (list ++ map (λ v. v.items) items.now)) }
+        ensures stands { (list : List (List ℕ)) (older : List (List (List ℕ)))
+            → IsLog C.Store F.shape H.Digest.bytes H.hash self list
+            → IsKeptTree H.Digest.bytes H.hash F.shape tree.now
+            (list ++ map (λ v. v.items) items.now) older
+            → Contains ((list ++ map (λ v. v.items) items.now) ∷ older) list
+            → IfOk result (λ log. IsLog C.Store F.shape H.Digest.bytes H.hash log
+            (list ++ map (λ v. v.items) items.now)) }
         ensures start { IfOk result (λ log. log.tree.start ≡ self.tree.start) }
         ensures size { IfOk result (λ log. log.tree.leaves ≡ self.tree.leaves + length items.now) }
-        ensures grown { IfOk result (λ log. HasGrown C.Store self.store log.store (map (λ v. v.items) items.now)) }
-        ensures refused { IfErr result (λ r. IsRefused C.Store (λ old new. HasGrownPart C.Store old new (map (λ v. v.items) items.now)) self r.given r.error) }
+        ensures grown { IfOk result (λ log.
+            HasGrown C.Store self.store log.store (map (λ v. v.items) items.now)) }
+        ensures refused { IfErr result (λ r. IsRefused C.Store (λ old new.
+            HasGrownPart C.Store old new (map (λ v. v.items) items.now)) self r.given r.error) }
         ensures later { IfOk result (λ log. C.faults self.store ≤ C.faults log.store) }
     {
         let AuthLog {
@@ -174,12 +195,17 @@ impl<F: Family, C: Store, H: Hasher + Drop> AuthLog<F, C, H> {
 
     /// Takes away what the store has past the log's end. A store that ends with the log is not called.
     pub fn settle(self) -> Result<Self, LogRefusal<Self, C>>
-        ensures stands { (list : List (List ℕ)) → IsLog C.Store F.shape H.Digest.bytes H.hash self list → IfOk result (λ log. IsLog C.Store F.shape H.Digest.bytes H.hash log list) }
+        ensures stands { (list : List (List ℕ))
+            → IsLog C.Store F.shape H.Digest.bytes H.hash self list
+            → IfOk result (λ log. IsLog C.Store F.shape H.Digest.bytes H.hash log list) }
         ensures tree { IfOk result (λ log. log.tree ≡ self.tree) }
         ensures start { IfOk result (λ log. C.start log.store ≡ C.start self.store) }
         ensures last { IfOk result (λ log. C.end log.store ≡ self.tree.leaves) }
-        ensures settled { IfOk result (λ log. Becomes (C.told self.store) (C.told log.store) (rewound self.tree.leaves)) }
-        ensures refused { IfErr result (λ r. IsRefused C.Store (HasLeft C.Store (λ s. ReadsAs (min s.stable self.tree.leaves) (RewindLeaves self.tree.leaves s))) self r.given r.error) }
+        ensures settled { IfOk result (λ log.
+            Becomes (C.told self.store) (C.told log.store) (rewound self.tree.leaves)) }
+        ensures refused { IfErr result (λ r. IsRefused C.Store (HasLeft C.Store
+            (λ s. ReadsAs (min s.stable self.tree.leaves) (RewindLeaves self.tree.leaves s))) self
+            r.given r.error) }
         ensures given { IfErr result (λ r. (log : Log C H.Digest) → r.given ≢ LogGiven.Log log) }
         ensures later { IfOk result (λ log. C.faults self.store ≤ C.faults log.store) }
     {
@@ -200,10 +226,15 @@ impl<F: Family, C: Store, H: Hasher + Drop> AuthLog<F, C, H> {
     /// Replaces the metadata of a name in the store.
     pub fn put_meta(self, name: &str, entries: &[MetaEntry]) -> Result<Self, LogRefusal<Self, C>>
         requires last { C.end self.store ≡ self.tree.leaves }
-        ensures stands { (list : List (List ℕ)) → IsLog C.Store F.shape H.Digest.bytes H.hash self list → IfOk result (λ log. IsLog C.Store F.shape H.Digest.bytes H.hash log list) }
+        ensures stands { (list : List (List ℕ))
+            → IsLog C.Store F.shape H.Digest.bytes H.hash self list
+            → IfOk result (λ log. IsLog C.Store F.shape H.Digest.bytes H.hash log list) }
         ensures tree { IfOk result (λ log. log.tree ≡ self.tree) }
-        ensures put { IfOk result (λ log. HasBecome C.Store self.store log.store (with_metadata name.now entries.now)) }
-        ensures refused { IfErr result (λ r. IsRefused C.Store (HasLeft C.Store (λ s. ReadsAs s.stable (IsOldOrNew (with_metadata name.now entries.now) s))) self r.given r.error) }
+        ensures put { IfOk result (λ log.
+            HasBecome C.Store self.store log.store (with_metadata name.now entries.now)) }
+        ensures refused { IfErr result (λ r. IsRefused C.Store (HasLeft C.Store
+            (λ s. ReadsAs s.stable (IsOldOrNew (with_metadata name.now entries.now) s))) self
+            r.given r.error) }
         ensures given { IfErr result (λ r. (log : Log C H.Digest) → r.given ≢ LogGiven.Log log) }
         ensures later { IfOk result (λ log. C.faults self.store ≤ C.faults log.store) }
     {
@@ -219,10 +250,13 @@ impl<F: Family, C: Store, H: Hasher + Drop> AuthLog<F, C, H> {
     /// Makes the items stable: from then on a crash leaves them all.
     pub fn commit(self) -> Result<Self, LogRefusal<Self, C>>
         requires last { C.end self.store ≡ self.tree.leaves }
-        ensures stands { (list : List (List ℕ)) → IsLog C.Store F.shape H.Digest.bytes H.hash self list → IfOk result (λ log. IsLog C.Store F.shape H.Digest.bytes H.hash log list) }
+        ensures stands { (list : List (List ℕ))
+            → IsLog C.Store F.shape H.Digest.bytes H.hash self list
+            → IfOk result (λ log. IsLog C.Store F.shape H.Digest.bytes H.hash log list) }
         ensures tree { IfOk result (λ log. log.tree ≡ self.tree) }
         ensures committed { IfOk result (λ log. HasBecome C.Store self.store log.store settled) }
-        ensures refused { IfErr result (λ r. IsRefused C.Store (HasLeft C.Store (λ s. ReadsAs s.stable (IsImage s))) self r.given r.error) }
+        ensures refused { IfErr result (λ r. IsRefused C.Store
+            (HasLeft C.Store (λ s. ReadsAs s.stable (IsImage s))) self r.given r.error) }
         ensures given { IfErr result (λ r. (log : Log C H.Digest) → r.given ≢ LogGiven.Log log) }
         ensures later { IfOk result (λ log. C.faults self.store ≤ C.faults log.store) }
     {
@@ -238,10 +272,13 @@ impl<F: Family, C: Store, H: Hasher + Drop> AuthLog<F, C, H> {
     /// Makes all that the store holds stable.
     pub fn sync(self) -> Result<Self, LogRefusal<Self, C>>
         requires last { C.end self.store ≡ self.tree.leaves }
-        ensures stands { (list : List (List ℕ)) → IsLog C.Store F.shape H.Digest.bytes H.hash self list → IfOk result (λ log. IsLog C.Store F.shape H.Digest.bytes H.hash log list) }
+        ensures stands { (list : List (List ℕ))
+            → IsLog C.Store F.shape H.Digest.bytes H.hash self list
+            → IfOk result (λ log. IsLog C.Store F.shape H.Digest.bytes H.hash log list) }
         ensures tree { IfOk result (λ log. log.tree ≡ self.tree) }
         ensures synced { IfOk result (λ log. HasBecome C.Store self.store log.store settled) }
-        ensures refused { IfErr result (λ r. IsRefused C.Store (HasLeft C.Store (λ s. ReadsAs s.stable (IsImage s))) self r.given r.error) }
+        ensures refused { IfErr result (λ r. IsRefused C.Store
+            (HasLeft C.Store (λ s. ReadsAs s.stable (IsImage s))) self r.given r.error) }
         ensures given { IfErr result (λ r. (log : Log C H.Digest) → r.given ≢ LogGiven.Log log) }
         ensures later { IfOk result (λ log. C.faults self.store ≤ C.faults log.store) }
     {
@@ -261,14 +298,20 @@ impl<F: Family, C: Store, H: Hasher + Drop> AuthLog<F, C, H> {
         requires size { to ≤ self.tree.leaves }
         requires last { C.end self.store ≡ self.tree.leaves }
         requires stable { IfSome (C.told self.store) (λ s. to ≤ s.stable) }
-        ensures stands { (list : List (List ℕ)) → IsLog C.Store F.shape H.Digest.bytes H.hash self list → IfOk result (λ log. IsLog C.Store F.shape H.Digest.bytes H.hash log list) }
+        ensures stands { (list : List (List ℕ))
+            → IsLog C.Store F.shape H.Digest.bytes H.hash self list
+            → IfOk result (λ log. IsLog C.Store F.shape H.Digest.bytes H.hash log list) }
         ensures start { IfOk result (λ log. log.tree.start ≡ to) }
         ensures size { IfOk result (λ log. log.tree.leaves ≡ self.tree.leaves) }
         ensures end { IfOk result (λ log. C.end log.store ≡ C.end self.store) }
-        ensures pruned { IfOk result (λ log. (head : List ℕ) × Becomes (C.told self.store) (C.told log.store) (pruned to head)
-            × ((list : List (List ℕ)) → IsLog C.Store F.shape H.Digest.bytes H.hash self list → IsHead F.shape H.Digest.bytes H.hash to (digests_from H.hash F.shape 0 list) head)) }
-        ensures refused { IfErr result (λ r. (head : List ℕ) × IsRefused C.Store (HasLeftPruned C.Store to head) self r.given r.error
-            × ((list : List (List ℕ)) → IsLog C.Store F.shape H.Digest.bytes H.hash self list → IsHead F.shape H.Digest.bytes H.hash to (digests_from H.hash F.shape 0 list) head)) }
+        ensures pruned { IfOk result (λ log.
+            (head : List ℕ) × Becomes (C.told self.store) (C.told log.store) (pruned to head)
+            × ((list : List (List ℕ)) → IsLog C.Store F.shape H.Digest.bytes H.hash self list
+            → IsHead F.shape H.Digest.bytes H.hash to (digests_from H.hash F.shape 0 list) head)) }
+        ensures refused { IfErr result (λ r.
+            (head : List ℕ) × IsRefused C.Store (HasLeftPruned C.Store to head) self r.given r.error
+            × ((list : List (List ℕ)) → IsLog C.Store F.shape H.Digest.bytes H.hash self list
+            → IsHead F.shape H.Digest.bytes H.hash to (digests_from H.hash F.shape 0 list) head)) }
         ensures later { IfOk result (λ log. C.faults self.store ≤ C.faults log.store) }
     {
         let AuthLog {
@@ -304,14 +347,24 @@ impl<F: Family, C: Store, H: Hasher> AuthLog<F, C, H> {
     /// Reads the item at a location.
     pub fn read(&mut self, at: u64) -> Result<Vec<u8>, Error>
         requires { at < self.old.tree.leaves }
-        ensures item { (list : List (List ℕ)) → IsLog C.Store F.shape H.Digest.bytes H.hash self.old list → IfOk result (λ v. IfSome (C.told self.old.store) (λ _. slice_get list at ≡ Some v.items)) }
-        ensures held { IfOk result (λ v. IfSome (C.told self.old.store) (λ s. slice_get s.items (at - s.start) ≡ Some v.items)) }
-        ensures stands { (list : List (List ℕ)) → IsLog C.Store F.shape H.Digest.bytes H.hash self.old list → IsLog C.Store F.shape H.Digest.bytes H.hash self.new list }
-        ensures pruned { (result ≡ Err (Error.Journal (JournalError.ItemPruned at))) ↔ (at < self.old.tree.start) }
-        ensures never { IfErr result (λ e. (e ≡ Error.Memory) ⊎ ((e ≡ Error.Journal JournalError.Store) ⊎ (e ≡ Error.Journal (JournalError.ItemPruned at)))) }
+        ensures item { (list : List (List ℕ))
+            → IsLog C.Store F.shape H.Digest.bytes H.hash self.old list
+            → IfOk result (λ v.
+            IfSome (C.told self.old.store) (λ _. slice_get list at ≡ Some v.items)) }
+        ensures held { IfOk result (λ v.
+            IfSome (C.told self.old.store) (λ s. slice_get s.items (at - s.start) ≡ Some v.items)) }
+        ensures stands { (list : List (List ℕ))
+            → IsLog C.Store F.shape H.Digest.bytes H.hash self.old list
+            → IsLog C.Store F.shape H.Digest.bytes H.hash self.new list }
+        ensures pruned { (result ≡ Err (Error.Journal (JournalError.ItemPruned at)))
+            ↔ (at < self.old.tree.start) }
+        ensures never { IfErr result (λ e. (e ≡ Error.Memory)
+            ⊎ ((e ≡ Error.Journal JournalError.Store)
+            ⊎ (e ≡ Error.Journal (JournalError.ItemPruned at)))) }
         ensures tree { self.new.tree ≡ self.old.tree }
         ensures kept { IsKept C.Store self.old.store self.new.store }
-        ensures cause { IsCause (C.faults self.old.store) (C.faults self.new.store) (IsErrOf result (Error.Journal JournalError.Store)) }
+        ensures cause { IsCause (C.faults self.old.store) (C.faults self.new.store)
+            (IsErrOf result (Error.Journal JournalError.Store)) }
     {
         let (start, _) = self.tree.bounds();
         if at < start.get() {
@@ -323,7 +376,10 @@ impl<F: Family, C: Store, H: Hasher> AuthLog<F, C, H> {
     /// The root of the tree, the first of whose peaks are inactive.
     pub fn root(&mut self, alloc: Global, inactive: usize) -> Result<H::Digest, AllocError>
         requires { inactive ≤ length (trees.peaks F.shape self.old.tree.leaves) }
-        ensures value { (list : List (List ℕ)) → IsLog C.Store F.shape H.Digest.bytes H.hash self.old list → IfOk result (λ d. H.Digest.bytes d ≡ trees.root H.hash F.shape (digests_from H.hash F.shape 0 list) inactive) }
+        ensures value { (list : List (List ℕ))
+            → IsLog C.Store F.shape H.Digest.bytes H.hash self.old list
+            → IfOk result (λ d. H.Digest.bytes d
+            ≡ trees.root H.hash F.shape (digests_from H.hash F.shape 0 list) inactive) }
         ensures same { self.new ≡ self.old }
     {
         self.tree.root(alloc, &mut self.hasher, inactive)
@@ -336,9 +392,14 @@ impl<F: Family, C: Store, H: Hasher> AuthLog<F, C, H> {
         items: &[Vec<u8>],
     ) -> Result<MerkleizedBatch<F, H::Digest>, AllocError>
         requires room { self.old.tree.leaves + length items.now ≤ 2 ^ 62 }
-        ensures history { (list : List (List ℕ)) → IsLog C.Store F.shape H.Digest.bytes H.hash self.old list
-            → IfOk result (λ b. IsHistory F.shape H.Digest.bytes H.hash (all_layers b) (digests_from H.hash F.shape 0 (list ++ map (λ v. v.items) items.now) ∷ digests_from H.hash F.shape 0 list ∷ [])) }
-        ensures leaves { IfOk result (λ b. b.newest.tree.leaves ≡ self.old.tree.leaves + length items.now) }
+        ensures history { (list : List (List ℕ))
+            → IsLog C.Store F.shape H.Digest.bytes H.hash self.old list
+            → IfOk result (λ b.
+            IsHistory F.shape H.Digest.bytes H.hash (all_layers b) (digests_from H.hash F.shape 0
+            (list ++ map (λ v. v.items) items.now) ∷ digests_from H.hash F.shape 0 list
+            ∷ [])) }
+        ensures leaves { IfOk result (λ b.
+            b.newest.tree.leaves ≡ self.old.tree.leaves + length items.now) }
         ensures start { IfOk result (λ b. b.newest.tree.start ≡ self.old.tree.leaves) }
         ensures older { IfOk result (λ b. b.older ≡ []) }
         ensures adding { IfOk result (λ b. IsAdding F.shape b.newest) }
@@ -357,16 +418,25 @@ impl<F: Family, C: Store, H: Hasher> AuthLog<F, C, H> {
         items: &[Vec<u8>],
     ) -> Result<MerkleizedBatch<F, H::Digest>, AllocError>
         requires room { batch.now.newest.tree.leaves + length items.now ≤ 2 ^ 62 }
-        requires reach { Contains (stops batch.now.newest.tree.leaves (all_layers batch.now)) self.old.tree.leaves }
+        requires reach { Contains (stops batch.now.newest.tree.leaves (all_layers batch.now))
+            self.old.tree.leaves }
         requires boundary { boundary ≤ self.old.tree.leaves }
-        ensures history { (list base : List (List ℕ)) (lists : List (List (List ℕ))) → IsLog C.Store F.shape H.Digest.bytes H.hash self.old list
-            → IsHistory F.shape H.Digest.bytes H.hash (all_layers batch.now) (digests_from H.hash F.shape 0 base ∷ lists) → Contains (digests_from H.hash F.shape 0 base ∷ lists) (digests_from H.hash F.shape 0 list)
-            → IfOk result (λ b. IsHistory F.shape H.Digest.bytes H.hash (all_layers b) (digests_from H.hash F.shape 0 (base ++ map (λ v. v.items) items.now) ∷ lists_since boundary (digests_from H.hash F.shape 0 base ∷ lists))) }
-        ensures leaves { IfOk result (λ b. b.newest.tree.leaves ≡ batch.now.newest.tree.leaves + length items.now) }
+        ensures history { (list base : List (List ℕ)) (lists : List (List (List ℕ)))
+            → IsLog C.Store F.shape H.Digest.bytes H.hash self.old list
+            → IsHistory F.shape H.Digest.bytes H.hash (all_layers batch.now)
+            (digests_from H.hash F.shape 0 base ∷ lists)
+            → Contains (digests_from H.hash F.shape 0 base ∷ lists)
+            (digests_from H.hash F.shape 0 list)
+            → IfOk result (λ b. IsHistory F.shape H.Digest.bytes H.hash (all_layers b)
+            (digests_from H.hash F.shape 0 (base ++ map (λ v. v.items) items.now)
+            ∷ lists_since boundary (digests_from H.hash F.shape 0 base ∷ lists))) }
+        ensures leaves { IfOk result (λ b.
+            b.newest.tree.leaves ≡ batch.now.newest.tree.leaves + length items.now) }
         ensures start { IfOk result (λ b. b.newest.tree.start ≡ batch.now.newest.tree.leaves) }
         ensures older { IfOk result (λ b. b.older ≡ layers_since boundary (all_layers batch.now)) }
         ensures adding { IfOk result (λ b. IsAdding F.shape b.newest) }
-        ensures stops { IfOk result (λ b. stops b.newest.tree.start b.older ≡ stops_since boundary (stops batch.now.newest.tree.leaves (all_layers batch.now))) }
+        ensures stops { IfOk result (λ b. stops b.newest.tree.start b.older
+            ≡ stops_since boundary (stops batch.now.newest.tree.leaves (all_layers batch.now))) }
         ensures same { self.new ≡ self.old }
     {
         let size = batch.leaves().get();
@@ -383,7 +453,8 @@ impl<F: Family, C: Store, H: Hasher> AuthLog<F, C, H> {
         inactive: usize,
     ) -> Result<H::Digest, AllocError>
         requires { inactive ≤ length (trees.peaks F.shape batch.now.newest.tree.leaves) }
-        ensures value { (new : List (List ℕ)) (lists : List (List (List ℕ))) → IsHistory F.shape H.Digest.bytes H.hash (all_layers batch.now) (new ∷ lists)
+        ensures value { (new : List (List ℕ)) (lists : List (List (List ℕ)))
+            → IsHistory F.shape H.Digest.bytes H.hash (all_layers batch.now) (new ∷ lists)
             → IfOk result (λ d. H.Digest.bytes d ≡ trees.root H.hash F.shape new inactive) }
         ensures same { self.new ≡ self.old }
     {
@@ -398,9 +469,13 @@ impl<F: Family, C: Store, H: Hasher> AuthLog<F, C, H> {
         inactive: usize,
     ) -> Result<H::Digest, AllocError>
         requires room { self.old.tree.leaves + length items.now ≤ 2 ^ 62 }
-        requires peaks { inactive ≤ length (trees.peaks F.shape (self.old.tree.leaves + length items.now)) }
-        ensures value { (list : List (List ℕ)) → IsLog C.Store F.shape H.Digest.bytes H.hash self.old list
-            → IfOk result (λ d. H.Digest.bytes d ≡ trees.root H.hash F.shape (digests_from H.hash F.shape 0 (list ++ map (λ v. v.items) items.now)) inactive) }
+        requires peaks { inactive
+            ≤ length (trees.peaks F.shape (self.old.tree.leaves + length items.now)) }
+        ensures value { (list : List (List ℕ))
+            → IsLog C.Store F.shape H.Digest.bytes H.hash self.old list
+            → IfOk result (λ d. H.Digest.bytes d
+            ≡ trees.root H.hash F.shape
+            (digests_from H.hash F.shape 0 (list ++ map (λ v. v.items) items.now)) inactive) }
         ensures same { self.new ≡ self.old }
     {
         let batch = grown_by_items(alloc, &self.tree, &mut self.hasher, items)?;
@@ -418,19 +493,33 @@ impl<F: Family, C: Store, H: Hasher> AuthLog<F, C, H> {
         max: NonZeroU64,
     ) -> Result<(Proof<H::Digest>, Vec<Vec<u8>>), Error>
         requires { size ≤ self.old.tree.leaves → inactive ≤ length (trees.peaks F.shape size) }
-        ensures proof { (list : List (List ℕ)) → IsLog C.Store F.shape H.Digest.bytes H.hash self.old list
-            → IfOk result (λ shown. proof_view H.Digest.bytes shown.0 ≡ proof_of H.hash F.shape (digests_from H.hash F.shape 0 (take size list)) inactive start (start + min (non_zero_u64_get max) (size - start))) }
-        ensures items { (list : List (List ℕ)) → IsLog C.Store F.shape H.Digest.bytes H.hash self.old list
-            → IfOk result (λ shown. IfSome (C.told self.old.store) (λ _. map (λ v. v.items) shown.1.items ≡ take (min (non_zero_u64_get max) (size - start)) (drop start list))) }
-        ensures count { IfOk result (λ shown. length shown.1.items ≡ min (non_zero_u64_get max) (size - start)) }
-        ensures size { self.old.tree.leaves < size → result ≡ Err (Error.Merkle (MerkleError.RangeOutOfBounds size)) }
-        ensures start { size ≤ self.old.tree.leaves → size ≤ start → result ≡ Err (Error.Merkle (MerkleError.RangeOutOfBounds start)) }
-        ensures pruned { size ≤ self.old.tree.leaves → start < size → start < self.old.tree.start → result ≡ Err (Error.Journal (JournalError.ItemPruned start)) }
-        ensures never { size ≤ self.old.tree.leaves → start < size → self.old.tree.start ≤ start → IfErr result (λ e. (e ≡ Error.Memory) ⊎ (e ≡ Error.Journal JournalError.Store)) }
-        ensures stands { (list : List (List ℕ)) → IsLog C.Store F.shape H.Digest.bytes H.hash self.old list → IsLog C.Store F.shape H.Digest.bytes H.hash self.new list }
+        ensures proof { (list : List (List ℕ))
+            → IsLog C.Store F.shape H.Digest.bytes H.hash self.old list
+            → IfOk result (λ shown. proof_view H.Digest.bytes shown.0
+            ≡ proof_of H.hash F.shape (digests_from H.hash F.shape 0 (take size list)) inactive
+            start (start + min (non_zero_u64_get max) (size - start))) }
+        ensures items { (list : List (List ℕ))
+            → IsLog C.Store F.shape H.Digest.bytes H.hash self.old list
+            → IfOk result (λ shown.
+            IfSome (C.told self.old.store) (λ _. map (λ v. v.items) shown.1.items
+            ≡ take (min (non_zero_u64_get max) (size - start)) (drop start list))) }
+        ensures count { IfOk result (λ shown.
+            length shown.1.items ≡ min (non_zero_u64_get max) (size - start)) }
+        ensures size { self.old.tree.leaves < size
+            → result ≡ Err (Error.Merkle (MerkleError.RangeOutOfBounds size)) }
+        ensures start { size ≤ self.old.tree.leaves → size ≤ start
+            → result ≡ Err (Error.Merkle (MerkleError.RangeOutOfBounds start)) }
+        ensures pruned { size ≤ self.old.tree.leaves → start < size → start < self.old.tree.start
+            → result ≡ Err (Error.Journal (JournalError.ItemPruned start)) }
+        ensures never { size ≤ self.old.tree.leaves → start < size → self.old.tree.start ≤ start
+            → IfErr result (λ e. (e ≡ Error.Memory) ⊎ (e ≡ Error.Journal JournalError.Store)) }
+        ensures stands { (list : List (List ℕ))
+            → IsLog C.Store F.shape H.Digest.bytes H.hash self.old list
+            → IsLog C.Store F.shape H.Digest.bytes H.hash self.new list }
         ensures tree { self.new.tree ≡ self.old.tree }
         ensures kept { IsKept C.Store self.old.store self.new.store }
-        ensures cause { IsCause (C.faults self.old.store) (C.faults self.new.store) (IsErrOf result (Error.Journal JournalError.Store)) }
+        ensures cause { IsCause (C.faults self.old.store) (C.faults self.new.store)
+            (IsErrOf result (Error.Journal JournalError.Store)) }
     {
         let (first, leaves) = self.bounds();
         if leaves < size {
@@ -451,12 +540,21 @@ impl<F: Family, C: Store, H: Hasher> AuthLog<F, C, H> {
     /// The digests of the peaks over the first `count` items, from left to right. Where the log is kept from there or from
     /// before, it has them all.
     pub fn pinned_nodes_at(&self, alloc: Global, count: u64) -> Result<Vec<H::Digest>, Error>
-        ensures value { (list : List (List ℕ)) → IsLog C.Store F.shape H.Digest.bytes H.hash self.now list
-            → IfOk result (λ pins. map H.Digest.bytes pins.items ≡ map (trees.digest_of H.hash F.shape (digests_from H.hash F.shape 0 list)) (trees.peaks F.shape count)) }
-        ensures range { self.now.tree.leaves < count → result ≡ Err (Error.Merkle (MerkleError.RangeOutOfBounds count)) }
-        ensures held { OnOk result (first_lacked (node_at F.shape self.now.tree) (trees.peak_positions F.shape count) ≡ None) }
-        ensures cause { count ≤ self.now.tree.leaves → IfErr result (IsLacked (node_at F.shape self.now.tree) (trees.peak_positions F.shape count)) }
-        ensures whole { self.now.tree.start ≤ count → count ≤ self.now.tree.leaves → IfErr result (λ e. e ≡ Error.Memory) }
+        ensures value { (list : List (List ℕ))
+            → IsLog C.Store F.shape H.Digest.bytes H.hash self.now list
+            → IfOk result (λ pins. map H.Digest.bytes pins.items
+            ≡ map (trees.digest_of H.hash F.shape (digests_from H.hash F.shape 0 list))
+            (trees.peaks F.shape count)) }
+        ensures range { self.now.tree.leaves < count
+            → result ≡ Err (Error.Merkle (MerkleError.RangeOutOfBounds count)) }
+        ensures held { OnOk result (first_lacked (node_at F.shape self.now.tree)
+            (trees.peak_positions F.shape count)
+            ≡ None) }
+        ensures cause { count ≤ self.now.tree.leaves
+            → IfErr result
+            (IsLacked (node_at F.shape self.now.tree) (trees.peak_positions F.shape count)) }
+        ensures whole { self.now.tree.start ≤ count → count ≤ self.now.tree.leaves
+            → IfErr result (λ e. e ≡ Error.Memory) }
     {
         let (_, leaves) = self.bounds();
         if leaves < count {
@@ -478,13 +576,22 @@ impl<F: Family, C: Store, H: Hasher> AuthLog<F, C, H> {
         requires order { start ≤ end }
         requires within { end ≤ batch.now.newest.tree.leaves }
         requires inactive { inactive ≤ length (trees.peaks F.shape batch.now.newest.tree.leaves) }
-        ensures value { (list : List (List ℕ)) (new : List (List ℕ)) (lists : List (List (List ℕ))) → IsLog C.Store F.shape H.Digest.bytes H.hash self.now list
-            → IsHistory F.shape H.Digest.bytes H.hash (all_layers batch.now) (new ∷ lists) → Contains (new ∷ lists) (digests_from H.hash F.shape 0 list)
-            → IfOk result (λ p. proof_view H.Digest.bytes p ≡ proof_of H.hash F.shape new inactive start end) }
-        ensures held { OnOk result (first_lacked (over_at F.shape batch.now self.now.tree) (needed_positions F.shape batch.now.newest.tree.leaves start end) ≡ None) }
-        ensures cause { IfErr result (IsLacked (over_at F.shape batch.now self.now.tree) (needed_positions F.shape batch.now.newest.tree.leaves start end)) }
-        ensures whole { self.now.tree.start ≤ start → (list : List (List ℕ)) (new : List (List ℕ)) (lists : List (List (List ℕ))) → IsLog C.Store F.shape H.Digest.bytes H.hash self.now list
-            → IsHistory F.shape H.Digest.bytes H.hash (all_layers batch.now) (new ∷ lists) → Contains (new ∷ lists) (digests_from H.hash F.shape 0 list)
+        ensures value { (list : List (List ℕ)) (new : List (List ℕ)) (lists : List (List (List ℕ)))
+            → IsLog C.Store F.shape H.Digest.bytes H.hash self.now list
+            → IsHistory F.shape H.Digest.bytes H.hash (all_layers batch.now) (new ∷ lists)
+            → Contains (new ∷ lists) (digests_from H.hash F.shape 0 list)
+            → IfOk result (λ p.
+            proof_view H.Digest.bytes p ≡ proof_of H.hash F.shape new inactive start end) }
+        ensures held { OnOk result (first_lacked (over_at F.shape batch.now self.now.tree)
+            (needed_positions F.shape batch.now.newest.tree.leaves start end)
+            ≡ None) }
+        ensures cause { IfErr result (IsLacked (over_at F.shape batch.now self.now.tree)
+            (needed_positions F.shape batch.now.newest.tree.leaves start end)) }
+        ensures whole { self.now.tree.start ≤ start
+            → (list : List (List ℕ)) (new : List (List ℕ)) (lists : List (List (List ℕ)))
+            → IsLog C.Store F.shape H.Digest.bytes H.hash self.now list
+            → IsHistory F.shape H.Digest.bytes H.hash (all_layers batch.now) (new ∷ lists)
+            → Contains (new ∷ lists) (digests_from H.hash F.shape 0 list)
             → IfErr result (λ e. e ≡ Error.Memory) }
     {
         shown::proof_over(alloc, batch, &self.tree, inactive, start, end)
@@ -498,13 +605,22 @@ impl<F: Family, C: Store, H: Hasher> AuthLog<F, C, H> {
         at: u64,
     ) -> Result<Vec<H::Digest>, Error>
         requires within { at ≤ batch.now.newest.tree.leaves }
-        ensures value { (list : List (List ℕ)) (new : List (List ℕ)) (lists : List (List (List ℕ))) → IsLog C.Store F.shape H.Digest.bytes H.hash self.now list
-            → IsHistory F.shape H.Digest.bytes H.hash (all_layers batch.now) (new ∷ lists) → Contains (new ∷ lists) (digests_from H.hash F.shape 0 list)
-            → IfOk result (λ pins. map H.Digest.bytes pins.items ≡ map (trees.digest_of H.hash F.shape new) (trees.peaks F.shape at)) }
-        ensures held { OnOk result (first_lacked (over_at F.shape batch.now self.now.tree) (trees.peak_positions F.shape at) ≡ None) }
-        ensures cause { IfErr result (IsLacked (over_at F.shape batch.now self.now.tree) (trees.peak_positions F.shape at)) }
-        ensures whole { self.now.tree.start ≤ at → (list : List (List ℕ)) (new : List (List ℕ)) (lists : List (List (List ℕ))) → IsLog C.Store F.shape H.Digest.bytes H.hash self.now list
-            → IsHistory F.shape H.Digest.bytes H.hash (all_layers batch.now) (new ∷ lists) → Contains (new ∷ lists) (digests_from H.hash F.shape 0 list)
+        ensures value { (list : List (List ℕ)) (new : List (List ℕ)) (lists : List (List (List ℕ)))
+            → IsLog C.Store F.shape H.Digest.bytes H.hash self.now list
+            → IsHistory F.shape H.Digest.bytes H.hash (all_layers batch.now) (new ∷ lists)
+            → Contains (new ∷ lists) (digests_from H.hash F.shape 0 list)
+            → IfOk result (λ pins. map H.Digest.bytes pins.items
+            ≡ map (trees.digest_of H.hash F.shape new) (trees.peaks F.shape at)) }
+        ensures held { OnOk result (first_lacked (over_at F.shape batch.now self.now.tree)
+            (trees.peak_positions F.shape at)
+            ≡ None) }
+        ensures cause { IfErr result
+            (IsLacked (over_at F.shape batch.now self.now.tree) (trees.peak_positions F.shape at)) }
+        ensures whole { self.now.tree.start ≤ at
+            → (list : List (List ℕ)) (new : List (List ℕ)) (lists : List (List (List ℕ)))
+            → IsLog C.Store F.shape H.Digest.bytes H.hash self.now list
+            → IsHistory F.shape H.Digest.bytes H.hash (all_layers batch.now) (new ∷ lists)
+            → Contains (new ∷ lists) (digests_from H.hash F.shape 0 list)
             → IfErr result (λ e. e ≡ Error.Memory) }
     {
         shown::peaks_over(alloc, batch, &self.tree, at)
@@ -555,7 +671,9 @@ fn log_after<F: Family, C: Store, H: Hasher + Drop>(
     requires start { OnOk done (tree.start ≡ C.start store) }
     requires size { OnOk done (tree.leaves ≤ C.end store) }
     ensures ok { IfOk result (λ log. (done ≡ Ok tt) × (log.store ≡ store) × (log.tree ≡ tree)) }
-    ensures err { IfErr result (λ r. (r.given ≡ LogGiven.Store store) × IfErr done (λ e. r.error ≡ log_error e) × (done ≢ Ok tt)) }
+    ensures err { IfErr result (λ r.
+        (r.given ≡ LogGiven.Store store) × IfErr done (λ e. r.error ≡ log_error e)
+        × (done ≢ Ok tt)) }
 {
     match done {
         Ok(()) => Ok(AuthLog {
@@ -581,8 +699,12 @@ fn forget<F: Family, D: Digest>(
     requires leaves { to ≤ tree.old.leaves }
     ensures start { OnOk result (tree.new.start ≡ to) }
     ensures leaves { OnOk result (tree.new.leaves ≡ tree.old.leaves) }
-    ensures stands { (hash : List ℕ → List ℕ) (list : List (List ℕ)) → Stands F.shape D.bytes hash tree.old list → OnOk result (Stands F.shape D.bytes hash tree.new list) }
-    ensures head { (hash : List ℕ → List ℕ) (list : List (List ℕ)) → Stands F.shape D.bytes hash tree.old list → IfOk result (λ head. IsHead F.shape D.bytes hash to list head.items) }
+    ensures stands { (hash : List ℕ → List ℕ) (list : List (List ℕ))
+        → Stands F.shape D.bytes hash tree.old list
+        → OnOk result (Stands F.shape D.bytes hash tree.new list) }
+    ensures head { (hash : List ℕ → List ℕ) (list : List (List ℕ))
+        → Stands F.shape D.bytes hash tree.old list
+        → IfOk result (λ head. IsHead F.shape D.bytes hash to list head.items) }
     ensures whole { IsWhole F.shape tree.old }
     ensures err { OnErr result (tree.new ≡ tree.old) }
 {
@@ -616,9 +738,12 @@ fn stored<F: Family, C: Store, H: Hasher + Drop>(
     requires size { tree.leaves ≡ C.end store + length items.now }
     requires room { tree.leaves ≤ 2 ^ 62 }
     ensures tree { IfOk result (λ log. log.tree ≡ tree) }
-    ensures grown { IfOk result (λ log. HasGrown C.Store store log.store (map (λ v. v.items) items.now)) }
+    ensures grown { IfOk result (λ log.
+        HasGrown C.Store store log.store (map (λ v. v.items) items.now)) }
     ensures later { IfOk result (λ log. C.faults store ≤ C.faults log.store) }
-    ensures refused { IfErr result (λ r. (log : Log C H.Digest) → log.store ≡ store → IsRefused C.Store (λ old new. HasGrownPart C.Store old new (map (λ v. v.items) items.now)) log r.given r.error) }
+    ensures refused { IfErr result (λ r. (log : Log C H.Digest) → log.store ≡ store
+        → IsRefused C.Store (λ old new. HasGrownPart C.Store old new (map (λ v. v.items) items.now))
+        log r.given r.error) }
 {
     let mut store = store;
     let done = store.append(items);
@@ -634,16 +759,26 @@ fn load<F: Family, C: Store, H: Hasher>(
 ) -> Result<Mem<F, H::Digest>, Error>
     requires start { C.start store.old ≤ size }
     requires end { size ≤ C.end store.old }
-    ensures stands { (list : List (List ℕ)) → length list ≡ size → IfSome (C.told store.old) (λ held.
-        take (size - C.start store.old) held.items ≡ drop (C.start store.old) list → IsHead F.shape H.Digest.bytes H.hash (C.start store.old) (digests_from H.hash F.shape 0 list) held.head
-        → IfOk result (λ tree. Stands F.shape H.Digest.bytes H.hash tree (digests_from H.hash F.shape 0 list))) }
+    ensures stands { (list : List (List ℕ)) → length list ≡ size
+        → IfSome (C.told store.old) (λ held.
+        take (size - C.start store.old) held.items ≡ drop (C.start store.old) list
+        → IsHead F.shape H.Digest.bytes H.hash (C.start store.old)
+        (digests_from H.hash F.shape 0 list) held.head
+        → IfOk result (λ tree.
+        Stands F.shape H.Digest.bytes H.hash tree (digests_from H.hash F.shape 0 list))) }
     ensures start { IfOk result (λ tree. tree.start ≡ C.start store.old) }
     ensures size { IfOk result (λ tree. tree.leaves ≡ size) }
-    ensures long { IfOk result (λ _. IfSome (C.told store.old) (λ held. length held.head ≡ length (trees.peaks F.shape (C.start store.old)) * H.Digest.SIZE)) }
-    ensures head { IfErr result (λ e. e ≡ Error.DataCorrupted Corrupt.HeadDoesNotMatch → IfSome (C.told store.old) (λ held. length held.head ≢ length (trees.peaks F.shape (C.start store.old)) * H.Digest.SIZE)) }
-    ensures never { IfErr result (λ e. (e ≡ Error.Memory) ⊎ ((e ≡ Error.Journal JournalError.Store) ⊎ (e ≡ Error.DataCorrupted Corrupt.HeadDoesNotMatch))) }
+    ensures long { IfOk result (λ _. IfSome (C.told store.old) (λ held.
+        length held.head ≡ length (trees.peaks F.shape (C.start store.old)) * H.Digest.SIZE)) }
+    ensures head { IfErr result (λ e. e ≡ Error.DataCorrupted Corrupt.HeadDoesNotMatch
+        → IfSome (C.told store.old) (λ held.
+        length held.head ≢ length (trees.peaks F.shape (C.start store.old)) * H.Digest.SIZE)) }
+    ensures never { IfErr result (λ e. (e ≡ Error.Memory)
+        ⊎ ((e ≡ Error.Journal JournalError.Store)
+        ⊎ (e ≡ Error.DataCorrupted Corrupt.HeadDoesNotMatch))) }
     ensures kept { IsKept C.Store store.old store.new }
-    ensures cause { IsCause (C.faults store.old) (C.faults store.new) (IsErrOf result (Error.Journal JournalError.Store)) }
+    ensures cause { IsCause (C.faults store.old) (C.faults store.new)
+        (IsErrOf result (Error.Journal JournalError.Store)) }
 {
     let mut tree = pruned(alloc, store)?;
     let (start, _) = store.bounds();
@@ -654,16 +789,25 @@ fn load<F: Family, C: Store, H: Hasher>(
 
 // The tree of no leaves past a store's start.
 fn pruned<F: Family, C: Store, D: Digest>(alloc: Global, store: &mut C) -> Result<Mem<F, D>, Error>
-    ensures stands { (hash : List ℕ → List ℕ) (list : List (List ℕ)) → C.start store.old ≤ length list → IfSome (C.told store.old) (λ held.
+    ensures stands { (hash : List ℕ → List ℕ) (list : List (List ℕ))
+        → C.start store.old ≤ length list
+        → IfSome (C.told store.old) (λ held.
         IsHead F.shape D.bytes hash (C.start store.old) (digests_from hash F.shape 0 list) held.head
-        → IfOk result (λ tree. Stands F.shape D.bytes hash tree (digests_from hash F.shape 0 (take (C.start store.old) list)))) }
+        → IfOk result (λ tree. Stands F.shape D.bytes hash tree
+        (digests_from hash F.shape 0 (take (C.start store.old) list)))) }
     ensures start { IfOk result (λ tree. tree.start ≡ C.start store.old) }
     ensures leaves { IfOk result (λ tree. tree.leaves ≡ C.start store.old) }
-    ensures long { IfOk result (λ _. IfSome (C.told store.old) (λ held. length held.head ≡ length (trees.peaks F.shape (C.start store.old)) * D.SIZE)) }
-    ensures head { IfErr result (λ e. e ≡ Error.DataCorrupted Corrupt.HeadDoesNotMatch → IfSome (C.told store.old) (λ held. length held.head ≢ length (trees.peaks F.shape (C.start store.old)) * D.SIZE)) }
-    ensures never { IfErr result (λ e. (e ≡ Error.Memory) ⊎ ((e ≡ Error.Journal JournalError.Store) ⊎ (e ≡ Error.DataCorrupted Corrupt.HeadDoesNotMatch))) }
+    ensures long { IfOk result (λ _. IfSome (C.told store.old) (λ held.
+        length held.head ≡ length (trees.peaks F.shape (C.start store.old)) * D.SIZE)) }
+    ensures head { IfErr result (λ e. e ≡ Error.DataCorrupted Corrupt.HeadDoesNotMatch
+        → IfSome (C.told store.old) (λ held.
+        length held.head ≢ length (trees.peaks F.shape (C.start store.old)) * D.SIZE)) }
+    ensures never { IfErr result (λ e. (e ≡ Error.Memory)
+        ⊎ ((e ≡ Error.Journal JournalError.Store)
+        ⊎ (e ≡ Error.DataCorrupted Corrupt.HeadDoesNotMatch))) }
     ensures kept { IsKept C.Store store.old store.new }
-    ensures cause { IsCause (C.faults store.old) (C.faults store.new) (IsErrOf result (Error.Journal JournalError.Store)) }
+    ensures cause { IsCause (C.faults store.old) (C.faults store.new)
+        (IsErrOf result (Error.Journal JournalError.Store)) }
 {
     let (start, _) = store.bounds();
     let start = Location::new(start);
@@ -696,7 +840,8 @@ fn bare_tree<F: Family, D: Digest>(
     requires count { count ≡ length (trees.peaks F.shape start) }
     requires long { length bytes.now ≡ count * D.SIZE }
     ensures start { IfOk result (λ tree. (tree.start ≡ start) × (tree.leaves ≡ start)) }
-    ensures pins { IfOk result (λ tree. (length tree.pins ≡ count) × (concat (map D.bytes tree.pins) ≡ bytes.now)) }
+    ensures pins { IfOk result (λ tree.
+        (length tree.pins ≡ count) × (concat (map D.bytes tree.pins) ≡ bytes.now)) }
 {
     let mut pins = Vec::with_capacity(alloc, count)?;
     let mut rest = bytes;
@@ -721,10 +866,14 @@ fn read_digests<F: Family, C: Store, H: Hasher>(
     requires end { size ≤ C.end store.old }
     requires few { size ≤ 2 ^ 62 }
     ensures count { IfOk result (λ v. length v.items ≡ size - start) }
-    ensures digests { IfOk result (λ v. IfSome (C.told store.old) (λ held. map H.Digest.bytes v.items ≡ digests_from H.hash F.shape start (take (size - start) held.items))) }
-    ensures never { IfErr result (λ e. (e ≡ Error.Memory) ⊎ (e ≡ Error.Journal JournalError.Store)) }
+    ensures digests { IfOk result (λ v.
+        IfSome (C.told store.old) (λ held. map H.Digest.bytes v.items
+        ≡ digests_from H.hash F.shape start (take (size - start) held.items))) }
+    ensures never { IfErr result (λ e.
+        (e ≡ Error.Memory) ⊎ (e ≡ Error.Journal JournalError.Store)) }
     ensures kept { IsKept C.Store store.old store.new }
-    ensures cause { IsCause (C.faults store.old) (C.faults store.new) (IsErrOf result (Error.Journal JournalError.Store)) }
+    ensures cause { IsCause (C.faults store.old) (C.faults store.new)
+        (IsErrOf result (Error.Journal JournalError.Store)) }
 {
     let mut made = Vec::with_capacity(alloc, (size - start) as usize)?;
     for at in start..size {
@@ -744,7 +893,10 @@ fn add_items<F: Family, H: Hasher>(
     requires { tree.old.leaves + length items.now ≤ 2 ^ 62 }
     ensures start { OnOk result (tree.new.start ≡ tree.old.start) }
     ensures leaves { OnOk result (tree.new.leaves ≡ tree.old.leaves + length items.now) }
-    ensures stands { (list : List (List ℕ)) → Stands F.shape H.Digest.bytes H.hash tree.old (digests_from H.hash F.shape 0 list) → OnOk result (Stands F.shape H.Digest.bytes H.hash tree.new (digests_from H.hash F.shape 0 (list ++ map (λ v. v.items) items.now))) }
+    ensures stands { (list : List (List ℕ))
+        → Stands F.shape H.Digest.bytes H.hash tree.old (digests_from H.hash F.shape 0 list)
+        → OnOk result (Stands F.shape H.Digest.bytes H.hash tree.new
+        (digests_from H.hash F.shape 0 (list ++ map (λ v. v.items) items.now))) }
     ensures err { OnErr result (tree.new ≡ tree.old) }
 {
     let batch = grown_by_items(alloc, tree, hasher, items)?;
@@ -759,7 +911,8 @@ fn item_digests<F: Family, H: Hasher>(
     items: &[Vec<u8>],
 ) -> Result<Vec<H::Digest>, AllocError>
     requires { from + length items.now ≤ 2 ^ 62 }
-    ensures { IfOk result (λ v. map H.Digest.bytes v.items ≡ digests_from H.hash F.shape from (map (λ v. v.items) items.now)) }
+    ensures { IfOk result (λ v. map H.Digest.bytes v.items
+        ≡ digests_from H.hash F.shape from (map (λ v. v.items) items.now)) }
 {
     let mut made = Vec::with_capacity(alloc, items.len())?;
     for (index, item) in items.iter().enumerate() {
@@ -778,7 +931,9 @@ fn add_leaves<F: Family, H: Hasher>(
     requires { tree.old.leaves + length digests.now ≤ 2 ^ 62 }
     ensures start { OnOk result (tree.new.start ≡ tree.old.start) }
     ensures leaves { OnOk result (tree.new.leaves ≡ tree.old.leaves + length digests.now) }
-    ensures stands { (list : List (List ℕ)) → Stands F.shape H.Digest.bytes H.hash tree.old list → OnOk result (Stands F.shape H.Digest.bytes H.hash tree.new (list ++ map H.Digest.bytes digests.now)) }
+    ensures stands { (list : List (List ℕ)) → Stands F.shape H.Digest.bytes H.hash tree.old list
+        → OnOk result
+        (Stands F.shape H.Digest.bytes H.hash tree.new (list ++ map H.Digest.bytes digests.now)) }
     ensures err { OnErr result (tree.new ≡ tree.old) }
 {
     let batch = grown(alloc, tree, hasher, digests)?;
@@ -797,9 +952,14 @@ fn grown_by_items<F: Family, H: Hasher>(
     ensures start { IfOk result (λ b. b.newest.tree.start ≡ tree.now.leaves) }
     ensures older { IfOk result (λ b. b.older ≡ []) }
     ensures adding { IfOk result (λ b. IsAdding F.shape b.newest) }
-    ensures reach { IfOk result (λ b. Contains (stops b.newest.tree.leaves (all_layers b)) tree.now.leaves) }
-    ensures history { (list : List (List ℕ)) → Stands F.shape H.Digest.bytes H.hash tree.now (digests_from H.hash F.shape 0 list)
-        → IfOk result (λ b. IsHistory F.shape H.Digest.bytes H.hash (all_layers b) (digests_from H.hash F.shape 0 (list ++ map (λ v. v.items) items.now) ∷ digests_from H.hash F.shape 0 list ∷ [])) }
+    ensures reach { IfOk result (λ b.
+        Contains (stops b.newest.tree.leaves (all_layers b)) tree.now.leaves) }
+    ensures history { (list : List (List ℕ))
+        → Stands F.shape H.Digest.bytes H.hash tree.now (digests_from H.hash F.shape 0 list)
+        → IfOk result (λ b.
+        IsHistory F.shape H.Digest.bytes H.hash (all_layers b) (digests_from H.hash F.shape 0
+        (list ++ map (λ v. v.items) items.now) ∷ digests_from H.hash F.shape 0 list
+        ∷ [])) }
 {
     let size = tree.leaves().get();
     let digests = item_digests::<F, H>(alloc, hasher, size, items)?;
@@ -814,13 +974,16 @@ fn grown<F: Family, H: Hasher>(
     digests: &[H::Digest],
 ) -> Result<MerkleizedBatch<F, H::Digest>, AllocError>
     requires { tree.now.leaves + length digests.now ≤ 2 ^ 62 }
-    ensures leaves { IfOk result (λ b. b.newest.tree.leaves ≡ tree.now.leaves + length digests.now) }
+    ensures leaves { IfOk result (λ b.
+        b.newest.tree.leaves ≡ tree.now.leaves + length digests.now) }
     ensures start { IfOk result (λ b. b.newest.tree.start ≡ tree.now.leaves) }
     ensures older { IfOk result (λ b. b.older ≡ []) }
     ensures adding { IfOk result (λ b. IsAdding F.shape b.newest) }
-    ensures reach { IfOk result (λ b. Contains (stops b.newest.tree.leaves (all_layers b)) tree.now.leaves) }
+    ensures reach { IfOk result (λ b.
+        Contains (stops b.newest.tree.leaves (all_layers b)) tree.now.leaves) }
     ensures history { (list : List (List ℕ)) → Stands F.shape H.Digest.bytes H.hash tree.now list
-        → IfOk result (λ b. IsHistory F.shape H.Digest.bytes H.hash (all_layers b) ((list ++ map H.Digest.bytes digests.now) ∷ list ∷ [])) }
+        → IfOk result (λ b. IsHistory F.shape H.Digest.bytes H.hash (all_layers b)
+        ((list ++ map H.Digest.bytes digests.now) ∷ list ∷ [])) }
 {
     let draft = tree.new_batch(alloc);
     grown_behind(alloc, tree, hasher, draft, digests)
@@ -842,9 +1005,12 @@ fn grown_behind<F: Family, H: Hasher>(
     ensures start { IfOk result (λ b. b.newest.tree.start ≡ draft.base) }
     ensures older { IfOk result (λ b. b.older ≡ draft.layers) }
     ensures adding { IfOk result (λ b. IsAdding F.shape b.newest) }
-    ensures history { (list base : List (List ℕ)) (lists : List (List (List ℕ))) → Stands F.shape H.Digest.bytes H.hash tree.now list
-        → IsHistory F.shape H.Digest.bytes H.hash draft.layers (base ∷ lists) → Contains (base ∷ lists) list
-        → IfOk result (λ b. IsHistory F.shape H.Digest.bytes H.hash (all_layers b) ((base ++ map H.Digest.bytes digests.now) ∷ base ∷ lists)) }
+    ensures history { (list base : List (List ℕ)) (lists : List (List (List ℕ)))
+        → Stands F.shape H.Digest.bytes H.hash tree.now list
+        → IsHistory F.shape H.Digest.bytes H.hash draft.layers (base ∷ lists)
+        → Contains (base ∷ lists) list
+        → IfOk result (λ b. IsHistory F.shape H.Digest.bytes H.hash (all_layers b)
+        ((base ++ map H.Digest.bytes digests.now) ∷ base ∷ lists)) }
 {
     let mut draft = draft;
     draft.add_leaf_digests(digests)?;
@@ -858,7 +1024,8 @@ fn leaf_digest<F: Family, H: Hasher>(
     item: &[u8],
 ) -> H::Digest
     requires { at ≤ 2 ^ 62 }
-    ensures { H.Digest.bytes result ≡ trees.leaf_digest H.hash (trees.Shape.position F.shape (trees.leaf at)) item.now }
+    ensures { H.Digest.bytes result
+        ≡ trees.leaf_digest H.hash (trees.Shape.position F.shape (trees.leaf at)) item.now }
 {
     let position: Position<F> = F::location_to_position(Location::new(at));
     hasher.leaf_digest(position, item)

@@ -41,7 +41,9 @@ impl<F, K: ByteString, V: ByteString> Policy<F, K, V> for Expiry {
         _alloc: Global,
         live: Entry<'a, F, K, V>,
     ) -> Result<Decision<'a, V>, AllocError>
-        ensures action { IfOk result (λ d. action_view V.bytes d ≡ (if nat_lt (slice_index_or (V.bytes live.entry.value) 0 0) self.old.block then walk.evict else walk.write (V.bytes live.entry.value))) }
+        ensures action { IfOk result (λ d. action_view V.bytes d
+            ≡ (if nat_lt (slice_index_or (V.bytes live.entry.value) 0 0) self.old.block then
+            walk.evict else walk.write (V.bytes live.entry.value))) }
         ensures next { IfOk result (λ _. self.new ≡ self.old) }
     {
         let first = live.value().as_bytes().first().copied().unwrap_or(0);

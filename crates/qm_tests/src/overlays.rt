@@ -59,7 +59,8 @@ fn laid(
     alloc: Global,
     base: &Prunable<Chunk32>,
 ) -> Result<Option<Vec<Rc<ChunkOverlay<Chunk32>>>>, AllocError>
-    ensures { IfOk result (λ laid. IfSome laid (λ layers. AreStacked ⟦<Chunk32 as Chunks>⟧.LEN (map (λ r. r.value) layers.items) base.now)) }
+    ensures { IfOk result (λ laid. IfSome laid (λ layers.
+        AreStacked ⟦<Chunk32 as Chunks>⟧.LEN (map (λ r. r.value) layers.items) base.now)) }
 {
     let bits = pushed(alloc, BitmapBatch::new(alloc, base), 0)?;
     let bits = pushed(alloc, bits, 2)?;

@@ -26,7 +26,8 @@ fn listed_update<U: Update>(
     alloc: Global,
     update: &U,
 ) -> Result<Listed<U::Key, U::Value>, AllocError>
-    ensures { IfOk result (λ listed. listed_view U.Key.bytes U.Value.bytes listed ≡ U.view update.now) }
+    ensures { IfOk result (λ listed.
+        listed_view U.Key.bytes U.Value.bytes listed ≡ U.view update.now) }
 {
     let (key, value, next) = update.parts();
     let key = key.twin(alloc)?;
@@ -45,7 +46,8 @@ fn listed_entry<F, U: Update>(
     alloc: Global,
     operation: &Operation<F, U>,
 ) -> Result<Listed<U::Key, U::Value>, AllocError>
-    ensures { IfOk result (λ listed. listed_view U.Key.bytes U.Value.bytes listed ≡ operation_view U.view U.Key.bytes U.Value.bytes operation.now) }
+    ensures { IfOk result (λ listed. listed_view U.Key.bytes U.Value.bytes listed
+        ≡ operation_view U.view U.Key.bytes U.Value.bytes operation.now) }
 {
     match operation {
         Operation::Update(update) => listed_update(alloc, update),
@@ -65,7 +67,8 @@ pub(crate) fn listed<F, U: Update>(
     alloc: Global,
     operations: &[Operation<F, U>],
 ) -> Result<Vec<Listed<U::Key, U::Value>>, AllocError>
-    ensures { IfOk result (λ list. map (listed_view U.Key.bytes U.Value.bytes) list.items ≡ operation_views U.view U.Key.bytes U.Value.bytes operations.now) }
+    ensures { IfOk result (λ list. map (listed_view U.Key.bytes U.Value.bytes) list.items
+        ≡ operation_views U.view U.Key.bytes U.Value.bytes operations.now) }
 {
     let mut list = Vec::new(alloc);
     for operation in operations {
@@ -79,7 +82,9 @@ pub(crate) fn listed<F, U: Update>(
 pub(crate) fn span_from<F, U: Update>(
     found: Option<(Location<F>, U)>,
 ) -> Option<Span<U::Key, U::Value>>
-    ensures { U.form.ordered ≡ true → option_map located (option_map (span_view U.Key.bytes U.Value.bytes) result) ≡ option_map (read_view U.view) found }
+    ensures { U.form.ordered ≡ true
+        → option_map located (option_map (span_view U.Key.bytes U.Value.bytes) result)
+        ≡ option_map (read_view U.view) found }
 {
     let (location, update) = found?;
     let (key, value, next) = update.into_parts();

@@ -51,10 +51,16 @@ fn collected<
     most: u64,
 ) -> Result<Vec<(U::Key, U::Value)>, Error>
     requires { U.form.ordered ≡ true }
-    ensures pairs { (list : List Operation) → IsDatabase C.Store ⟦<Db<F, C, I, H, U, N> as LaidOut>⟧.layout db.old list → length (left_of I.index_key scan.old list) ≤ most
-        → IfOk result (λ pairs. map (pair_view U.Key.bytes U.Value.bytes) pairs.items ≡ left_of I.index_key scan.old list) }
+    ensures pairs { (list : List Operation)
+        → IsDatabase C.Store ⟦<Db<F, C, I, H, U, N> as LaidOut>⟧.layout db.old list
+        → length (left_of I.index_key scan.old list) ≤ most
+        → IfOk result (λ pairs.
+        map (pair_view U.Key.bytes U.Value.bytes) pairs.items ≡ left_of I.index_key scan.old list) }
     ensures error { IfErr result (IsReadError C.Store db.old.log db.new.log) }
-    ensures whole { (list : List Operation) → IsDatabase C.Store ⟦<Db<F, C, I, H, U, N> as LaidOut>⟧.layout db.old list → NoneBelow db.old.log.tree.start list → IfErr result (λ e. (n : ℕ) → e ≢ Error.Journal (JournalError.ItemPruned n)) }
+    ensures whole { (list : List Operation)
+        → IsDatabase C.Store ⟦<Db<F, C, I, H, U, N> as LaidOut>⟧.layout db.old list
+        → NoneBelow db.old.log.tree.start list
+        → IfErr result (λ e. (n : ℕ) → e ≢ Error.Journal (JournalError.ItemPruned n)) }
     ensures left { IsLeft C.Store ⟦<Db<F, C, I, H, U, N> as LaidOut>⟧.layout.hashing db.old db.new }
 {
     let mut pairs = Vec::new(alloc);
@@ -82,10 +88,15 @@ pub(crate) fn pairs_of<
     high: &Bound<U::Key>,
 ) -> Result<Vec<(U::Key, U::Value)>, Error>
     requires { U.form.ordered ≡ true }
-    ensures pairs { (list : List Operation) → IsDatabase C.Store ⟦<Db<F, C, I, H, U, N> as LaidOut>⟧.layout db.old list
-        → IfOk result (λ pairs. map (pair_view U.Key.bytes U.Value.bytes) pairs.items ≡ pairs_in (limit_of U.Key.bytes low.now) (limit_of U.Key.bytes high.now) list) }
+    ensures pairs { (list : List Operation)
+        → IsDatabase C.Store ⟦<Db<F, C, I, H, U, N> as LaidOut>⟧.layout db.old list
+        → IfOk result (λ pairs. map (pair_view U.Key.bytes U.Value.bytes) pairs.items
+        ≡ pairs_in (limit_of U.Key.bytes low.now) (limit_of U.Key.bytes high.now) list) }
     ensures error { IfErr result (IsReadError C.Store db.old.log db.new.log) }
-    ensures whole { (list : List Operation) → IsDatabase C.Store ⟦<Db<F, C, I, H, U, N> as LaidOut>⟧.layout db.old list → NoneBelow db.old.log.tree.start list → IfErr result (λ e. (n : ℕ) → e ≢ Error.Journal (JournalError.ItemPruned n)) }
+    ensures whole { (list : List Operation)
+        → IsDatabase C.Store ⟦<Db<F, C, I, H, U, N> as LaidOut>⟧.layout db.old list
+        → NoneBelow db.old.log.tree.start list
+        → IfErr result (λ e. (n : ℕ) → e ≢ Error.Journal (JournalError.ItemPruned n)) }
     ensures left { IsLeft C.Store ⟦<Db<F, C, I, H, U, N> as LaidOut>⟧.layout.hashing db.old db.new }
 {
     let live = db.active_keys();
@@ -100,7 +111,8 @@ fn firsts<K: ByteString, V: ByteString>(
     alloc: Global,
     pairs: Vec<(K, V)>,
 ) -> Result<Vec<K>, AllocError>
-    ensures { IfOk result (λ keys. map K.bytes keys.items ≡ map (λ p. p.0) (map (pair_view K.bytes V.bytes) pairs.items)) }
+    ensures { IfOk result (λ keys.
+        map K.bytes keys.items ≡ map (λ p. p.0) (map (pair_view K.bytes V.bytes) pairs.items)) }
 {
     let mut keys = Vec::new(alloc);
     for (key, _) in pairs {
@@ -124,10 +136,15 @@ pub(crate) fn keys_of<
     high: &Bound<U::Key>,
 ) -> Result<Vec<U::Key>, Error>
     requires { U.form.ordered ≡ true }
-    ensures keys { (list : List Operation) → IsDatabase C.Store ⟦<Db<F, C, I, H, U, N> as LaidOut>⟧.layout db.old list
-        → IfOk result (λ keys. map U.Key.bytes keys.items ≡ keys_in (limit_of U.Key.bytes low.now) (limit_of U.Key.bytes high.now) list) }
+    ensures keys { (list : List Operation)
+        → IsDatabase C.Store ⟦<Db<F, C, I, H, U, N> as LaidOut>⟧.layout db.old list
+        → IfOk result (λ keys. map U.Key.bytes keys.items
+        ≡ keys_in (limit_of U.Key.bytes low.now) (limit_of U.Key.bytes high.now) list) }
     ensures error { IfErr result (IsReadError C.Store db.old.log db.new.log) }
-    ensures whole { (list : List Operation) → IsDatabase C.Store ⟦<Db<F, C, I, H, U, N> as LaidOut>⟧.layout db.old list → NoneBelow db.old.log.tree.start list → IfErr result (λ e. (n : ℕ) → e ≢ Error.Journal (JournalError.ItemPruned n)) }
+    ensures whole { (list : List Operation)
+        → IsDatabase C.Store ⟦<Db<F, C, I, H, U, N> as LaidOut>⟧.layout db.old list
+        → NoneBelow db.old.log.tree.start list
+        → IfErr result (λ e. (n : ℕ) → e ≢ Error.Journal (JournalError.ItemPruned n)) }
     ensures left { IsLeft C.Store ⟦<Db<F, C, I, H, U, N> as LaidOut>⟧.layout.hashing db.old db.new }
 {
     let pairs = pairs_of(alloc, db, low, high)?;

@@ -18,7 +18,8 @@ use std::rc::Rc;
 // The greatest key before a limit, where keys ascend. It is looked for by halves.
 fn last_before<'a, K: ByteString, E>(entries: &'a [(K, E)], limit: Bound<&[u8]>) -> Option<&'a [u8]>
     requires { IsAscending (map (λ e. K.bytes e.0) entries.now) }
-    ensures { option_map (λ k. k.now) result ≡ last_key (limit_view limit.entry) (map (λ e. K.bytes e.0) entries.now) }
+    ensures { option_map (λ k. k.now) result
+        ≡ last_key (limit_view limit.entry) (map (λ e. K.bytes e.0) entries.now) }
 {
     let mut rest = entries;
     let mut last = None;
@@ -38,7 +39,8 @@ fn last_before<'a, K: ByteString, E>(entries: &'a [(K, E)], limit: Bound<&[u8]>)
 
 // The greatest key before a limit to which a layer does anything.
 fn last_of<'a, F, U: Update>(layer: &'a Layer<F, U>, limit: Bound<&[u8]>) -> Option<&'a [u8]>
-    ensures { option_map (λ k. k.now) result ≡ last_key (limit_view limit.entry) (map (λ c. c.0) layer.now.changes) }
+    ensures { option_map (λ k. k.now) result
+        ≡ last_key (limit_view limit.entry) (map (λ c. c.0) layer.now.changes) }
 {
     last_before(layer.diff().entries(), limit)
 }
@@ -48,7 +50,8 @@ fn last_changed<'a, F, U: Update>(
     layers: &'a [Rc<Layer<F, U>>],
     limit: Bound<&[u8]>,
 ) -> Option<&'a [u8]>
-    ensures { option_map (λ k. k.now) result ≡ last_key (limit_view limit.entry) (changed_keys (map (λ l. l.value) layers.now)) }
+    ensures { option_map (λ k. k.now) result
+        ≡ last_key (limit_view limit.entry) (changed_keys (map (λ l. l.value) layers.now)) }
 {
     let mut last = None;
     for layer in layers {
@@ -72,7 +75,8 @@ fn last_left<'a, F, U: Update>(
     layers: &'a [Rc<Layer<F, U>>],
     limit: Bound<&[u8]>,
 ) -> Option<&'a [u8]>
-    ensures { option_map (λ k. k.now) result ≡ last_key (limit_view limit.entry) (left_keys (map (λ l. l.value) layers.now)) }
+    ensures { option_map (λ k. k.now) result
+        ≡ last_key (limit_view limit.entry) (left_keys (map (λ l. l.value) layers.now)) }
 {
     let mut limit = limit;
     while let Some(key) = last_changed(layers, limit) {
@@ -89,7 +93,8 @@ pub(crate) fn left_before<'a, F, U: Update>(
     layers: &'a [Rc<Layer<F, U>>],
     key: &[u8],
 ) -> Option<&'a [u8]>
-    ensures { option_map (λ k. k.now) result ≡ predecessor (left_keys (map (λ l. l.value) layers.now)) key.now }
+    ensures { option_map (λ k. k.now) result
+        ≡ predecessor (left_keys (map (λ l. l.value) layers.now)) key.now }
 {
     match last_left(layers, Bound::Excluded(key)) {
         Some(below) => Some(below),
@@ -103,7 +108,8 @@ pub(crate) fn update_left<F, U: Update>(
     layers: &[Rc<Layer<F, U>>],
     key: &[u8],
 ) -> Result<Option<(Location<F>, U)>, Error>
-    ensures value { IfOk result (λ found. option_map (read_view U.view) found ≡ left_by (map (λ l. l.value) layers.now) key.now) }
+    ensures value { IfOk result (λ found.
+        option_map (read_view U.view) found ≡ left_by (map (λ l. l.value) layers.now) key.now) }
     ensures memory { IfErr result (λ e. e ≡ Error.Memory) }
 {
     match newest(layers, key) {

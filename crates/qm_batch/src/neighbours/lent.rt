@@ -29,11 +29,16 @@ pub(crate) fn last_lent<F, I: qm_index::Unordered<Value = Location<F>>, L: Items
     limit: Bound<&[u8]>,
 ) -> Result<Option<(Location<F>, U)>, Error>
     requires { U.form.ordered ≡ true }
-    ensures value { (lent : List model.Operation) → IsLent L.reads U.form I.index_key (I.entries index.now) log.old lent
-        → IfSome (L.reads.told log.old) (λ _. IfOk result (λ found. option_map (read_view U.view) found ≡ lent_before I.index_key (I.entries index.now) lent key.now (limit_view limit.entry))) }
+    ensures value { (lent : List model.Operation)
+        → IsLent L.reads U.form I.index_key (I.entries index.now) log.old lent
+        → IfSome (L.reads.told log.old) (λ _.
+        IfOk result (λ found. option_map (read_view U.view) found
+        ≡ lent_before I.index_key (I.entries index.now) lent key.now (limit_view limit.entry))) }
     ensures read { IsRead L.reads log.old log.new }
     ensures error { IfErr result (IsReadError L.reads log.old log.new) }
-    ensures whole { (lent : List model.Operation) → IsLent L.reads U.form I.index_key (I.entries index.now) log.old lent → NoneBelow (L.reads.start log.old) lent
+    ensures whole { (lent : List model.Operation)
+        → IsLent L.reads U.form I.index_key (I.entries index.now) log.old lent
+        → NoneBelow (L.reads.start log.old) lent
         → IfErr result (λ e. (n : ℕ) → e ≢ Error.Journal (JournalError.ItemPruned n)) }
     ensures index { IsIndex (I.entries index.now) }
 {
@@ -53,11 +58,15 @@ fn last_at<F, L: Items, U: Update>(
     locations: &[Location<F>],
     limit: Bound<&[u8]>,
 ) -> Result<Option<(Location<F>, U)>, Error>
-    ensures value { (list : List model.Operation) → L.reads.logged log.old (map (spelling U.form) list) → All (IsOf U.form) list
-        → IfSome (L.reads.told log.old) (λ _. IfOk result (λ found. option_map (read_view U.view) found ≡ fold (later_at (limit_view limit.entry) list) None locations.now)) }
+    ensures value { (list : List model.Operation)
+        → L.reads.logged log.old (map (spelling U.form) list) → All (IsOf U.form) list
+        → IfSome (L.reads.told log.old) (λ _.
+        IfOk result (λ found. option_map (read_view U.view) found
+        ≡ fold (later_at (limit_view limit.entry) list) None locations.now)) }
     ensures read { IsRead L.reads log.old log.new }
     ensures error { IfErr result (IsReadError L.reads log.old log.new) }
-    ensures pruned { All (λ at. L.reads.start log.old ≤ at) locations.now → IfErr result (λ e. (n : ℕ) → e ≢ Error.Journal (JournalError.ItemPruned n)) }
+    ensures pruned { All (λ at. L.reads.start log.old ≤ at) locations.now
+        → IfErr result (λ e. (n : ℕ) → e ≢ Error.Journal (JournalError.ItemPruned n)) }
 {
     let mut last: Option<(Location<F>, U)> = None;
     for location in locations {
@@ -74,7 +83,9 @@ fn or_last<F, U: Update>(
     update: Option<U>,
     last: Option<(Location<F>, U)>,
 ) -> Option<(Location<F>, U)>
-    ensures { option_map (read_view U.view) result ≡ option_or (option_map (λ op. (at, op)) (option_map U.view update)) (option_map (read_view U.view) last) }
+    ensures { option_map (read_view U.view) result
+        ≡ option_or (option_map (λ op. (at, op)) (option_map U.view update))
+        (option_map (read_view U.view) last) }
 {
     match update {
         Some(update) => Some((Location::new(at), update)),
@@ -84,7 +95,8 @@ fn or_last<F, U: Update>(
 
 // The key of an update, where there is one.
 fn key_in<F, U: Update>(found: &Option<(Location<F>, U)>) -> Option<&[u8]>
-    ensures { option_map (λ k. k.now) result ≡ option_map (λ p. said_key p.1) (option_map (read_view U.view) found.now) }
+    ensures { option_map (λ k. k.now) result
+        ≡ option_map (λ p. said_key p.1) (option_map (read_view U.view) found.now) }
 {
     match found {
         Some((_, update)) => Some(update.key().as_bytes()),
@@ -101,11 +113,15 @@ fn read_within<L: Items, U: Update>(
     above: Option<&[u8]>,
     limit: Bound<&[u8]>,
 ) -> Result<Option<U>, Error>
-    ensures value { (list : List model.Operation) → L.reads.logged log.old (map (spelling U.form) list) → All (IsOf U.form) list
-        → IfSome (L.reads.told log.old) (λ _. IfOk result (λ update. option_map U.view update ≡ only_within (option_map (λ k. k.now) above.entry) (limit_view limit.entry) (update_at list at))) }
+    ensures value { (list : List model.Operation)
+        → L.reads.logged log.old (map (spelling U.form) list) → All (IsOf U.form) list
+        → IfSome (L.reads.told log.old) (λ _. IfOk result (λ update. option_map U.view update
+        ≡ only_within (option_map (λ k. k.now) above.entry) (limit_view limit.entry)
+        (update_at list at))) }
     ensures read { IsRead L.reads log.old log.new }
     ensures error { IfErr result (IsReadError L.reads log.old log.new) }
-    ensures pruned { L.reads.start log.old ≤ at → IfErr result (λ e. (n : ℕ) → e ≢ Error.Journal (JournalError.ItemPruned n)) }
+    ensures pruned { L.reads.start log.old ≤ at
+        → IfErr result (λ e. (n : ℕ) → e ≢ Error.Journal (JournalError.ItemPruned n)) }
 {
     match log.read_item(at)? {
         Some(item) => update_within(alloc, &item, above, limit),
@@ -120,7 +136,9 @@ fn update_within<U: Update>(
     above: Option<&[u8]>,
     limit: Bound<&[u8]>,
 ) -> Result<Option<U>, Error>
-    ensures value { (op : model.Operation) → IsSpelling U.form item.now op → IfOk result (λ update. option_map U.view update ≡ only_within (option_map (λ k. k.now) above.entry) (limit_view limit.entry) (said_by op)) }
+    ensures value { (op : model.Operation) → IsSpelling U.form item.now op
+        → IfOk result (λ update. option_map U.view update
+        ≡ only_within (option_map (λ k. k.now) above.entry) (limit_view limit.entry) (said_by op)) }
     ensures memory { IfErr result (λ e. e ≡ Error.Memory) }
 {
     match Operation::<(), U>::update_key(item) {

@@ -34,12 +34,19 @@ pub(crate) fn written_over<
     reads: &[Read<F, U>],
     last: &Last<'_, U::Key, U::Value>,
 ) -> Result<Vec<Touch<F, U>>, Error>
-    ensures value { (lent base : List model.Operation) (ws : List writes.Write) → IsLent L.reads U.form I.index_key (I.entries index.now) log.old lent → LeadOver (map (λ l. l.value) layers.now) lent base
-        → HasRing U.form lent → HasRing U.form base → AreReads U.view U.Key.bytes reads.now base → map (last_view U.Key.bytes U.Value.bytes) last.now.entries ≡ map keyed (writes.last_writes ws)
-        → IfSome (L.reads.told log.old) (λ _. IfOk result (λ touches. AreWritten (kind_of U.form) base ws (touch_views U.view U.Key.bytes U.Value.bytes touches.items))) }
+    ensures value { (lent base : List model.Operation) (ws : List writes.Write)
+        → IsLent L.reads U.form I.index_key (I.entries index.now) log.old lent
+        → LeadOver (map (λ l. l.value) layers.now) lent base → HasRing U.form lent
+        → HasRing U.form base → AreReads U.view U.Key.bytes reads.now base
+        → map (last_view U.Key.bytes U.Value.bytes) last.now.entries
+        ≡ map keyed (writes.last_writes ws)
+        → IfSome (L.reads.told log.old) (λ _. IfOk result (λ touches. AreWritten (kind_of U.form)
+        base ws (touch_views U.view U.Key.bytes U.Value.bytes touches.items))) }
     ensures read { IsRead L.reads log.old log.new }
     ensures error { IfErr result (IsReadError L.reads log.old log.new) }
-    ensures whole { (lent : List model.Operation) → IsLent L.reads U.form I.index_key (I.entries index.now) log.old lent → NoneBelow (L.reads.start log.old) lent
+    ensures whole { (lent : List model.Operation)
+        → IsLent L.reads U.form I.index_key (I.entries index.now) log.old lent
+        → NoneBelow (L.reads.start log.old) lent
         → IfErr result (λ e. (n : ℕ) → e ≢ Error.Journal (JournalError.ItemPruned n)) }
 {
     let sites = {

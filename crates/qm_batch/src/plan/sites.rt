@@ -29,7 +29,9 @@ pub(crate) fn known_of<'a, F, U: Update>(
     alloc: Global,
     reads: &'a [Read<F, U>],
 ) -> Result<Known<'a, F, U>, AllocError>
-    ensures { IfOk result (λ known. (base : List operations.Operation) → AreReads U.view U.Key.bytes reads.now base → AreKnown U.view base known.entries) }
+    ensures { IfOk result (λ known.
+        (base : List operations.Operation) → AreReads U.view U.Key.bytes reads.now base
+        → AreKnown U.view base known.entries) }
 {
     let mut known = BTreeMap::new(alloc);
     for read in reads {
@@ -47,11 +49,17 @@ fn place_of<F, I: qm_index::Unordered<Value = Location<F>>, L: Items, U: Update>
     known: &Known<'_, F, U>,
     key: &U::Key,
 ) -> Result<Option<Stands<U::Key>>, Error>
-    ensures value { (lent base : List operations.Operation) → IsLent L.reads U.form I.index_key (I.entries index.now) log.old lent → LeadOver (map (λ l. l.value) layers.now) lent base
-        → AreKnown U.view base known.now.entries → IfSome (L.reads.told log.old) (λ _. IfOk result (λ stands. option_map (stands_view U.Key.bytes) stands ≡ link_in base (U.Key.bytes key.now))) }
+    ensures value { (lent base : List operations.Operation)
+        → IsLent L.reads U.form I.index_key (I.entries index.now) log.old lent
+        → LeadOver (map (λ l. l.value) layers.now) lent base
+        → AreKnown U.view base known.now.entries
+        → IfSome (L.reads.told log.old) (λ _. IfOk result (λ stands.
+        option_map (stands_view U.Key.bytes) stands ≡ link_in base (U.Key.bytes key.now))) }
     ensures read { IsRead L.reads log.old log.new }
     ensures error { IfErr result (IsReadError L.reads log.old log.new) }
-    ensures whole { (lent : List operations.Operation) → IsLent L.reads U.form I.index_key (I.entries index.now) log.old lent → NoneBelow (L.reads.start log.old) lent
+    ensures whole { (lent : List operations.Operation)
+        → IsLent L.reads U.form I.index_key (I.entries index.now) log.old lent
+        → NoneBelow (L.reads.start log.old) lent
         → IfErr result (λ e. (n : ℕ) → e ≢ Error.Journal (JournalError.ItemPruned n)) }
 {
     match known.get(key.as_bytes()) {
@@ -69,11 +77,19 @@ pub(crate) fn find_sites<'a, F, I: qm_index::Unordered<Value = Location<F>>, L: 
     known: &Known<'_, F, U>,
     last: &Last<'a, U::Key, U::Value>,
 ) -> Result<Vec<Site<'a, U::Key, U::Value>>, Error>
-    ensures value { (lent base : List operations.Operation) → IsLent L.reads U.form I.index_key (I.entries index.now) log.old lent → LeadOver (map (λ l. l.value) layers.now) lent base
-        → AreKnown U.view base known.now.entries → IfSome (L.reads.told log.old) (λ _. IfOk result (λ sites. map (linked_view U.Key.bytes U.Value.bytes) sites.items ≡ map (λ e. linked_in base (last_write_view U.Key.bytes U.Value.bytes e.1)) last.now.entries)) }
+    ensures value { (lent base : List operations.Operation)
+        → IsLent L.reads U.form I.index_key (I.entries index.now) log.old lent
+        → LeadOver (map (λ l. l.value) layers.now) lent base
+        → AreKnown U.view base known.now.entries
+        → IfSome (L.reads.told log.old) (λ _.
+        IfOk result (λ sites. map (linked_view U.Key.bytes U.Value.bytes) sites.items
+        ≡ map (λ e. linked_in base (last_write_view U.Key.bytes U.Value.bytes e.1))
+        last.now.entries)) }
     ensures read { IsRead L.reads log.old log.new }
     ensures error { IfErr result (IsReadError L.reads log.old log.new) }
-    ensures whole { (lent : List operations.Operation) → IsLent L.reads U.form I.index_key (I.entries index.now) log.old lent → NoneBelow (L.reads.start log.old) lent
+    ensures whole { (lent : List operations.Operation)
+        → IsLent L.reads U.form I.index_key (I.entries index.now) log.old lent
+        → NoneBelow (L.reads.start log.old) lent
         → IfErr result (λ e. (n : ℕ) → e ≢ Error.Journal (JournalError.ItemPruned n)) }
 {
     let mut sites = Vec::new(alloc);

@@ -71,8 +71,10 @@ struct Found<U> {
 
 // The operation at a location of the base list, where a layer has it; else the list that is lent has the same there.
 fn in_layers<F, U: Update>(layers: &[Rc<Layer<F, U>>], at: u64) -> Option<&Operation<F, U>>
-    ensures { (lent base : List model.Operation) → LeadOver (map (λ l. l.value) layers.now) lent base → at < length base
-        → MatchOption result (slice_get base at ≡ slice_get lent at) (λ op. slice_get base at ≡ Some (operation_view U.view U.Key.bytes U.Value.bytes op.now)) }
+    ensures { (lent base : List model.Operation)
+        → LeadOver (map (λ l. l.value) layers.now) lent base → at < length base
+        → MatchOption result (slice_get base at ≡ slice_get lent at) (λ op.
+        slice_get base at ≡ Some (operation_view U.view U.Key.bytes U.Value.bytes op.now)) }
 {
     for layer in layers {
         if layer.base() <= at {
@@ -111,8 +113,11 @@ fn is_live_there<F, I: qm_index::Unordered<Value = Location<F>>, U: Update>(
     key: &[u8],
     at: u64,
 ) -> bool
-    ensures { (lent base : List model.Operation) (value : model.Bytes) (next : Option model.Bytes) → IsIndexed I.index_key (I.entries index.now) lent → LeadOver (map (λ l. l.value) layers.now) lent base
-        → update_at base at ≡ Some (update key.now value next) → result ≡ is_there (stands_at base key.now) at }
+    ensures { (lent base : List model.Operation) (value : model.Bytes) (next : Option model.Bytes)
+        → IsIndexed I.index_key (I.entries index.now) lent
+        → LeadOver (map (λ l. l.value) layers.now) lent base
+        → update_at base at ≡ Some (update key.now value next)
+        → result ≡ is_there (stands_at base key.now) at }
 {
     match newest(layers, key) {
         Some((_, entry)) => is_left_at(entry, at),
@@ -122,7 +127,8 @@ fn is_live_there<F, I: qm_index::Unordered<Value = Location<F>>, U: Update>(
 
 // The key of the update that an operation is.
 fn key_of_update<F, U: Update>(operation: &Operation<F, U>) -> Option<&[u8]>
-    ensures { option_map (λ key. key.now) result ≡ update_key (operation_view U.view U.Key.bytes U.Value.bytes operation.now) }
+    ensures { option_map (λ key. key.now) result
+        ≡ update_key (operation_view U.view U.Key.bytes U.Value.bytes operation.now) }
 {
     match operation {
         Operation::Update(update) => Some(update.key().as_bytes()),
@@ -139,9 +145,14 @@ fn is_moved<F, I: qm_index::Unordered<Value = Location<F>>, U: Update>(
     key: Option<&[u8]>,
     at: u64,
 ) -> bool
-    ensures { (lent base : List model.Operation) (made : List Made) (op : model.Operation) → IsIndexed I.index_key (I.entries index.now) lent → LeadOver (map (λ l. l.value) layers.now) lent base
-        → All (IsFrom base) made → All IsKeyed made → AreReplaced replaced.now made → slice_get base at ≡ Some op → option_map (λ k. k.now) key.entry ≡ update_key op
-        → IsMoveAt (option_map (λ said. moved_touch (at, said)) (if result then said_by op else None)) base (base ++ operations_of made) at }
+    ensures { (lent base : List model.Operation) (made : List Made) (op : model.Operation)
+        → IsIndexed I.index_key (I.entries index.now) lent
+        → LeadOver (map (λ l. l.value) layers.now) lent base → All (IsFrom base) made
+        → All IsKeyed made → AreReplaced replaced.now made → slice_get base at ≡ Some op
+        → option_map (λ k. k.now) key.entry ≡ update_key op
+        → IsMoveAt
+        (option_map (λ said. moved_touch (at, said)) (if result then said_by op else None)) base
+        (base ++ operations_of made) at }
 {
     match key {
         Some(key) => {
@@ -163,12 +174,17 @@ fn unreplaced_at<F, I: qm_index::Unordered<Value = Location<F>>, L: Items, U: Up
     replaced: &BTreeSet<u64>,
     at: u64,
 ) -> Result<Option<U>, Error>
-    ensures value { (lent base : List model.Operation) (made : List Made) → IsLent L.reads U.form I.index_key (I.entries index.now) log.old lent → LeadOver (map (λ l. l.value) layers.now) lent base → at < length base
+    ensures value { (lent base : List model.Operation) (made : List Made)
+        → IsLent L.reads U.form I.index_key (I.entries index.now) log.old lent
+        → LeadOver (map (λ l. l.value) layers.now) lent base → at < length base
         → All (IsFrom base) made → All IsKeyed made → AreReplaced replaced.now made
-        → IfSome (L.reads.told log.old) (λ _. IfOk result (λ found. IsMoveAt (option_map (λ u. moved_touch (at, U.view u)) found) base (base ++ operations_of made) at)) }
+        → IfSome (L.reads.told log.old) (λ _.
+        IfOk result (λ found. IsMoveAt (option_map (λ u. moved_touch (at, U.view u)) found) base
+        (base ++ operations_of made) at)) }
     ensures read { IsRead L.reads log.old log.new }
     ensures error { IfErr result (IsReadError L.reads log.old log.new) }
-    ensures pruned { L.reads.start log.old ≤ at → IfErr result (λ e. (n : ℕ) → e ≢ Error.Journal (JournalError.ItemPruned n)) }
+    ensures pruned { L.reads.start log.old ≤ at
+        → IfErr result (λ e. (n : ℕ) → e ≢ Error.Journal (JournalError.ItemPruned n)) }
 {
     if let Some(operation) = in_layers(layers, at) {
         return if is_moved(index, layers, replaced, key_of_update(operation), at) {
@@ -199,8 +215,12 @@ fn made_at<F, U: Update>(
     made: &[Touch<F, U>],
     place: u64,
 ) -> Result<Option<Found<U>>, Error>
-    ensures value { (base list : List model.Operation) (at : ℕ) → base ++ operations_of (touch_views U.view U.Key.bytes U.Value.bytes made.now) ≡ list → Once (operations_of (touch_views U.view U.Key.bytes U.Value.bytes made.now))
-        → All (IsFrom base) (touch_views U.view U.Key.bytes U.Value.bytes made.now) → length base ≤ at → place ≡ at - length base → IfOk result (λ found. IsMoveAt (option_map (found_view U.view) found) base list at) }
+    ensures value { (base list : List model.Operation) (at : ℕ)
+        → base ++ operations_of (touch_views U.view U.Key.bytes U.Value.bytes made.now) ≡ list
+        → Once (operations_of (touch_views U.view U.Key.bytes U.Value.bytes made.now))
+        → All (IsFrom base) (touch_views U.view U.Key.bytes U.Value.bytes made.now)
+        → length base ≤ at → place ≡ at - length base
+        → IfOk result (λ found. IsMoveAt (option_map (found_view U.view) found) base list at) }
     ensures memory { IfErr result (λ e. e ≡ Error.Memory) }
 {
     let Some(touch) = made.get(place as usize) else {
@@ -217,7 +237,8 @@ fn made_at<F, U: Update>(
 
 // The live update that stands at this location of the base list.
 fn standing<U>(update: Option<U>, at: u64) -> Option<Found<U>>
-    ensures { (view : U → model.Operation) → option_map (found_view view) result ≡ option_map (λ u. moved_touch (at, view u)) update }
+    ensures { (view : U → model.Operation)
+        → option_map (found_view view) result ≡ option_map (λ u. moved_touch (at, view u)) update }
 {
     let update = update?;
     Some(Found {
@@ -233,11 +254,15 @@ fn live_at<F, I: qm_index::Unordered<Value = Location<F>>, L: Items, U: Update>(
     log: &mut L,
     at: u64,
 ) -> Result<Option<Found<U>>, Error>
-    ensures value { (lent base list : List model.Operation) → IsLent L.reads U.form I.index_key (I.entries path.now.index.now) log.old lent → IsPath (path_view U.view U.Key.bytes U.Value.bytes path.now) lent base list
-        → IfSome (L.reads.told log.old) (λ _. IfOk result (λ found. IsMoveAt (option_map (found_view U.view) found) base list at)) }
+    ensures value { (lent base list : List model.Operation)
+        → IsLent L.reads U.form I.index_key (I.entries path.now.index.now) log.old lent
+        → IsPath (path_view U.view U.Key.bytes U.Value.bytes path.now) lent base list
+        → IfSome (L.reads.told log.old) (λ _.
+        IfOk result (λ found. IsMoveAt (option_map (found_view U.view) found) base list at)) }
     ensures read { IsRead L.reads log.old log.new }
     ensures error { IfErr result (IsReadError L.reads log.old log.new) }
-    ensures pruned { L.reads.start log.old ≤ at → IfErr result (λ e. (n : ℕ) → e ≢ Error.Journal (JournalError.ItemPruned n)) }
+    ensures pruned { L.reads.start log.old ≤ at
+        → IfErr result (λ e. (n : ℕ) → e ≢ Error.Journal (JournalError.ItemPruned n)) }
 {
     if path.base.size <= at {
         return made_at(alloc, path.made, at - path.base.size);
@@ -248,7 +273,9 @@ fn live_at<F, I: qm_index::Unordered<Value = Location<F>>, L: Items, U: Update>(
 
 // What is to be noted of a key: its new value, or none where it goes; nothing where the walk ends.
 fn value_of<V>(action: Action<V>) -> Option<Option<V>>
-    ensures { (bytes : V → model.Bytes) → option_map (λ value. option_map bytes value) result ≡ value_for (action_view bytes action) }
+    ensures { (bytes : V → model.Bytes)
+        → option_map (λ value. option_map bytes value) result
+        ≡ value_for (action_view bytes action) }
 {
     match action {
         Action::Write(value) => Some(Some(value)),
@@ -267,9 +294,17 @@ fn note<F, K: ByteString, V: ByteString>(
 ) -> Result<bool, Error>
     requires entries { 0 < going.old.walk.entries }
     requires floor { going.old.walk.floor < 2 ^ 64 - 1 }
-    ensures goes { IfOk result (λ goes. goes ≡ is_some (decided_for (K.bytes key) (option_map K.bytes next) before (action_view V.bytes action))) }
-    ensures decided { IfOk result (λ _. decided_views K.bytes V.bytes going.new.decided.items ≡ decided_views K.bytes V.bytes going.old.decided.items ++ option_to_list (decided_for (K.bytes key) (option_map K.bytes next) before (action_view V.bytes action))) }
-    ensures walk { IfOk result (λ goes. going.new.walk ≡ (if goes then record going.old.walk { floor = going.old.walk.floor + 1; entries = going.old.walk.entries - 1 } else going.old.walk)) }
+    ensures goes { IfOk result (λ goes. goes
+        ≡ is_some
+        (decided_for (K.bytes key) (option_map K.bytes next) before (action_view V.bytes action))) }
+    ensures decided { IfOk result (λ _. decided_views K.bytes V.bytes going.new.decided.items
+        ≡ decided_views K.bytes V.bytes going.old.decided.items
+        ++ option_to_list
+        (decided_for (K.bytes key) (option_map K.bytes next) before (action_view V.bytes action))) }
+    ensures walk { IfOk result (λ goes. going.new.walk
+        ≡ (if goes then record going.old.walk
+        { floor = going.old.walk.floor + 1; entries = going.old.walk.entries - 1 } else
+        going.old.walk)) }
     ensures memory { IfErr result (λ e. e ≡ Error.Memory) }
 {
     let Some(value) = value_of(action) else {
@@ -294,12 +329,19 @@ fn decide<F, U: Update, P: Policy<F, U::Key, U::Value>>(
 ) -> Result<bool, Error>
     requires entries { 0 < going.old.walk.entries }
     requires floor { going.old.walk.floor < 2 ^ 64 - 1 }
-    ensures value { IfOk result (λ goes. (base list : List model.Operation) (all : walks.Walked P) → IsMoveAt (Some (found_view U.view found)) base list going.old.walk.floor
-        → IsGoing P.rules base list (decided_views U.Key.bytes U.Value.bytes going.old.decided.items) going.old.walk policy.old all
-        → MatchBool goes (IsGoing P.rules base list (decided_views U.Key.bytes U.Value.bytes going.new.decided.items) going.new.walk policy.new all) (AreDecided base list (decided_views U.Key.bytes U.Value.bytes going.new.decided.items) going.new.walk.floor policy.new all)) }
+    ensures value { IfOk result (λ goes. (base list : List model.Operation) (all : walks.Walked P)
+        → IsMoveAt (Some (found_view U.view found)) base list going.old.walk.floor
+        → IsGoing P.rules base list
+        (decided_views U.Key.bytes U.Value.bytes going.old.decided.items) going.old.walk policy.old
+        all
+        → MatchBool goes (IsGoing P.rules base list
+        (decided_views U.Key.bytes U.Value.bytes going.new.decided.items) going.new.walk policy.new
+        all) (AreDecided base list (decided_views U.Key.bytes U.Value.bytes going.new.decided.items)
+        going.new.walk.floor policy.new all)) }
     ensures low { IfOk result (λ _. going.old.walk.floor ≤ going.new.walk.floor) }
     ensures high { IfOk result (λ _. going.new.walk.floor ≤ going.old.walk.floor + 1) }
-    ensures passed { IfOk result (λ goes. goes ≡ true → going.new.walk.floor ≡ going.old.walk.floor + 1) }
+    ensures passed { IfOk result (λ goes.
+        goes ≡ true → going.new.walk.floor ≡ going.old.walk.floor + 1) }
     ensures end { IfOk result (λ _. going.new.walk.end ≡ going.old.walk.end) }
     ensures memory { IfErr result (λ e. e ≡ Error.Memory) }
 {
@@ -316,8 +358,12 @@ fn comes_to<F>(walk: &mut Walk<F>, at: u64) -> bool
     requires { walk.old.floor ≤ at }
     ensures spent { walk.old.entries ≡ 0 → (result ≡ false) × (walk.new ≡ walk.old) }
     ensures reached { 0 < walk.old.entries → result ≡ nat_le (at - walk.old.floor) walk.old.skips }
-    ensures floor { 0 < walk.old.entries → walk.new.floor ≡ min at (walk.old.floor + walk.old.skips) }
-    ensures rest { 0 < walk.old.entries → walk.new ≡ record walk.old { floor = walk.new.floor; skips = walk.old.skips - (at - walk.old.floor) } }
+    ensures floor { 0 < walk.old.entries
+        → walk.new.floor ≡ min at (walk.old.floor + walk.old.skips) }
+    ensures rest { 0 < walk.old.entries
+        → walk.new
+        ≡ record walk.old
+        { floor = walk.new.floor; skips = walk.old.skips - (at - walk.old.floor) } }
     ensures low { walk.old.floor ≤ walk.new.floor }
     ensures high { walk.new.floor ≤ at }
     ensures end { walk.new.end ≡ walk.old.end }
@@ -342,17 +388,26 @@ fn visit<
 ) -> Result<bool, Error>
     requires low { going.old.walk.floor ≤ at }
     requires high { at < going.old.walk.end }
-    ensures value { (lent base list : List model.Operation) (all : walks.Walked P) → IsLent L.reads U.form I.index_key (I.entries path.now.index.now) log.old lent → IsPath (path_view U.view U.Key.bytes U.Value.bytes path.now) lent base list
-        → AreDead list going.old.walk.floor at → IsGoing P.rules base list (decided_views U.Key.bytes U.Value.bytes going.old.decided.items) going.old.walk policy.old all
-        → IfSome (L.reads.told log.old) (λ _. IfOk result (λ goes. MatchBool goes
-        (AreDead list going.new.walk.floor (at + 1) × IsGoing P.rules base list (decided_views U.Key.bytes U.Value.bytes going.new.decided.items) going.new.walk policy.new all)
-        (AreDecided base list (decided_views U.Key.bytes U.Value.bytes going.new.decided.items) going.new.walk.floor policy.new all))) }
+    ensures value { (lent base list : List model.Operation) (all : walks.Walked P)
+        → IsLent L.reads U.form I.index_key (I.entries path.now.index.now) log.old lent
+        → IsPath (path_view U.view U.Key.bytes U.Value.bytes path.now) lent base list
+        → AreDead list going.old.walk.floor at
+        → IsGoing P.rules base list
+        (decided_views U.Key.bytes U.Value.bytes going.old.decided.items) going.old.walk policy.old
+        all
+        → IfSome (L.reads.told log.old) (λ _.
+        IfOk result (λ goes. MatchBool goes (AreDead list going.new.walk.floor (at + 1)
+        × IsGoing P.rules base list
+        (decided_views U.Key.bytes U.Value.bytes going.new.decided.items) going.new.walk policy.new
+        all) (AreDecided base list (decided_views U.Key.bytes U.Value.bytes going.new.decided.items)
+        going.new.walk.floor policy.new all))) }
     ensures low { IfOk result (λ _. going.old.walk.floor ≤ going.new.walk.floor) }
     ensures high { IfOk result (λ _. going.new.walk.floor ≤ at + 1) }
     ensures end { IfOk result (λ _. going.new.walk.end ≡ going.old.walk.end) }
     ensures read { IsRead L.reads log.old log.new }
     ensures error { IfErr result (IsReadError L.reads log.old log.new) }
-    ensures pruned { L.reads.start log.old ≤ at → IfErr result (λ e. (n : ℕ) → e ≢ Error.Journal (JournalError.ItemPruned n)) }
+    ensures pruned { L.reads.start log.old ≤ at
+        → IfErr result (λ e. (n : ℕ) → e ≢ Error.Journal (JournalError.ItemPruned n)) }
 {
     prove!(at < going.walk.end.get());
     if !comes_to(&mut going.walk, at) {
@@ -381,18 +436,28 @@ fn visit_all<
     next: Location<F>,
 ) -> Result<Option<Location<F>>, Error>
     requires { IsSpaced going.old.walk.floor round.now going.old.walk.end }
-    ensures value { (lent base list : List model.Operation) (all : walks.Walked P) → IsLent L.reads U.form I.index_key (I.entries path.now.index.now) log.old lent → IsPath (path_view U.view U.Key.bytes U.Value.bytes path.now) lent base list
-        → AreDeadBetween list going.old.walk.floor round.now next → IsGoing P.rules base list (decided_views U.Key.bytes U.Value.bytes going.old.decided.items) going.old.walk policy.old all
+    ensures value { (lent base list : List model.Operation) (all : walks.Walked P)
+        → IsLent L.reads U.form I.index_key (I.entries path.now.index.now) log.old lent
+        → IsPath (path_view U.view U.Key.bytes U.Value.bytes path.now) lent base list
+        → AreDeadBetween list going.old.walk.floor round.now next
+        → IsGoing P.rules base list
+        (decided_views U.Key.bytes U.Value.bytes going.old.decided.items) going.old.walk policy.old
+        all
         → IfSome (L.reads.told log.old) (λ _. IfOk result (λ next. MatchOption next
-        (AreDecided base list (decided_views U.Key.bytes U.Value.bytes going.new.decided.items) going.new.walk.floor policy.new all)
-        (λ next. AreDead list going.new.walk.floor next × IsGoing P.rules base list (decided_views U.Key.bytes U.Value.bytes going.new.decided.items) going.new.walk policy.new all))) }
+        (AreDecided base list (decided_views U.Key.bytes U.Value.bytes going.new.decided.items)
+        going.new.walk.floor policy.new all) (λ next. AreDead list going.new.walk.floor next
+        × IsGoing P.rules base list
+        (decided_views U.Key.bytes U.Value.bytes going.new.decided.items) going.new.walk policy.new
+        all))) }
     ensures next { IfOk result (λ found. IfSome found (λ n. n ≡ next)) }
     ensures low { IfOk result (λ _. going.old.walk.floor ≤ going.new.walk.floor) }
-    ensures high { IfOk result (λ _. (to : ℕ) → IsSpaced going.old.walk.floor round.now to → going.new.walk.floor ≤ to) }
+    ensures high { IfOk result (λ _.
+        (to : ℕ) → IsSpaced going.old.walk.floor round.now to → going.new.walk.floor ≤ to) }
     ensures end { IfOk result (λ _. going.new.walk.end ≡ going.old.walk.end) }
     ensures read { IsRead L.reads log.old log.new }
     ensures error { IfErr result (IsReadError L.reads log.old log.new) }
-    ensures pruned { L.reads.start log.old ≤ going.old.walk.floor → IfErr result (λ e. (n : ℕ) → e ≢ Error.Journal (JournalError.ItemPruned n)) }
+    ensures pruned { L.reads.start log.old ≤ going.old.walk.floor
+        → IfErr result (λ e. (n : ℕ) → e ≢ Error.Journal (JournalError.ItemPruned n)) }
 {
     for at in round {
         let goes = visit(alloc, path, log, policy, going, at.get())?;
@@ -429,18 +494,28 @@ fn walk_round<
 ) -> Result<Option<Location<F>>, Error>
     requires low { going.old.walk.floor ≤ from }
     requires high { from < going.old.walk.end }
-    ensures value { (lent base list : List model.Operation) (all : walks.Walked P) → IsLent L.reads U.form I.index_key (I.entries path.now.index.now) log.old lent → B.activity activity.now ≡ bits lent
-        → IsPath (path_view U.view U.Key.bytes U.Value.bytes path.now) lent base list → AreDead list going.old.walk.floor from
-        → IsGoing P.rules base list (decided_views U.Key.bytes U.Value.bytes going.old.decided.items) going.old.walk policy.old all
+    ensures value { (lent base list : List model.Operation) (all : walks.Walked P)
+        → IsLent L.reads U.form I.index_key (I.entries path.now.index.now) log.old lent
+        → B.activity activity.now ≡ bits lent
+        → IsPath (path_view U.view U.Key.bytes U.Value.bytes path.now) lent base list
+        → AreDead list going.old.walk.floor from
+        → IsGoing P.rules base list
+        (decided_views U.Key.bytes U.Value.bytes going.old.decided.items) going.old.walk policy.old
+        all
         → IfSome (L.reads.told log.old) (λ _. IfOk result (λ next. MatchOption next
-        (AreDecided base list (decided_views U.Key.bytes U.Value.bytes going.new.decided.items) going.new.walk.floor policy.new all)
-        (λ next. AreDead list going.new.walk.floor next × IsGoing P.rules base list (decided_views U.Key.bytes U.Value.bytes going.new.decided.items) going.new.walk policy.new all))) }
+        (AreDecided base list (decided_views U.Key.bytes U.Value.bytes going.new.decided.items)
+        going.new.walk.floor policy.new all) (λ next. AreDead list going.new.walk.floor next
+        × IsGoing P.rules base list
+        (decided_views U.Key.bytes U.Value.bytes going.new.decided.items) going.new.walk policy.new
+        all))) }
     ensures low { IfOk result (λ _. going.old.walk.floor ≤ going.new.walk.floor) }
-    ensures next { IfOk result (λ next. IfSome next (λ next. (from < next) × (going.new.walk.floor ≤ next) × (next ≤ going.new.walk.end))) }
+    ensures next { IfOk result (λ next. IfSome next (λ next.
+        (from < next) × (going.new.walk.floor ≤ next) × (next ≤ going.new.walk.end))) }
     ensures end { IfOk result (λ _. going.new.walk.end ≡ going.old.walk.end) }
     ensures read { IsRead L.reads log.old log.new }
     ensures error { IfErr result (IsReadError L.reads log.old log.new) }
-    ensures pruned { L.reads.start log.old ≤ going.old.walk.floor → IfErr result (λ e. (n : ℕ) → e ≢ Error.Journal (JournalError.ItemPruned n)) }
+    ensures pruned { L.reads.start log.old ≤ going.old.walk.floor
+        → IfErr result (λ e. (n : ℕ) → e ≢ Error.Journal (JournalError.ItemPruned n)) }
 {
     let end = Location::new(going.walk.end.get());
     let mut round = Vec::new(alloc);
@@ -452,7 +527,8 @@ fn walk_round<
 fn finish<F>(walk: &mut Walk<F>)
     requires { walk.old.floor ≤ walk.old.end }
     ensures none { walk.old.entries ≡ 0 → walk.new.floor ≡ walk.old.floor }
-    ensures some { 0 < walk.old.entries → walk.new.floor ≡ min walk.old.end (walk.old.floor + walk.old.skips) }
+    ensures some { 0 < walk.old.entries
+        → walk.new.floor ≡ min walk.old.end (walk.old.floor + walk.old.skips) }
 {
     if walk.entries == 0 {
         return;
@@ -477,12 +553,20 @@ fn walk_on<
     going: &mut Going<F, U::Key, U::Value>,
 ) -> Result<(), Error>
     requires { going.old.walk.floor ≤ going.old.walk.end }
-    ensures value { (lent base list : List model.Operation) (all : walks.Walked P) → IsLent L.reads U.form I.index_key (I.entries path.now.index.now) log.old lent → B.activity activity.now ≡ bits lent
-        → IsPath (path_view U.view U.Key.bytes U.Value.bytes path.now) lent base list → IsGoing P.rules base list (decided_views U.Key.bytes U.Value.bytes going.old.decided.items) going.old.walk policy.old all
-        → IfSome (L.reads.told log.old) (λ _. OnOk result (AreDecided base list (decided_views U.Key.bytes U.Value.bytes going.new.decided.items) going.new.walk.floor policy.new all)) }
+    ensures value { (lent base list : List model.Operation) (all : walks.Walked P)
+        → IsLent L.reads U.form I.index_key (I.entries path.now.index.now) log.old lent
+        → B.activity activity.now ≡ bits lent
+        → IsPath (path_view U.view U.Key.bytes U.Value.bytes path.now) lent base list
+        → IsGoing P.rules base list
+        (decided_views U.Key.bytes U.Value.bytes going.old.decided.items) going.old.walk policy.old
+        all
+        → IfSome (L.reads.told log.old) (λ _. OnOk result (AreDecided base list
+        (decided_views U.Key.bytes U.Value.bytes going.new.decided.items) going.new.walk.floor
+        policy.new all)) }
     ensures read { IsRead L.reads log.old log.new }
     ensures error { IfErr result (IsReadError L.reads log.old log.new) }
-    ensures pruned { L.reads.start log.old ≤ going.old.walk.floor → IfErr result (λ e. (n : ℕ) → e ≢ Error.Journal (JournalError.ItemPruned n)) }
+    ensures pruned { L.reads.start log.old ≤ going.old.walk.floor
+        → IfErr result (λ e. (n : ℕ) → e ≢ Error.Journal (JournalError.ItemPruned n)) }
 {
     let end = going.walk.end.get();
     let floor = going.walk.floor.get();
@@ -525,13 +609,19 @@ pub(crate) fn walk_from<
     limits: Limits,
 ) -> Result<Walked<U::Key, U::Value>, Error>
     requires { base.now.size ≤ 2 ^ 62 }
-    ensures value { (lent front list : List model.Operation) → IsLent L.reads U.form I.index_key (I.entries index.now) log.old lent → B.activity activity.now ≡ bits lent
-        → AreBehind (base_view base.now) (touch_views U.view U.Key.bytes U.Value.bytes made.now) lent front list
-        → IfSome (L.reads.told log.old) (λ _. IfOk result (λ walked. AreDecided front list (decided_views U.Key.bytes U.Value.bytes walked.decided.items) walked.floor policy.new
-        (walks.walk P.rules list (floor front) (record { entries = limits.entries; skips = limits.skips }) policy.old))) }
+    ensures value { (lent front list : List model.Operation)
+        → IsLent L.reads U.form I.index_key (I.entries index.now) log.old lent
+        → B.activity activity.now ≡ bits lent
+        → AreBehind (base_view base.now) (touch_views U.view U.Key.bytes U.Value.bytes made.now)
+        lent front list
+        → IfSome (L.reads.told log.old) (λ _. IfOk result (λ walked.
+        AreDecided front list (decided_views U.Key.bytes U.Value.bytes walked.decided.items)
+        walked.floor policy.new (walks.walk P.rules list (floor front)
+        (record { entries = limits.entries; skips = limits.skips }) policy.old))) }
     ensures read { IsRead L.reads log.old log.new }
     ensures error { IfErr result (IsReadError L.reads log.old log.new) }
-    ensures pruned { L.reads.start log.old ≤ base.now.floor → IfErr result (λ e. (n : ℕ) → e ≢ Error.Journal (JournalError.ItemPruned n)) }
+    ensures pruned { L.reads.start log.old ≤ base.now.floor
+        → IfErr result (λ e. (n : ℕ) → e ≢ Error.Journal (JournalError.ItemPruned n)) }
 {
     let replaced = replaced_by(alloc, made)?;
     let path = Path {

@@ -55,11 +55,15 @@ pub(crate) fn pairs_at<F, L: Items, U: Update>(
     low: Bound<&[u8]>,
     high: Bound<&[u8]>,
 ) -> Result<Vec<(U::Key, U::Value)>, Error>
-    ensures value { (list : List model.Operation) → L.reads.logged log.old (map (spelling U.form) list) → All (IsOf U.form) list
-        → IfSome (L.reads.told log.old) (λ _. IfOk result (λ pairs. map (pair_view U.Key.bytes U.Value.bytes) pairs.items ≡ fold (put_at (limit_view low.entry) (limit_view high.entry) list) [] locations.now)) }
+    ensures value { (list : List model.Operation)
+        → L.reads.logged log.old (map (spelling U.form) list) → All (IsOf U.form) list
+        → IfSome (L.reads.told log.old) (λ _.
+        IfOk result (λ pairs. map (pair_view U.Key.bytes U.Value.bytes) pairs.items
+        ≡ fold (put_at (limit_view low.entry) (limit_view high.entry) list) [] locations.now)) }
     ensures read { IsRead L.reads log.old log.new }
     ensures error { IfErr result (IsReadError L.reads log.old log.new) }
-    ensures pruned { All (λ at. L.reads.start log.old ≤ at) locations.now → IfErr result (λ e. (n : ℕ) → e ≢ Error.Journal (JournalError.ItemPruned n)) }
+    ensures pruned { All (λ at. L.reads.start log.old ≤ at) locations.now
+        → IfErr result (λ e. (n : ℕ) → e ≢ Error.Journal (JournalError.ItemPruned n)) }
 {
     let mut pairs = Vec::new(alloc);
     for location in locations {
@@ -71,7 +75,9 @@ pub(crate) fn pairs_at<F, L: Items, U: Update>(
 
 // Puts key and value of an update, where there is one, in their place among pairs by key.
 fn put<U: Update>(pairs: &mut Vec<(U::Key, U::Value)>, update: Option<U>) -> Result<(), AllocError>
-    ensures { OnOk result (map (pair_view U.Key.bytes U.Value.bytes) pairs.new.items ≡ put_said (map (pair_view U.Key.bytes U.Value.bytes) pairs.old.items) (option_map U.view update)) }
+    ensures { OnOk result (map (pair_view U.Key.bytes U.Value.bytes) pairs.new.items
+        ≡ put_said (map (pair_view U.Key.bytes U.Value.bytes) pairs.old.items)
+        (option_map U.view update)) }
 {
     let Some(update) = update else {
         return Ok(());
@@ -104,11 +110,14 @@ fn read_in<L: Items, U: Update>(
     low: Bound<&[u8]>,
     high: Bound<&[u8]>,
 ) -> Result<Option<U>, Error>
-    ensures value { (list : List model.Operation) → L.reads.logged log.old (map (spelling U.form) list) → All (IsOf U.form) list
-        → IfSome (L.reads.told log.old) (λ _. IfOk result (λ update. option_map U.view update ≡ only_in (limit_view low.entry) (limit_view high.entry) (update_at list at))) }
+    ensures value { (list : List model.Operation)
+        → L.reads.logged log.old (map (spelling U.form) list) → All (IsOf U.form) list
+        → IfSome (L.reads.told log.old) (λ _. IfOk result (λ update. option_map U.view update
+        ≡ only_in (limit_view low.entry) (limit_view high.entry) (update_at list at))) }
     ensures read { IsRead L.reads log.old log.new }
     ensures error { IfErr result (IsReadError L.reads log.old log.new) }
-    ensures pruned { L.reads.start log.old ≤ at → IfErr result (λ e. (n : ℕ) → e ≢ Error.Journal (JournalError.ItemPruned n)) }
+    ensures pruned { L.reads.start log.old ≤ at
+        → IfErr result (λ e. (n : ℕ) → e ≢ Error.Journal (JournalError.ItemPruned n)) }
 {
     match log.read_item(at)? {
         Some(item) => said_in(alloc, &item, low, high),
@@ -123,7 +132,9 @@ fn said_in<U: Update>(
     low: Bound<&[u8]>,
     high: Bound<&[u8]>,
 ) -> Result<Option<U>, Error>
-    ensures value { (op : model.Operation) → IsSpelling U.form item.now op → IfOk result (λ update. option_map U.view update ≡ only_in (limit_view low.entry) (limit_view high.entry) (said_by op)) }
+    ensures value { (op : model.Operation) → IsSpelling U.form item.now op
+        → IfOk result (λ update. option_map U.view update
+        ≡ only_in (limit_view low.entry) (limit_view high.entry) (said_by op)) }
     ensures memory { IfErr result (λ e. e ≡ Error.Memory) }
 {
     match Operation::<(), U>::update_key(item) {

@@ -25,8 +25,10 @@ fn started<X: Common<C>, C: Store>(
     session: &mut SessionOf<X, C>,
     slot: Slot<X::Batch, X::Staged, X::Merkleized>,
 ) -> Turn<X::Key, X::Value, X::Digest>
-    ensures machine { (s : State) (new : machine.Slot) → Stands C.Store X.Meaning session.old s → SlotIs C.Store X.Meaning s.had slot new
-        → Follows C.Store X.Meaning X.Key.bytes X.Value.bytes X.Digest.bytes session.new result (machine.started s new) }
+    ensures machine { (s : State) (new : machine.Slot) → Stands C.Store X.Meaning session.old s
+        → SlotIs C.Store X.Meaning s.had slot new
+        → Follows C.Store X.Meaning X.Key.bytes X.Value.bytes X.Digest.bytes session.new result
+        (machine.started s new) }
     ensures rest { session.new ≡ record session.old { table = session.new.table } }
     ensures never { result ≢ Turn.StoreFault }
 {
@@ -42,8 +44,8 @@ pub fn batch<X: Batching<C>, C: Store>(
     alloc: Global,
     session: &mut SessionOf<X, C>,
 ) -> Turn<X::Key, X::Value, X::Digest>
-    ensures machine { Obeys C.Store X.Meaning X.Key.bytes X.Value.bytes X.Digest.bytes session.old session.new result
-        (machine.start_batch) }
+    ensures machine { Obeys C.Store X.Meaning X.Key.bytes X.Value.bytes X.Digest.bytes session.old
+        session.new result (machine.start_batch) }
     ensures rest { session.new ≡ record session.old { table = session.new.table } }
     ensures never { result ≢ Turn.StoreFault }
 {
@@ -63,8 +65,8 @@ pub fn child<X: Batching<C>, C: Store>(
     number: u64,
     keep: Option<u64>,
 ) -> Turn<X::Key, X::Value, X::Digest>
-    ensures machine { Obeys C.Store X.Meaning X.Key.bytes X.Value.bytes X.Digest.bytes session.old session.new result
-        (λ s. machine.child s number keep) }
+    ensures machine { Obeys C.Store X.Meaning X.Key.bytes X.Value.bytes X.Digest.bytes session.old
+        session.new result (λ s. machine.child s number keep) }
     ensures rest { session.new ≡ record session.old { table = session.new.table } }
     ensures never { result ≢ Turn.StoreFault }
 {
@@ -82,8 +84,8 @@ pub fn tip<X: Batching<C>, C: Store>(
     alloc: Global,
     session: &mut SessionOf<X, C>,
 ) -> Turn<X::Key, X::Value, X::Digest>
-    ensures machine { Obeys C.Store X.Meaning X.Key.bytes X.Value.bytes X.Digest.bytes session.old session.new result
-        (machine.start_tip) }
+    ensures machine { Obeys C.Store X.Meaning X.Key.bytes X.Value.bytes X.Digest.bytes session.old
+        session.new result (machine.start_tip) }
     ensures rest { session.new ≡ record session.old { table = session.new.table } }
     ensures never { result ≢ Turn.StoreFault }
 {
@@ -103,8 +105,12 @@ fn write<X: Batching<C>, C: Store>(
     key: &X::Key,
     value: Option<&X::Value>,
 ) -> Result<X::Batch, AllocError>
-    ensures { IfOk result (λ b. (chain above : Chain) (ws : List Write) → X.is_batch batch chain above ws
-        → X.is_batch b chain above (ws ++ record { key = X.Key.bytes key.now; value = option_map (λ v. X.Value.bytes v.now) value.entry } ∷ [])) }
+    ensures { IfOk result (λ b.
+        (chain above : Chain) (ws : List Write) → X.is_batch batch chain above ws
+        → X.is_batch b chain above (ws
+        ++ record
+        { key = X.Key.bytes key.now; value = option_map (λ v. X.Value.bytes v.now) value.entry }
+        ∷ [])) }
 {
     let key = key.twin(alloc)?;
     match value {
@@ -121,8 +127,10 @@ pub fn put<'a, X: Batching<C>, C: Store>(
     key: &'a X::Key,
     value: Option<&'a X::Value>,
 ) -> Turn<X::Key, X::Value, X::Digest>
-    ensures machine { Obeys C.Store X.Meaning X.Key.bytes X.Value.bytes X.Digest.bytes session.old session.new result
-        (λ s. machine.put_in s number (record { key = X.Key.bytes key.now; value = option_map (λ v. X.Value.bytes v.now) value.entry }) (machine.slot_at s.table number)) }
+    ensures machine { Obeys C.Store X.Meaning X.Key.bytes X.Value.bytes X.Digest.bytes session.old
+        session.new result (λ s. machine.put_in s number (record
+        { key = X.Key.bytes key.now; value = option_map (λ v. X.Value.bytes v.now) value.entry })
+        (machine.slot_at s.table number)) }
     ensures rest { session.new ≡ record session.old { table = session.new.table } }
     ensures never { result ≢ Turn.StoreFault }
 {
@@ -147,7 +155,9 @@ fn merkleize_batch<X: Batching<C>, C: Store, P: Policy<X::Family, X::Key, X::Val
     metadata: &Option<X::Value>,
 ) -> Result<X::Merkleized, Error>
     ensures made { AtBatch X.Meaning database.old batch (λ list chain above ws.
-        Makes X.Meaning C.Store database.old list chain (tip_of X.scheme P.rules chain ws policy.now (option_map X.Value.bytes metadata.now)) result) }
+        Makes X.Meaning C.Store database.old list chain
+        (tip_of X.scheme P.rules chain ws policy.now (option_map X.Value.bytes metadata.now))
+        result) }
     ensures reads { ReadsOnly X.Meaning C.Store database.old database.new result }
 {
     let mut policy = policy.twin(alloc)?;
@@ -161,9 +171,11 @@ pub fn put_made<X: Batching<C>, C: Store>(
     made: Result<X::Merkleized, Error>,
 ) -> Turn<X::Key, X::Value, X::Digest>
     ensures machine { (s : State) (list : List Operation) (chain : Chain) (tip : List Operation)
-        → Stands C.Store X.Meaning session.old (machine.with_slot s number machine.gone) → Contains s.had list → IsAmong s.had chain
+        → Stands C.Store X.Meaning session.old (machine.with_slot s number machine.gone)
+        → Contains s.had list → IsAmong s.had chain
         → IsMaking X.Meaning s.opened list chain tip made
-        → Follows C.Store X.Meaning X.Key.bytes X.Value.bytes X.Digest.bytes session.new result (made_into X.scheme s number list chain tip) }
+        → Follows C.Store X.Meaning X.Key.bytes X.Value.bytes X.Digest.bytes session.new result
+        (made_into X.scheme s number list chain tip) }
     ensures rest { session.new ≡ record session.old { table = session.new.table } }
     ensures fault { result ≡ Turn.StoreFault → IsErrOf made (Error.Journal JournalError.Store) }
 {
@@ -185,10 +197,13 @@ pub fn merkleize<X: Batching<C>, C: Store, P: Policy<X::Family, X::Key, X::Value
     policy: &P,
     metadata: &Option<X::Value>,
 ) -> Turn<X::Key, X::Value, X::Digest>
-    ensures machine { ObeysSteady C.Store X.Meaning X.Key.bytes X.Value.bytes X.Digest.bytes session.old session.new result
-        (λ s. machine.merkleize X.scheme P.rules s number policy.now (option_map X.Value.bytes metadata.now)) }
-    ensures store { IsUnchanged C.Store (store_given X.inside session.old.held) (store_given X.inside session.new.held) }
-    ensures uses { Uses C.Store (store_given X.inside session.old.held) (store_given X.inside session.new.held) result }
+    ensures machine { ObeysSteady C.Store X.Meaning X.Key.bytes X.Value.bytes X.Digest.bytes
+        session.old session.new result (λ s. machine.merkleize X.scheme P.rules s number policy.now
+        (option_map X.Value.bytes metadata.now)) }
+    ensures store { IsUnchanged C.Store (store_given X.inside session.old.held)
+        (store_given X.inside session.new.held) }
+    ensures uses { Uses C.Store (store_given X.inside session.old.held)
+        (store_given X.inside session.new.held) result }
     ensures opened { session.new.opened ≡ session.old.opened }
 {
     let Given::Database(x) = &mut session.held else {
@@ -208,11 +223,14 @@ pub fn apply<X: Batching<C>, C: Store>(
     table: &Vec<Slot<X::Batch, X::Staged, X::Merkleized>>,
     number: u64,
 ) -> (Given<X, C>, Turn<X::Key, X::Value, X::Digest>)
-    ensures machine { (count : ℕ) → ObeysHeldSteady C.Store X.Meaning X.Key.bytes X.Value.bytes X.Digest.bytes table.now.items count held count result.0 result.1
+    ensures machine { (count : ℕ)
+        → ObeysHeldSteady C.Store X.Meaning X.Key.bytes X.Value.bytes X.Digest.bytes table.now.items
+        count held count result.0 result.1 (λ s. machine.apply X.scheme s number) }
+    ensures left { (count : ℕ)
+        → LeavesHeldSteady C.Store X.Meaning table.now.items count held result.0
         (λ s. machine.apply X.scheme s number) }
-    ensures left { (count : ℕ) → LeavesHeldSteady C.Store X.Meaning table.now.items count held result.0
-        (λ s. machine.apply X.scheme s number) }
-    ensures uses { Uses C.Store (store_given X.inside held) (store_given X.inside result.0) result.1 }
+    ensures uses { Uses C.Store (store_given X.inside held) (store_given X.inside result.0)
+        result.1 }
 {
     match held {
         Given::Store(store) => without_database::<X, C>(store),

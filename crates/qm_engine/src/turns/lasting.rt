@@ -23,9 +23,14 @@ pub fn open<X: Durable<C>, C: Store>(
     max_size: Option<u64>,
 ) -> (Given<X, C>, Turn<X::Key, X::Value, X::Digest>)
     requires { opened.old + 1 < 2 ^ 64 }
-    ensures machine { (table : _) → ObeysHeldSteady C.Store X.Meaning X.Key.bytes X.Value.bytes X.Digest.bytes table opened.old held opened.new result.0 result.1 (λ s. machine.open_store X.scheme s max_size) }
-    ensures left { (table : _) (count : ℕ) → LeavesHeldSteady C.Store X.Meaning table count held result.0 (λ s. machine.open_store X.scheme s max_size) }
-    ensures handles { Handles C.Store (store_given X.inside held) (store_given X.inside result.0) result.1 }
+    ensures machine { (table : _)
+        → ObeysHeldSteady C.Store X.Meaning X.Key.bytes X.Value.bytes X.Digest.bytes table
+        opened.old held opened.new result.0 result.1 (λ s. machine.open_store X.scheme s max_size) }
+    ensures left { (table : _) (count : ℕ)
+        → LeavesHeldSteady C.Store X.Meaning table count held result.0 (λ s.
+        machine.open_store X.scheme s max_size) }
+    ensures handles { Handles C.Store (store_given X.inside held) (store_given X.inside result.0)
+        result.1 }
     ensures opened { opened.new ≤ opened.old + 1 }
 {
     let store = into_store::<X, C>(held);
@@ -67,9 +72,13 @@ fn settled<X: Common<C>, C: Store>(
 pub fn commit<X: Durable<C>, C: Store>(
     held: Given<X, C>,
 ) -> (Given<X, C>, Turn<X::Key, X::Value, X::Digest>)
-    ensures machine { (table : _) (count : ℕ) → ObeysHeld C.Store X.Meaning X.Key.bytes X.Value.bytes X.Digest.bytes table count held result.0 result.1 machine.commit }
-    ensures left { (table : _) (count : ℕ) → LeavesHeld C.Store X.Meaning table count held result.0 machine.commit }
-    ensures handles { Handles C.Store (store_given X.inside held) (store_given X.inside result.0) result.1 }
+    ensures machine { (table : _) (count : ℕ)
+        → ObeysHeld C.Store X.Meaning X.Key.bytes X.Value.bytes X.Digest.bytes table count held
+        result.0 result.1 machine.commit }
+    ensures left { (table : _) (count : ℕ)
+        → LeavesHeld C.Store X.Meaning table count held result.0 machine.commit }
+    ensures handles { Handles C.Store (store_given X.inside held) (store_given X.inside result.0)
+        result.1 }
 {
     match held {
         Given::Store(store) => without_database::<X, C>(store),
@@ -81,9 +90,13 @@ pub fn commit<X: Durable<C>, C: Store>(
 pub fn sync<X: Durable<C>, C: Store>(
     held: Given<X, C>,
 ) -> (Given<X, C>, Turn<X::Key, X::Value, X::Digest>)
-    ensures machine { (table : _) (count : ℕ) → ObeysHeld C.Store X.Meaning X.Key.bytes X.Value.bytes X.Digest.bytes table count held result.0 result.1 machine.commit }
-    ensures left { (table : _) (count : ℕ) → LeavesHeld C.Store X.Meaning table count held result.0 machine.commit }
-    ensures handles { Handles C.Store (store_given X.inside held) (store_given X.inside result.0) result.1 }
+    ensures machine { (table : _) (count : ℕ)
+        → ObeysHeld C.Store X.Meaning X.Key.bytes X.Value.bytes X.Digest.bytes table count held
+        result.0 result.1 machine.commit }
+    ensures left { (table : _) (count : ℕ)
+        → LeavesHeld C.Store X.Meaning table count held result.0 machine.commit }
+    ensures handles { Handles C.Store (store_given X.inside held) (store_given X.inside result.0)
+        result.1 }
 {
     match held {
         Given::Store(store) => without_database::<X, C>(store),
@@ -97,9 +110,14 @@ pub fn prune<X: Durable<C>, C: Store>(
     held: Given<X, C>,
     to: u64,
 ) -> (Given<X, C>, Turn<X::Key, X::Value, X::Digest>)
-    ensures machine { (table : _) (count : ℕ) → ObeysHeldSteady C.Store X.Meaning X.Key.bytes X.Value.bytes X.Digest.bytes table count held count result.0 result.1 (λ s. machine.prune X.scheme s to) }
-    ensures left { (table : _) (count : ℕ) → LeavesHeldSteady C.Store X.Meaning table count held result.0 (λ s. machine.prune X.scheme s to) }
-    ensures handles { Handles C.Store (store_given X.inside held) (store_given X.inside result.0) result.1 }
+    ensures machine { (table : _) (count : ℕ)
+        → ObeysHeldSteady C.Store X.Meaning X.Key.bytes X.Value.bytes X.Digest.bytes table count
+        held count result.0 result.1 (λ s. machine.prune X.scheme s to) }
+    ensures left { (table : _) (count : ℕ)
+        → LeavesHeldSteady C.Store X.Meaning table count held result.0 (λ s.
+        machine.prune X.scheme s to) }
+    ensures handles { Handles C.Store (store_given X.inside held) (store_given X.inside result.0)
+        result.1 }
 {
     match held {
         Given::Store(store) => without_database::<X, C>(store),
@@ -111,9 +129,13 @@ pub fn prune<X: Durable<C>, C: Store>(
 pub fn close<X: Durable<C>, C: Store>(
     held: Given<X, C>,
 ) -> (Given<X, C>, Turn<X::Key, X::Value, X::Digest>)
-    ensures machine { (table : _) (count : ℕ) → ObeysHeld C.Store X.Meaning X.Key.bytes X.Value.bytes X.Digest.bytes table count held result.0 result.1 machine.close }
-    ensures left { (table : _) (count : ℕ) → LeavesHeld C.Store X.Meaning table count held result.0 machine.close }
-    ensures handles { Handles C.Store (store_given X.inside held) (store_given X.inside result.0) result.1 }
+    ensures machine { (table : _) (count : ℕ)
+        → ObeysHeld C.Store X.Meaning X.Key.bytes X.Value.bytes X.Digest.bytes table count held
+        result.0 result.1 machine.close }
+    ensures left { (table : _) (count : ℕ)
+        → LeavesHeld C.Store X.Meaning table count held result.0 machine.close }
+    ensures handles { Handles C.Store (store_given X.inside held) (store_given X.inside result.0)
+        result.1 }
 {
     match held {
         Given::Store(store) => without_database::<X, C>(store),
@@ -125,9 +147,13 @@ pub fn close<X: Durable<C>, C: Store>(
 pub fn destroy<X: Durable<C>, C: Store>(
     held: Given<X, C>,
 ) -> (Given<X, C>, Turn<X::Key, X::Value, X::Digest>)
-    ensures machine { (table : _) (count : ℕ) → ObeysHeld C.Store X.Meaning X.Key.bytes X.Value.bytes X.Digest.bytes table count held result.0 result.1 machine.destroy }
-    ensures left { (table : _) (count : ℕ) → LeavesHeld C.Store X.Meaning table count held result.0 machine.destroy }
-    ensures handles { Handles C.Store (store_given X.inside held) (store_given X.inside result.0) result.1 }
+    ensures machine { (table : _) (count : ℕ)
+        → ObeysHeld C.Store X.Meaning X.Key.bytes X.Value.bytes X.Digest.bytes table count held
+        result.0 result.1 machine.destroy }
+    ensures left { (table : _) (count : ℕ)
+        → LeavesHeld C.Store X.Meaning table count held result.0 machine.destroy }
+    ensures handles { Handles C.Store (store_given X.inside held) (store_given X.inside result.0)
+        result.1 }
 {
     match held {
         Given::Store(store) => without_database::<X, C>(store),
@@ -143,9 +169,13 @@ pub fn crash<X: Durable<C>, C: Store, P: Policy<X::Family, X::Key, X::Value>>(
     held: Given<X, C>,
     keep: u64,
 ) -> (Given<X, C>, Turn<X::Key, X::Value, X::Digest>)
-    ensures machine { (table : _) (count : ℕ) → ObeysHeldSteady C.Store X.Meaning X.Key.bytes X.Value.bytes X.Digest.bytes table count held count result.0 result.1 machine.crash }
-    ensures left { (table : _) (count : ℕ) → LeavesHeld C.Store X.Meaning table count held result.0 machine.crash }
-    ensures handles { HandlesLine {P = P} C.Store (Crash keep) (store_given X.inside held) (store_given X.inside result.0) result.1 }
+    ensures machine { (table : _) (count : ℕ)
+        → ObeysHeldSteady C.Store X.Meaning X.Key.bytes X.Value.bytes X.Digest.bytes table count
+        held count result.0 result.1 machine.crash }
+    ensures left { (table : _) (count : ℕ)
+        → LeavesHeld C.Store X.Meaning table count held result.0 machine.crash }
+    ensures handles { HandlesLine {P = P} C.Store (Crash keep) (store_given X.inside held)
+        (store_given X.inside result.0) result.1 }
 {
     let mut store = into_store::<X, C>(held);
     match store.restart(keep) {

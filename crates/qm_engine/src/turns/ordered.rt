@@ -47,8 +47,10 @@ fn reply_to<X: Neighbours<C>, C: Store>(
     database: &mut X,
     question: Question<'_, X::Key>,
 ) -> Turn<X::Key, X::Value, X::Digest>
-    ensures reply { IfReply result (λ r. X.scheme.form.ordered ≡ true → (list : List Operation) → X.stands database.old list → TellsFrom C.Store (X.inside database.old) list
-        → answer_view X.Key.bytes X.Value.bytes X.Digest.bytes r ≡ answer_to X.Key.bytes question.entry list) }
+    ensures reply { IfReply result (λ r. X.scheme.form.ordered ≡ true → (list : List Operation)
+        → X.stands database.old list → TellsFrom C.Store (X.inside database.old) list
+        → answer_view X.Key.bytes X.Value.bytes X.Digest.bytes r
+        ≡ answer_to X.Key.bytes question.entry list) }
     ensures reads { TurnReads C.Store X.Meaning database.old database.new result }
 {
     match question {
@@ -85,10 +87,13 @@ pub fn ask<X: Neighbours<C>, C: Store>(
     session: &mut SessionOf<X, C>,
     question: Question<'_, X::Key>,
 ) -> Turn<X::Key, X::Value, X::Digest>
-    ensures machine { Obeys C.Store X.Meaning X.Key.bytes X.Value.bytes X.Digest.bytes session.old session.new result
-        (λ s. machine.if_ordered X.scheme s (machine.with_database s s.database (λ list. (answer_to X.Key.bytes question.entry list, s)))) }
-    ensures store { IsUnchanged C.Store (store_given X.inside session.old.held) (store_given X.inside session.new.held) }
-    ensures uses { Uses C.Store (store_given X.inside session.old.held) (store_given X.inside session.new.held) result }
+    ensures machine { Obeys C.Store X.Meaning X.Key.bytes X.Value.bytes X.Digest.bytes session.old
+        session.new result (λ s. machine.if_ordered X.scheme s (machine.with_database s s.database
+        (λ list. (answer_to X.Key.bytes question.entry list, s)))) }
+    ensures store { IsUnchanged C.Store (store_given X.inside session.old.held)
+        (store_given X.inside session.new.held) }
+    ensures uses { Uses C.Store (store_given X.inside session.old.held)
+        (store_given X.inside session.new.held) result }
     ensures opened { session.new.opened ≡ session.old.opened }
 {
     if !X::is_ordered() {
@@ -108,10 +113,15 @@ fn beside_from<X: Neighbours<C>, C: Store>(
     side: Side,
     key: &X::Key,
 ) -> Result<Option<X::Key>, Error>
-    ensures readable { IfOk result (λ _. X.scheme.form.ordered ≡ true → AtTip X.Meaning database.old batch.now (λ list chain tip. CanRead X.Meaning list chain tip)) }
-    ensures beside { IfOk result (λ k. X.scheme.form.ordered ≡ true → AtTip X.Meaning database.old batch.now (λ list chain tip. IsKnown list chain tip
+    ensures readable { IfOk result (λ _. X.scheme.form.ordered ≡ true
+        → AtTip X.Meaning database.old batch.now (λ list chain tip.
+        CanRead X.Meaning list chain tip)) }
+    ensures beside { IfOk result (λ k. X.scheme.form.ordered ≡ true
+        → AtTip X.Meaning database.old batch.now (λ list chain tip. IsKnown list chain tip
         → option_map X.Key.bytes k ≡ key_beside side (X.Key.bytes key.now) (live_keys tip))) }
-    ensures failure { IfErr result (λ e. AtTip X.Meaning database.old batch.now (λ list chain tip. IsReadFailure X.Meaning (TellsFrom C.Store (X.inside database.old) list) list chain tip e)) }
+    ensures failure { IfErr result (λ e.
+        AtTip X.Meaning database.old batch.now (λ list chain tip. IsReadFailure X.Meaning
+        (TellsFrom C.Store (X.inside database.old) list) list chain tip e)) }
     ensures reads { ReadsOnly X.Meaning C.Store database.old database.new result }
 {
     match side {
@@ -128,10 +138,13 @@ pub fn beside<X: Neighbours<C>, C: Store>(
     key: &X::Key,
     from: Option<u64>,
 ) -> Turn<X::Key, X::Value, X::Digest>
-    ensures machine { Obeys C.Store X.Meaning X.Key.bytes X.Value.bytes X.Digest.bytes session.old session.new result
-        (λ s. machine.if_ordered X.scheme s (machine.beside_of X.scheme s (key_beside side (X.Key.bytes key.now)) from)) }
-    ensures store { IsUnchanged C.Store (store_given X.inside session.old.held) (store_given X.inside session.new.held) }
-    ensures uses { Uses C.Store (store_given X.inside session.old.held) (store_given X.inside session.new.held) result }
+    ensures machine { Obeys C.Store X.Meaning X.Key.bytes X.Value.bytes X.Digest.bytes session.old
+        session.new result (λ s. machine.if_ordered X.scheme s
+        (machine.beside_of X.scheme s (key_beside side (X.Key.bytes key.now)) from)) }
+    ensures store { IsUnchanged C.Store (store_given X.inside session.old.held)
+        (store_given X.inside session.new.held) }
+    ensures uses { Uses C.Store (store_given X.inside session.old.held)
+        (store_given X.inside session.new.held) result }
     ensures opened { session.new.opened ≡ session.old.opened }
 {
     let Some(number) = from else {

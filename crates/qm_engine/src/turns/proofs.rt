@@ -20,8 +20,8 @@ pub fn batch_proof<X: Proving<C>, C: Store>(
     session: &SessionOf<X, C>,
     number: u64,
 ) -> Turn<X::Key, X::Value, X::Digest>
-    ensures machine { Tells C.Store X.Meaning X.Key.bytes X.Value.bytes X.Digest.bytes session.now result
-        (λ s. machine.batch_proof X.scheme s number) }
+    ensures machine { Tells C.Store X.Meaning X.Key.bytes X.Value.bytes X.Digest.bytes session.now
+        result (λ s. machine.batch_proof X.scheme s number) }
     ensures never { result ≢ Turn.StoreFault }
 {
     let Given::Database(x) = &session.held else {
@@ -51,10 +51,12 @@ pub fn prove<X: Proving<C>, C: Store>(
     start: u64,
     max: NonZeroU64,
 ) -> Turn<X::Key, X::Value, X::Digest>
-    ensures machine { Obeys C.Store X.Meaning X.Key.bytes X.Value.bytes X.Digest.bytes session.old session.new result
-        (λ s. machine.prove X.scheme s size start (non_zero_u64_get max)) }
-    ensures store { IsUnchanged C.Store (store_given X.inside session.old.held) (store_given X.inside session.new.held) }
-    ensures uses { Uses C.Store (store_given X.inside session.old.held) (store_given X.inside session.new.held) result }
+    ensures machine { Obeys C.Store X.Meaning X.Key.bytes X.Value.bytes X.Digest.bytes session.old
+        session.new result (λ s. machine.prove X.scheme s size start (non_zero_u64_get max)) }
+    ensures store { IsUnchanged C.Store (store_given X.inside session.old.held)
+        (store_given X.inside session.new.held) }
+    ensures uses { Uses C.Store (store_given X.inside session.old.held)
+        (store_given X.inside session.new.held) result }
     ensures opened { session.new.opened ≡ session.old.opened }
 {
     let Given::Database(x) = &mut session.held else {
@@ -79,8 +81,8 @@ pub fn pins<X: Proving<C>, C: Store>(
     session: &SessionOf<X, C>,
     at: u64,
 ) -> Turn<X::Key, X::Value, X::Digest>
-    ensures machine { Tells C.Store X.Meaning X.Key.bytes X.Value.bytes X.Digest.bytes session.now result
-        (λ s. machine.pins X.scheme s at) }
+    ensures machine { Tells C.Store X.Meaning X.Key.bytes X.Value.bytes X.Digest.bytes session.now
+        result (λ s. machine.pins X.scheme s at) }
     ensures never { result ≢ Turn.StoreFault }
 {
     let Given::Database(x) = &session.held else {

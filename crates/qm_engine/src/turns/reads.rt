@@ -23,10 +23,13 @@ fn read_slot<X: Reading<C>, C: Store>(
     slot: &Slot<X::Batch, X::Staged, X::Merkleized>,
     keys: &[X::Key],
 ) -> Turn<X::Key, X::Value, X::Digest>
-    ensures machine { (s : State) (list : List Operation) (named : machine.Slot) → TellsFrom C.Store (X.inside database.old) list → X.stands database.old list → Contains s.had list
-        → SlotIs C.Store X.Meaning s.had slot.now named
-        → Answers C.Store X.Meaning X.Key.bytes X.Value.bytes X.Digest.bytes result s (machine.read_in X.scheme s number (map X.Key.bytes keys.now) list named) }
-    ensures same { (list : List Operation) → X.stands database.old list → X.stands database.new list }
+    ensures machine { (s : State) (list : List Operation) (named : machine.Slot)
+        → TellsFrom C.Store (X.inside database.old) list → X.stands database.old list
+        → Contains s.had list → SlotIs C.Store X.Meaning s.had slot.now named
+        → Answers C.Store X.Meaning X.Key.bytes X.Value.bytes X.Digest.bytes result s
+        (machine.read_in X.scheme s number (map X.Key.bytes keys.now) list named) }
+    ensures same { (list : List Operation) → X.stands database.old list
+        → X.stands database.new list }
     ensures numbered { (n : ℕ) → X.numbered database.old n → X.numbered database.new n }
     ensures store { IsUnchanged C.Store (X.inside database.old) (X.inside database.new) }
     ensures uses { Uses C.Store (X.inside database.old) (X.inside database.new) result }
@@ -51,10 +54,12 @@ pub fn read<X: Reading<C>, C: Store>(
     keys: &[X::Key],
     from: Option<u64>,
 ) -> Turn<X::Key, X::Value, X::Digest>
-    ensures machine { Obeys C.Store X.Meaning X.Key.bytes X.Value.bytes X.Digest.bytes session.old session.new result
-        (λ s. machine.read X.scheme s (map X.Key.bytes keys.now) from) }
-    ensures store { IsUnchanged C.Store (store_given X.inside session.old.held) (store_given X.inside session.new.held) }
-    ensures uses { Uses C.Store (store_given X.inside session.old.held) (store_given X.inside session.new.held) result }
+    ensures machine { Obeys C.Store X.Meaning X.Key.bytes X.Value.bytes X.Digest.bytes session.old
+        session.new result (λ s. machine.read X.scheme s (map X.Key.bytes keys.now) from) }
+    ensures store { IsUnchanged C.Store (store_given X.inside session.old.held)
+        (store_given X.inside session.new.held) }
+    ensures uses { Uses C.Store (store_given X.inside session.old.held)
+        (store_given X.inside session.new.held) result }
     ensures opened { session.new.opened ≡ session.old.opened }
 {
     let Given::Database(x) = &mut session.held else {
@@ -89,10 +94,12 @@ pub fn read_key<X: Reading<C>, C: Store>(
     key: &X::Key,
     from: Option<u64>,
 ) -> Turn<X::Key, X::Value, X::Digest>
-    ensures machine { Obeys C.Store X.Meaning X.Key.bytes X.Value.bytes X.Digest.bytes session.old session.new result
-        (λ s. machine.read X.scheme s (X.Key.bytes key.now ∷ []) from) }
-    ensures store { IsUnchanged C.Store (store_given X.inside session.old.held) (store_given X.inside session.new.held) }
-    ensures uses { Uses C.Store (store_given X.inside session.old.held) (store_given X.inside session.new.held) result }
+    ensures machine { Obeys C.Store X.Meaning X.Key.bytes X.Value.bytes X.Digest.bytes session.old
+        session.new result (λ s. machine.read X.scheme s (X.Key.bytes key.now ∷ []) from) }
+    ensures store { IsUnchanged C.Store (store_given X.inside session.old.held)
+        (store_given X.inside session.new.held) }
+    ensures uses { Uses C.Store (store_given X.inside session.old.held)
+        (store_given X.inside session.new.held) result }
     ensures opened { session.new.opened ≡ session.old.opened }
 {
     match alone(alloc, key) {
@@ -107,8 +114,8 @@ pub fn ops<X: Reading<C>, C: Store>(
     session: &SessionOf<X, C>,
     number: u64,
 ) -> Turn<X::Key, X::Value, X::Digest>
-    ensures machine { Tells C.Store X.Meaning X.Key.bytes X.Value.bytes X.Digest.bytes session.now result
-        (λ s. machine.ops s number) }
+    ensures machine { Tells C.Store X.Meaning X.Key.bytes X.Value.bytes X.Digest.bytes session.now
+        result (λ s. machine.ops s number) }
     ensures never { result ≢ Turn.StoreFault }
 {
     let Some(batch) = merkleized_at(&session.table, number) else {
@@ -124,7 +131,8 @@ pub fn ops<X: Reading<C>, C: Store>(
 pub fn current<X: Common<C>, C: Store>(
     session: &SessionOf<X, C>,
 ) -> Turn<X::Key, X::Value, X::Digest>
-    ensures machine { (question : Question) → Tells C.Store X.Meaning X.Key.bytes X.Value.bytes X.Digest.bytes session.now result
+    ensures machine { (question : Question)
+        → Tells C.Store X.Meaning X.Key.bytes X.Value.bytes X.Digest.bytes session.now result
         (λ s. machine.current X.scheme s question) }
     ensures never { result ≢ Turn.StoreFault }
 {
@@ -133,8 +141,8 @@ pub fn current<X: Common<C>, C: Store>(
 
 /// The numbers of the database.
 pub fn info<X: Common<C>, C: Store>(session: &SessionOf<X, C>) -> Turn<X::Key, X::Value, X::Digest>
-    ensures machine { Tells C.Store X.Meaning X.Key.bytes X.Value.bytes X.Digest.bytes session.now result
-        (machine.info X.scheme) }
+    ensures machine { Tells C.Store X.Meaning X.Key.bytes X.Value.bytes X.Digest.bytes session.now
+        result (machine.info X.scheme) }
     ensures never { result ≢ Turn.StoreFault }
 {
     let Given::Database(x) = &session.held else {
@@ -155,8 +163,8 @@ pub fn batch_info<X: Common<C>, C: Store>(
     session: &SessionOf<X, C>,
     number: u64,
 ) -> Turn<X::Key, X::Value, X::Digest>
-    ensures machine { Tells C.Store X.Meaning X.Key.bytes X.Value.bytes X.Digest.bytes session.now result
-        (λ s. machine.batch_info X.scheme s number) }
+    ensures machine { Tells C.Store X.Meaning X.Key.bytes X.Value.bytes X.Digest.bytes session.now
+        result (λ s. machine.batch_info X.scheme s number) }
     ensures never { result ≢ Turn.StoreFault }
 {
     let Some(batch) = merkleized_at(&session.table, number) else {
@@ -173,8 +181,8 @@ pub fn batch_info<X: Common<C>, C: Store>(
 
 /// The roots of the database.
 pub fn root<X: Reading<C>, C: Store>(session: &SessionOf<X, C>) -> Turn<X::Key, X::Value, X::Digest>
-    ensures machine { Tells C.Store X.Meaning X.Key.bytes X.Value.bytes X.Digest.bytes session.now result
-        (machine.root X.scheme) }
+    ensures machine { Tells C.Store X.Meaning X.Key.bytes X.Value.bytes X.Digest.bytes session.now
+        result (machine.root X.scheme) }
     ensures never { result ≢ Turn.StoreFault }
 {
     let Given::Database(x) = &session.held else {
@@ -189,8 +197,8 @@ pub fn batch_root<X: Reading<C>, C: Store>(
     session: &SessionOf<X, C>,
     number: u64,
 ) -> Turn<X::Key, X::Value, X::Digest>
-    ensures machine { Tells C.Store X.Meaning X.Key.bytes X.Value.bytes X.Digest.bytes session.now result
-        (λ s. machine.batch_root X.scheme s number) }
+    ensures machine { Tells C.Store X.Meaning X.Key.bytes X.Value.bytes X.Digest.bytes session.now
+        result (λ s. machine.batch_root X.scheme s number) }
     ensures never { result ≢ Turn.StoreFault }
 {
     let Some(batch) = merkleized_at(&session.table, number) else {
@@ -205,8 +213,8 @@ pub fn meta<X: Reading<C>, C: Store>(
     alloc: Global,
     session: &SessionOf<X, C>,
 ) -> Turn<X::Key, X::Value, X::Digest>
-    ensures machine { Tells C.Store X.Meaning X.Key.bytes X.Value.bytes X.Digest.bytes session.now result
-        (machine.meta) }
+    ensures machine { Tells C.Store X.Meaning X.Key.bytes X.Value.bytes X.Digest.bytes session.now
+        result (machine.meta) }
     ensures never { result ≢ Turn.StoreFault }
 {
     let Given::Database(x) = &session.held else {

@@ -25,10 +25,12 @@ pub fn stage<X: Staging<C>, C: Store>(
     number: u64,
     keys: &[X::Key],
 ) -> Turn<X::Key, X::Value, X::Digest>
-    ensures machine { Obeys C.Store X.Meaning X.Key.bytes X.Value.bytes X.Digest.bytes session.old session.new result
-        (λ s. machine.stage X.scheme s number (map X.Key.bytes keys.now)) }
-    ensures store { IsUnchanged C.Store (store_given X.inside session.old.held) (store_given X.inside session.new.held) }
-    ensures uses { Uses C.Store (store_given X.inside session.old.held) (store_given X.inside session.new.held) result }
+    ensures machine { Obeys C.Store X.Meaning X.Key.bytes X.Value.bytes X.Digest.bytes session.old
+        session.new result (λ s. machine.stage X.scheme s number (map X.Key.bytes keys.now)) }
+    ensures store { IsUnchanged C.Store (store_given X.inside session.old.held)
+        (store_given X.inside session.new.held) }
+    ensures uses { Uses C.Store (store_given X.inside session.old.held)
+        (store_given X.inside session.new.held) result }
     ensures opened { session.new.opened ≡ session.old.opened }
 {
     let Given::Database(x) = &mut session.held else {
@@ -53,10 +55,12 @@ pub fn expand<X: Staging<C>, C: Store>(
     number: u64,
     keys: &[X::Key],
 ) -> Turn<X::Key, X::Value, X::Digest>
-    ensures machine { Obeys C.Store X.Meaning X.Key.bytes X.Value.bytes X.Digest.bytes session.old session.new result
-        (λ s. machine.expand X.scheme s number (map X.Key.bytes keys.now)) }
-    ensures store { IsUnchanged C.Store (store_given X.inside session.old.held) (store_given X.inside session.new.held) }
-    ensures uses { Uses C.Store (store_given X.inside session.old.held) (store_given X.inside session.new.held) result }
+    ensures machine { Obeys C.Store X.Meaning X.Key.bytes X.Value.bytes X.Digest.bytes session.old
+        session.new result (λ s. machine.expand X.scheme s number (map X.Key.bytes keys.now)) }
+    ensures store { IsUnchanged C.Store (store_given X.inside session.old.held)
+        (store_given X.inside session.new.held) }
+    ensures uses { Uses C.Store (store_given X.inside session.old.held)
+        (store_given X.inside session.new.held) result }
     ensures opened { session.new.opened ≡ session.old.opened }
 {
     let Given::Database(x) = &mut session.held else {
@@ -80,10 +84,13 @@ fn take_counted<X: Staging<C>, C: Store>(
     number: u64,
     given: usize,
 ) -> Result<X::Staged, Refused>
-    ensures batch { IfOk result (λ b. (staged_of (slice_index_or table.old.items number Slot.Gone) ≡ Some b) × (given ≡ X.count b)
+    ensures batch { IfOk result (λ b.
+        (staged_of (slice_index_or table.old.items number Slot.Gone) ≡ Some b) × (given ≡ X.count b)
         × (table.new.items ≡ slice_set table.old.items number Slot.Gone)) }
-    ensures refused { IfErr result (λ r. MatchOption (staged_of (slice_index_or table.old.items number Slot.Gone))
-        (r ≡ Refused.NoSuchHandle number) (λ b. (X.count b ≢ given) × (r ≡ Refused.SlotCount (X.count b) given))) }
+    ensures refused { IfErr result (λ r.
+        MatchOption (staged_of (slice_index_or table.old.items number Slot.Gone))
+        (r ≡ Refused.NoSuchHandle number) (λ b.
+        (X.count b ≢ given) × (r ≡ Refused.SlotCount (X.count b) given))) }
     ensures left { IfErr result (λ _. table.new.items ≡ table.old.items) }
 {
     let Some(batch) = take_staged(table, number) else {
@@ -110,7 +117,9 @@ fn resolve_batch<X: Staging<C>, C: Store, P: Policy<X::Family, X::Key, X::Value>
     requires { length resolution.now.slots.items ≡ X.count batch }
     ensures made { AtStaged X.Meaning database.old batch (λ list chain above ws keys.
         let writes = slotted ws keys (slot_views X.Value.bytes resolution.now.slots.items) (write_views X.Key.bytes X.Value.bytes resolution.now.others.items) in
-        Makes X.Meaning C.Store database.old list chain (tip_of X.scheme P.rules chain writes policy.now (option_map X.Value.bytes metadata.now)) result) }
+        Makes X.Meaning C.Store database.old list chain
+        (tip_of X.scheme P.rules chain writes policy.now (option_map X.Value.bytes metadata.now))
+        result) }
     ensures reads { ReadsOnly X.Meaning C.Store database.old database.new result }
 {
     let mut policy = policy.twin(alloc)?;
@@ -127,10 +136,15 @@ pub fn resolve<X: Staging<C>, C: Store, P: Policy<X::Family, X::Key, X::Value> +
     metadata: &Option<X::Value>,
     resolution: &Resolution<X::Key, X::Value>,
 ) -> Turn<X::Key, X::Value, X::Digest>
-    ensures machine { ObeysSteady C.Store X.Meaning X.Key.bytes X.Value.bytes X.Digest.bytes session.old session.new result
-        (λ s. machine.resolve X.scheme P.rules s number policy.now (option_map X.Value.bytes metadata.now) (slot_views X.Value.bytes resolution.now.slots.items) (write_views X.Key.bytes X.Value.bytes resolution.now.others.items)) }
-    ensures store { IsUnchanged C.Store (store_given X.inside session.old.held) (store_given X.inside session.new.held) }
-    ensures uses { Uses C.Store (store_given X.inside session.old.held) (store_given X.inside session.new.held) result }
+    ensures machine { ObeysSteady C.Store X.Meaning X.Key.bytes X.Value.bytes X.Digest.bytes
+        session.old session.new result (λ s.
+        machine.resolve X.scheme P.rules s number policy.now (option_map X.Value.bytes metadata.now)
+        (slot_views X.Value.bytes resolution.now.slots.items)
+        (write_views X.Key.bytes X.Value.bytes resolution.now.others.items)) }
+    ensures store { IsUnchanged C.Store (store_given X.inside session.old.held)
+        (store_given X.inside session.new.held) }
+    ensures uses { Uses C.Store (store_given X.inside session.old.held)
+        (store_given X.inside session.new.held) result }
     ensures opened { session.new.opened ≡ session.old.opened }
 {
     let Given::Database(x) = &mut session.held else {

@@ -126,7 +126,8 @@ struct OneRead {
 }
 
 fn one_read(mut reading: Reading) -> Option<OneRead>
-    ensures { (line : Bytes → Option ℕ → Line Policy) → option_map (λ read. line read.key read.from) result ≡ grammar.one_read line reading }
+    ensures { (line : Bytes → Option ℕ → Line Policy)
+        → option_map (λ read. line read.key read.from) result ≡ grammar.one_read line reading }
 {
     let key = reading.keys.pop()?;
     let from = reading.from;
@@ -204,7 +205,8 @@ fn chunks(words: &[&[u8]]) -> Result<ByteCommand, Unread>
 
 // What a current database offers.
 fn current(alloc: Global, name: &[u8], words: &[&[u8]]) -> Result<ByteCommand, Unread>
-    ensures { Reads byte_line result (grammar.form_of name.now (lent words.now) grammar.current_forms) }
+    ensures { Reads byte_line result
+        (grammar.form_of name.now (lent words.now) grammar.current_forms) }
 {
     if is(name, b"held") {
         only_key(alloc, KeyForm::Held, words)
@@ -224,7 +226,8 @@ fn current(alloc: Global, name: &[u8], words: &[&[u8]]) -> Result<ByteCommand, U
 
 // What makes a store last, or ends a database.
 fn lasting(alloc: Global, name: &[u8], words: &[&[u8]]) -> Result<ByteCommand, Unread>
-    ensures { Reads byte_line result (grammar.form_of name.now (lent words.now) grammar.lasting_forms) }
+    ensures { Reads byte_line result
+        (grammar.form_of name.now (lent words.now) grammar.lasting_forms) }
 {
     if is(name, b"prune") {
         Ok(Command::Store(StoreCommand::Prune(only_number(words)?)))
@@ -245,7 +248,8 @@ fn lasting(alloc: Global, name: &[u8], words: &[&[u8]]) -> Result<ByteCommand, U
 
 // What tells what a list or a batch is.
 fn telling(alloc: Global, name: &[u8], words: &[&[u8]]) -> Result<ByteCommand, Unread>
-    ensures { Reads byte_line result (grammar.form_of name.now (lent words.now) grammar.telling_forms) }
+    ensures { Reads byte_line result
+        (grammar.form_of name.now (lent words.now) grammar.telling_forms) }
 {
     if is(name, b"info") {
         info(words)
@@ -266,7 +270,8 @@ fn telling(alloc: Global, name: &[u8], words: &[&[u8]]) -> Result<ByteCommand, U
 
 // What reads.
 fn reading(alloc: Global, name: &[u8], words: &[&[u8]]) -> Result<ByteCommand, Unread>
-    ensures { Reads byte_line result (grammar.form_of name.now (lent words.now) grammar.reading_forms) }
+    ensures { Reads byte_line result
+        (grammar.form_of name.now (lent words.now) grammar.reading_forms) }
 {
     if is(name, b"get") {
         read(alloc, ReadForm::Get, words)
@@ -291,7 +296,8 @@ fn reading(alloc: Global, name: &[u8], words: &[&[u8]]) -> Result<ByteCommand, U
 
 // What stages a batch, and what is done with one that is made.
 fn staged(alloc: Global, name: &[u8], words: &[&[u8]]) -> Result<ByteCommand, Unread>
-    ensures { Reads byte_line result (grammar.form_of name.now (lent words.now) grammar.staged_forms) }
+    ensures { Reads byte_line result
+        (grammar.form_of name.now (lent words.now) grammar.staged_forms) }
 {
     if is(name, b"stage") {
         keyed(alloc, KeyedForm::Stage, words)

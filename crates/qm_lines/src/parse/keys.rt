@@ -87,7 +87,8 @@ impl Model for Reading {
 
 // Keys, and behind them a last word: the batch, or one more key.
 fn end_reading(alloc: Global, mut keys: Vec<ByteKey>, last: &[u8]) -> Result<Reading, Unread>
-    ensures { Reads (λ reading. reading) result (option_map (with_keys keys.items) (grammar.last_reading last.now)) }
+    ensures { Reads (λ reading. reading) result
+        (option_map (with_keys keys.items) (grammar.last_reading last.now)) }
 {
     let from = named_number(b"from=", last);
     if from.is_none() {

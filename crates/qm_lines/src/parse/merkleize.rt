@@ -28,7 +28,8 @@ pub fn parse_merkleizing(
     policy_word: &[u8],
     metadata_word: &[u8],
 ) -> Result<Merkleizing, Unread>
-    ensures { Reads (λ m. (m.handle, policy_view m.policy, m.metadata)) result (merkleizing_of handle.now policy_word.now metadata_word.now) }
+    ensures { Reads (λ m. (m.handle, policy_view m.policy, m.metadata)) result
+        (merkleizing_of handle.now policy_word.now metadata_word.now) }
 {
     let handle = number(handle)?;
     let metadata = metadata(alloc, metadata_word)?;

@@ -15,7 +15,8 @@ use std::alloc::Global;
 
 // What stands behind this name in the first part, and the parts after it.
 fn first_named<'a>(name: &[u8], parts: &'a [&'a [u8]]) -> Option<(&'a [u8], &'a [&'a [u8]])>
-    ensures { option_map (λ found. (found.0.now, lent found.1.now)) result ≡ first_named name.now (lent parts.now) }
+    ensures { option_map (λ found. (found.0.now, lent found.1.now)) result
+        ≡ first_named name.now (lent parts.now) }
 {
     let (first, rest) = parts.split_first()?;
     let behind = first.strip_prefix(name)?;
@@ -35,7 +36,8 @@ fn optional_value<'a>(
     name: &[u8],
     parts: &'a [&'a [u8]],
 ) -> Result<Said<'a, ByteValue>, Unread>
-    ensures { Reads (λ s. (s.said, lent s.rest.now)) result (grammar.optional name.now grammar.value_of (lent parts.now)) }
+    ensures { Reads (λ s. (s.said, lent s.rest.now)) result
+        (grammar.optional name.now grammar.value_of (lent parts.now)) }
 {
     let Some((word, rest)) = first_named(name, parts) else {
         return Ok(Said {
@@ -66,7 +68,8 @@ fn optional_swap<'a>(
     name: &[u8],
     parts: &'a [&'a [u8]],
 ) -> Result<Said<'a, (ByteValue, ByteValue)>, Unread>
-    ensures { Reads (λ s. (s.said, lent s.rest.now)) result (grammar.optional name.now grammar.swap_of (lent parts.now)) }
+    ensures { Reads (λ s. (s.said, lent s.rest.now)) result
+        (grammar.optional name.now grammar.swap_of (lent parts.now)) }
 {
     let Some((word, rest)) = first_named(name, parts) else {
         return Ok(Said {
@@ -104,7 +107,8 @@ fn rule_of(
     stop: Option<ByteValue>,
     swap: Said<'_, (ByteValue, ByteValue)>,
 ) -> Result<AnyPolicy, Unread>
-    ensures { Reads policy_view result (grammar.rule_of limits.entries limits.skips drop stop (swap.entry.said, lent swap.entry.rest.now)) }
+    ensures { Reads policy_view result (grammar.rule_of limits.entries limits.skips drop stop
+        (swap.entry.said, lent swap.entry.rest.now)) }
 {
     let policy = AnyPolicy::Rule(Rule {
         entries: limits.entries,
@@ -118,7 +122,8 @@ fn rule_of(
 
 // A rule within these limits, of what is to be dropped, to be stopped at and to be swapped.
 fn rule_with(alloc: Global, limits: Limits, parts: &[&[u8]]) -> Result<AnyPolicy, Unread>
-    ensures { Reads policy_view result (grammar.rule_with limits.entries limits.skips (lent parts.now)) }
+    ensures { Reads policy_view result
+        (grammar.rule_with limits.entries limits.skips (lent parts.now)) }
 {
     let drop = optional_value(alloc, b"drop=", parts)?;
     let stop = optional_value(alloc, b"stop=", drop.rest)?;

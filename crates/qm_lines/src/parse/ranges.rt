@@ -51,7 +51,9 @@ struct Ends {
 
 // Two ends and no word more, whatever is made of them.
 fn parse_ends(alloc: Global, words: &[&[u8]]) -> Result<Ends, Unread>
-    ensures { (line : Limit → Limit → Line Policy) → Reads (λ ends. line (byte_bound ends.low) (byte_bound ends.high)) result (grammar.range_of line (lent words.now)) }
+    ensures { (line : Limit → Limit → Line Policy)
+        → Reads (λ ends. line (byte_bound ends.low) (byte_bound ends.high)) result
+        (grammar.range_of line (lent words.now)) }
 {
     let [low_word, high_word] = words else {
         return Err(Unread::Malformed);

@@ -44,7 +44,8 @@ fn write(alloc: Global, word: &[u8]) -> Result<Write<ByteKey, ByteValue>, Unread
 
 // These words as writes, if each is one.
 fn writes(alloc: Global, words: &[&[u8]]) -> Result<Vec<Write<ByteKey, ByteValue>>, Unread>
-    ensures { Reads (λ writes. map byte_write writes.items) result (grammar.each_write (lent words.now)) }
+    ensures { Reads (λ writes. map byte_write writes.items) result
+        (grammar.each_write (lent words.now)) }
 {
     let mut writes = Vec::new(alloc);
     for word in words {
@@ -56,7 +57,9 @@ fn writes(alloc: Global, words: &[&[u8]]) -> Result<Vec<Write<ByteKey, ByteValue
 // Slots as far as there are any.
 fn slots(alloc: Global, words: &[&[u8]]) -> Result<Vec<Slot<ByteValue>>, AllocError>
     ensures within { IfOk result (λ found. length found.items ≤ length words.now) }
-    ensures slots { IfOk result (λ found. option_map (λ others. (map byte_slot found.items, others)) (grammar.each_write (drop (length found.items) (lent words.now))) ≡ grammar.resolution_of (lent words.now)) }
+    ensures slots { IfOk result (λ found. option_map (λ others. (map byte_slot found.items, others))
+        (grammar.each_write (drop (length found.items) (lent words.now)))
+        ≡ grammar.resolution_of (lent words.now)) }
 {
     let mut slots = Vec::new(alloc);
     for word in words {

@@ -19,7 +19,8 @@ impl<F: Family, D: Digest> MerkleizedBatch<F, D> {
     pub(crate) fn room(&self, leaves: Location<F>) -> u64
         requires { Contains (stops self.now.newest.tree.leaves (all_layers self.now)) leaves }
         ensures linked { AreLinked F.shape self.now.newest.tree.leaves (all_layers self.now) }
-        ensures nodes { trees.Shape.size F.shape leaves + result ≡ trees.Shape.size F.shape self.now.newest.tree.leaves }
+        ensures nodes { trees.Shape.size F.shape leaves + result
+            ≡ trees.Shape.size F.shape self.now.newest.tree.leaves }
     {
         F::location_to_position(self.newest.tree.leaves()).get()
             - F::location_to_position(leaves).get()
@@ -38,11 +39,19 @@ impl<F: Family, D: Digest> MerkleizedBatch<F, D> {
         requires pins { length pins.old ≡ length positions.now }
         requires low { All (λ p. p < size) positions.now }
         requires size { size + length nodes.old.items ≡ trees.Shape.size F.shape leaves }
-        requires room { trees.Shape.size F.shape self.now.newest.tree.leaves ≤ size + vec_capacity nodes.old }
+        requires room { trees.Shape.size F.shape self.now.newest.tree.leaves
+            ≤ size + vec_capacity nodes.old }
         ensures length { length pins.new ≡ length pins.old }
-        ensures pins { (i p : ℕ) → slice_get positions.now i ≡ Some p → slice_get pins.new i ≡ option_or (layers_at F.shape (layers_since leaves (all_layers self.now)) p) (slice_get pins.old i) }
-        ensures size { size + length nodes.new.items ≡ trees.Shape.size F.shape self.now.newest.tree.leaves }
-        ensures nodes { (i : ℕ) → slice_get nodes.new.items i ≡ option_or (layers_at F.shape (layers_since leaves (all_layers self.now)) (size + i)) (slice_get nodes.old.items i) }
+        ensures pins { (i p : ℕ) → slice_get positions.now i ≡ Some p
+            → slice_get pins.new i
+            ≡ option_or (layers_at F.shape (layers_since leaves (all_layers self.now)) p)
+            (slice_get pins.old i) }
+        ensures size { size + length nodes.new.items
+            ≡ trees.Shape.size F.shape self.now.newest.tree.leaves }
+        ensures nodes { (i : ℕ)
+            → slice_get nodes.new.items i
+            ≡ option_or (layers_at F.shape (layers_since leaves (all_layers self.now)) (size + i))
+            (slice_get nodes.old.items i) }
     {
         if self.newest.base().get() < leaves.get() {
             return;
@@ -62,7 +71,8 @@ pub(super) fn count_since<F: Family, D: Digest>(
     leaves: Location<F>,
 ) -> usize
     ensures within { result ≤ length layers.now }
-    ensures since { take result (map (λ r. r.value) layers.now) ≡ layers_since leaves (map (λ r. r.value) layers.now) }
+    ensures since { take result (map (λ r. r.value) layers.now)
+        ≡ layers_since leaves (map (λ r. r.value) layers.now) }
 {
     let mut count = 0;
     for layer in layers {
@@ -80,12 +90,19 @@ impl<F: Family, D: Digest> Layer<F, D> {
         requires whole { IsWhole F.shape self.now.tree }
         requires pins { length pins.old ≡ length positions.now }
         requires low { All (λ p. p < trees.Shape.size F.shape self.now.tree.start) positions.now }
-        requires size { size + length nodes.old.items ≡ trees.Shape.size F.shape self.now.tree.start }
-        requires room { trees.Shape.size F.shape self.now.tree.leaves ≤ size + vec_capacity nodes.old }
+        requires size { size + length nodes.old.items
+            ≡ trees.Shape.size F.shape self.now.tree.start }
+        requires room { trees.Shape.size F.shape self.now.tree.leaves
+            ≤ size + vec_capacity nodes.old }
         ensures length { length pins.new ≡ length pins.old }
-        ensures pins { (i p : ℕ) → slice_get positions.now i ≡ Some p → slice_get pins.new i ≡ option_or (layer_at F.shape self.now p) (slice_get pins.old i) }
-        ensures size { size + length nodes.new.items ≡ trees.Shape.size F.shape self.now.tree.leaves }
-        ensures nodes { (i : ℕ) → slice_get nodes.new.items i ≡ option_or (layer_at F.shape self.now (size + i)) (slice_get nodes.old.items i) }
+        ensures pins { (i p : ℕ) → slice_get positions.now i ≡ Some p
+            → slice_get pins.new i
+            ≡ option_or (layer_at F.shape self.now p) (slice_get pins.old i) }
+        ensures size { size + length nodes.new.items
+            ≡ trees.Shape.size F.shape self.now.tree.leaves }
+        ensures nodes { (i : ℕ)
+            → slice_get nodes.new.items i
+            ≡ option_or (layer_at F.shape self.now (size + i)) (slice_get nodes.old.items i) }
         ensures capacity { vec_capacity nodes.new ≡ vec_capacity nodes.old }
     {
         replace_pins(positions, pins, &self.replaced);
@@ -98,7 +115,9 @@ impl<F: Family, D: Digest> Layer<F, D> {
 fn replace_pins<F, D: Copy>(positions: &[Position<F>], pins: &mut [D], replaced: &BTreeMap<u64, D>)
     requires { length pins.old ≡ length positions.now }
     ensures length { length pins.new ≡ length pins.old }
-    ensures pins { (i p : ℕ) → slice_get positions.now i ≡ Some p → slice_get pins.new i ≡ option_or (found_at replaced.now.entries p) (slice_get pins.old i) }
+    ensures pins { (i p : ℕ) → slice_get positions.now i ≡ Some p
+        → slice_get pins.new i
+        ≡ option_or (found_at replaced.now.entries p) (slice_get pins.old i) }
 {
     for (i, position) in positions.iter().enumerate() {
         if let Some(digest) = replaced.get(&position.get()) {
@@ -110,7 +129,9 @@ fn replace_pins<F, D: Copy>(positions: &[Position<F>], pins: &mut [D], replaced:
 // Gives nodes that stand from a position on the digests that replace them.
 fn replace_nodes<D: Copy>(size: u64, nodes: &mut [D], replaced: &BTreeMap<u64, D>)
     ensures length { length nodes.new ≡ length nodes.old }
-    ensures nodes { (i : ℕ) → i < length nodes.old → slice_get nodes.new i ≡ option_or (found_at replaced.now.entries (size + i)) (slice_get nodes.old i) }
+    ensures nodes { (i : ℕ) → i < length nodes.old
+        → slice_get nodes.new i
+        ≡ option_or (found_at replaced.now.entries (size + i)) (slice_get nodes.old i) }
 {
     for (position, digest) in replaced {
         if size <= *position {

@@ -25,11 +25,17 @@ impl<F: Family, D: Digest> UnmerkleizedBatch<F, D> {
     ) -> Result<BTreeMap<u64, D>, AllocError>
         requires there { AreThere F.shape self.now.layers mem.now self.now.base }
         requires start { All (λ e. mem.now.start ≤ e.0) self.now.replaced }
-        ensures own { IfOk result (λ m. HaveOver F.shape self.now.replaced self.now.base m.entries) }
-        ensures digests { (list : List (List ℕ)) → length list ≡ self.now.base → AreRead F.shape D.bytes H.hash self.now.layers mem.now list → IfOk result (λ m. AreRight F.shape D.bytes H.hash m.entries (replaced_from D.bytes self.now.replaced 0 list)) }
+        ensures own { IfOk result (λ m.
+            HaveOver F.shape self.now.replaced self.now.base m.entries) }
+        ensures digests { (list : List (List ℕ)) → length list ≡ self.now.base
+            → AreRead F.shape D.bytes H.hash self.now.layers mem.now list
+            → IfOk result (λ m. AreRight F.shape D.bytes H.hash m.entries
+            (replaced_from D.bytes self.now.replaced 0 list)) }
         ensures count { IfOk result (λ m. length self.now.replaced ≤ length m.entries) }
-        ensures few { (k : ℕ) → self.now.base < 2 ^ suc k → IfOk result (λ m. length m.entries ≤ length self.now.replaced * suc k) }
-        ensures made { IfOk result (λ m. hasher.new ≡ more hasher.old (length m.entries - length self.now.replaced)) }
+        ensures few { (k : ℕ) → self.now.base < 2 ^ suc k
+            → IfOk result (λ m. length m.entries ≤ length self.now.replaced * suc k) }
+        ensures made { IfOk result (λ m.
+            hasher.new ≡ more hasher.old (length m.entries - length self.now.replaced)) }
     {
         let mut nodes = BTreeMap::new(alloc);
         let mut row = self.replaced_leaves(alloc, &mut nodes)?;
@@ -53,16 +59,25 @@ impl<F: Family, D: Digest> UnmerkleizedBatch<F, D> {
         requires there { AreThere F.shape self.now.layers mem.now self.now.base }
         requires start { All (λ e. mem.now.start ≤ e.0) self.now.replaced }
         requires height { (0 < height) × (height < 63) }
-        requires own { AreOver F.shape self.now.replaced self.now.base (height - 1) nodes.old.entries }
+        requires own { AreOver F.shape self.now.replaced self.now.base (height - 1)
+            nodes.old.entries }
         requires row { IsRow F.shape self.now.base (height - 1) nodes.old.entries row.now }
-        ensures own { OnOk result (AreOver F.shape self.now.replaced self.now.base height nodes.new.entries) }
-        ensures row { IfOk result (λ v. IsRow F.shape self.now.base height nodes.new.entries v.items) }
-        ensures digests { (list : List (List ℕ)) → length list ≡ self.now.base → AreRead F.shape D.bytes H.hash self.now.layers mem.now list → AreRight F.shape D.bytes H.hash nodes.old.entries (replaced_from D.bytes self.now.replaced 0 list)
-            → OnOk result (AreRight F.shape D.bytes H.hash nodes.new.entries (replaced_from D.bytes self.now.replaced 0 list)) }
-        ensures count { IfOk result (λ v. length nodes.new.entries ≡ length nodes.old.entries + length v.items) }
+        ensures own { OnOk result
+            (AreOver F.shape self.now.replaced self.now.base height nodes.new.entries) }
+        ensures row { IfOk result (λ v.
+            IsRow F.shape self.now.base height nodes.new.entries v.items) }
+        ensures digests { (list : List (List ℕ)) → length list ≡ self.now.base
+            → AreRead F.shape D.bytes H.hash self.now.layers mem.now list
+            → AreRight F.shape D.bytes H.hash nodes.old.entries
+            (replaced_from D.bytes self.now.replaced 0 list)
+            → OnOk result (AreRight F.shape D.bytes H.hash nodes.new.entries
+            (replaced_from D.bytes self.now.replaced 0 list)) }
+        ensures count { IfOk result (λ v.
+            length nodes.new.entries ≡ length nodes.old.entries + length v.items) }
         ensures fewer { IfOk result (λ v. length v.items ≤ length row.now) }
         ensures none { self.now.base < 2 ^ height → IfOk result (λ v. length v.items ≡ 0) }
-        ensures made { OnOk result (hasher.new ≡ more hasher.old (length nodes.new.entries - length nodes.old.entries)) }
+        ensures made { OnOk result
+            (hasher.new ≡ more hasher.old (length nodes.new.entries - length nodes.old.entries)) }
     {
         let mut above = Vec::with_capacity(alloc, row.len())?;
         for index in row {
@@ -91,9 +106,16 @@ impl<F: Family, D: Digest> UnmerkleizedBatch<F, D> {
         requires high { 0 < node.height }
         requires below { trees.Shape.birth F.shape node ≤ self.now.base }
         requires above { IsOver self.now.replaced node.height node.index }
-        requires own { (x : trees.Node) → trees.Shape.birth F.shape x ≤ self.now.base → x.height < node.height → (IsSome (found_at nodes.now.entries (trees.Shape.position F.shape x)) ↔ IsOver self.now.replaced x.height x.index) }
-        ensures digest { (list : List (List ℕ)) → length list ≡ self.now.base → AreRead F.shape D.bytes H.hash self.now.layers mem.now list → AreRight F.shape D.bytes H.hash nodes.now.entries (replaced_from D.bytes self.now.replaced 0 list)
-            → D.bytes result ≡ trees.digest_of H.hash F.shape (replaced_from D.bytes self.now.replaced 0 list) node }
+        requires own { (x : trees.Node) → trees.Shape.birth F.shape x ≤ self.now.base
+            → x.height < node.height
+            → (IsSome (found_at nodes.now.entries (trees.Shape.position F.shape x))
+            ↔ IsOver self.now.replaced x.height x.index) }
+        ensures digest { (list : List (List ℕ)) → length list ≡ self.now.base
+            → AreRead F.shape D.bytes H.hash self.now.layers mem.now list
+            → AreRight F.shape D.bytes H.hash nodes.now.entries
+            (replaced_from D.bytes self.now.replaced 0 list)
+            → D.bytes result
+            ≡ trees.digest_of H.hash F.shape (replaced_from D.bytes self.now.replaced 0 list) node }
         ensures made { hasher.new ≡ more hasher.old 1 }
     {
         let (left, right) = halves(node);
@@ -112,9 +134,13 @@ impl<F: Family, D: Copy> UnmerkleizedBatch<F, D> {
     ) -> Result<Vec<u64>, AllocError>
         requires { nodes.old.entries ≡ [] }
         ensures few { self.now.base ≤ 2 ^ 62 }
-        ensures own { OnOk result (AreOver F.shape self.now.replaced self.now.base 0 nodes.new.entries) }
+        ensures own { OnOk result
+            (AreOver F.shape self.now.replaced self.now.base 0 nodes.new.entries) }
         ensures row { IfOk result (λ v. IsRow F.shape self.now.base 0 nodes.new.entries v.items) }
-        ensures digests { (bytes : D → List ℕ) (hash : List ℕ → List ℕ) (list : List (List ℕ)) → length list ≡ self.now.base → OnOk result (AreRight F.shape bytes hash nodes.new.entries (replaced_from bytes self.now.replaced 0 list)) }
+        ensures digests { (bytes : D → List ℕ) (hash : List ℕ → List ℕ) (list : List (List ℕ))
+            → length list ≡ self.now.base
+            → OnOk result (AreRight F.shape bytes hash nodes.new.entries
+            (replaced_from bytes self.now.replaced 0 list)) }
         ensures count { OnOk result (length nodes.new.entries ≡ length self.now.replaced) }
         ensures rows { IfOk result (λ v. length v.items ≡ length self.now.replaced) }
     {
@@ -144,10 +170,13 @@ pub(crate) fn replace<D: Copy>(
     number: u64,
     digest: D,
 ) -> Result<(), AllocError>
-    ensures entries { OnOk result (entries.new.entries ≡ insert_entry nat_cmp entries.old.entries number digest) }
+    ensures entries { OnOk result
+        (entries.new.entries ≡ insert_entry nat_cmp entries.old.entries number digest) }
     ensures here { OnOk result (found_at entries.new.entries number ≡ Some digest) }
-    ensures other { OnOk result ((n : ℕ) → n ≢ number → found_at entries.new.entries n ≡ found_at entries.old.entries n) }
-    ensures count { found_at entries.old.entries number ≡ None → OnOk result (length entries.new.entries ≡ length entries.old.entries + 1) }
+    ensures other { OnOk result
+        ((n : ℕ) → n ≢ number → found_at entries.new.entries n ≡ found_at entries.old.entries n) }
+    ensures count { found_at entries.old.entries number ≡ None
+        → OnOk result (length entries.new.entries ≡ length entries.old.entries + 1) }
     ensures err { OnErr result (entries.new.entries ≡ entries.old.entries) }
 {
     entries.insert(number, digest)?;

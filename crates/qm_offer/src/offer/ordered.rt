@@ -21,19 +21,25 @@ use std::ops::Bound;
 pub trait Neighbours<C: Store>: Common<C> {
     /// In an ordered database reads the nearest live key above this one.
     fn next(&mut self, alloc: Global, key: &Self::Key) -> Result<Option<Self::Key>, Error>
-        ensures above { IfOk result (λ k. Self.scheme.form.ordered ≡ true → (list : List Operation) → Self.stands self.old list
+        ensures above { IfOk result (λ k.
+            Self.scheme.form.ordered ≡ true → (list : List Operation) → Self.stands self.old list
             → option_map Self.Key.bytes k ≡ key_above (live_keys list) (Self.Key.bytes key.now)) }
         ensures reads { ReadsOnly Self.Meaning C.Store self.old self.new result }
         ensures never { IfErr result (λ e. e ≢ Error.StaleBatch) }
-        ensures refused { IfErr result (λ e. (list : List Operation) → Self.stands self.old list → TellsFrom C.Store (Self.inside self.old) list → refusal_of e ≡ None) };
+        ensures refused { IfErr result (λ e. (list : List Operation) → Self.stands self.old list
+            → TellsFrom C.Store (Self.inside self.old) list
+            → refusal_of e ≡ None) };
 
     /// In an ordered database reads the nearest live key below this one.
     fn prev(&mut self, alloc: Global, key: &Self::Key) -> Result<Option<Self::Key>, Error>
-        ensures below { IfOk result (λ k. Self.scheme.form.ordered ≡ true → (list : List Operation) → Self.stands self.old list
+        ensures below { IfOk result (λ k.
+            Self.scheme.form.ordered ≡ true → (list : List Operation) → Self.stands self.old list
             → option_map Self.Key.bytes k ≡ key_below (live_keys list) (Self.Key.bytes key.now)) }
         ensures reads { ReadsOnly Self.Meaning C.Store self.old self.new result }
         ensures never { IfErr result (λ e. e ≢ Error.StaleBatch) }
-        ensures refused { IfErr result (λ e. (list : List Operation) → Self.stands self.old list → TellsFrom C.Store (Self.inside self.old) list → refusal_of e ≡ None) };
+        ensures refused { IfErr result (λ e. (list : List Operation) → Self.stands self.old list
+            → TellsFrom C.Store (Self.inside self.old) list
+            → refusal_of e ≡ None) };
 
     /// In an ordered database reads the nearest live key above this one through a merkleized batch, on the list that it makes.
     /// It is refused where `get_from` is.
@@ -43,10 +49,15 @@ pub trait Neighbours<C: Store>: Common<C> {
         batch: &Self::Merkleized,
         key: &Self::Key,
     ) -> Result<Option<Self::Key>, Error>
-        ensures readable { IfOk result (λ _. Self.scheme.form.ordered ≡ true → AtTip Self.Meaning self.old batch.now (λ list chain tip. CanRead Self.Meaning list chain tip)) }
-        ensures above { IfOk result (λ k. Self.scheme.form.ordered ≡ true → AtTip Self.Meaning self.old batch.now (λ list chain tip. IsKnown list chain tip
+        ensures readable { IfOk result (λ _. Self.scheme.form.ordered ≡ true
+            → AtTip Self.Meaning self.old batch.now (λ list chain tip.
+            CanRead Self.Meaning list chain tip)) }
+        ensures above { IfOk result (λ k. Self.scheme.form.ordered ≡ true
+            → AtTip Self.Meaning self.old batch.now (λ list chain tip. IsKnown list chain tip
             → option_map Self.Key.bytes k ≡ key_above (live_keys tip) (Self.Key.bytes key.now))) }
-        ensures failure { IfErr result (λ e. AtTip Self.Meaning self.old batch.now (λ list chain tip. IsReadFailure Self.Meaning (TellsFrom C.Store (Self.inside self.old) list) list chain tip e)) }
+        ensures failure { IfErr result (λ e.
+            AtTip Self.Meaning self.old batch.now (λ list chain tip. IsReadFailure Self.Meaning
+            (TellsFrom C.Store (Self.inside self.old) list) list chain tip e)) }
         ensures reads { ReadsOnly Self.Meaning C.Store self.old self.new result }
         ensures never { IfErr result (λ e. e ≢ Error.StaleBatch) };
 
@@ -58,10 +69,15 @@ pub trait Neighbours<C: Store>: Common<C> {
         batch: &Self::Merkleized,
         key: &Self::Key,
     ) -> Result<Option<Self::Key>, Error>
-        ensures readable { IfOk result (λ _. Self.scheme.form.ordered ≡ true → AtTip Self.Meaning self.old batch.now (λ list chain tip. CanRead Self.Meaning list chain tip)) }
-        ensures below { IfOk result (λ k. Self.scheme.form.ordered ≡ true → AtTip Self.Meaning self.old batch.now (λ list chain tip. IsKnown list chain tip
+        ensures readable { IfOk result (λ _. Self.scheme.form.ordered ≡ true
+            → AtTip Self.Meaning self.old batch.now (λ list chain tip.
+            CanRead Self.Meaning list chain tip)) }
+        ensures below { IfOk result (λ k. Self.scheme.form.ordered ≡ true
+            → AtTip Self.Meaning self.old batch.now (λ list chain tip. IsKnown list chain tip
             → option_map Self.Key.bytes k ≡ key_below (live_keys tip) (Self.Key.bytes key.now))) }
-        ensures failure { IfErr result (λ e. AtTip Self.Meaning self.old batch.now (λ list chain tip. IsReadFailure Self.Meaning (TellsFrom C.Store (Self.inside self.old) list) list chain tip e)) }
+        ensures failure { IfErr result (λ e.
+            AtTip Self.Meaning self.old batch.now (λ list chain tip. IsReadFailure Self.Meaning
+            (TellsFrom C.Store (Self.inside self.old) list) list chain tip e)) }
         ensures reads { ReadsOnly Self.Meaning C.Store self.old self.new result }
         ensures never { IfErr result (λ e. e ≢ Error.StaleBatch) };
 
@@ -71,11 +87,15 @@ pub trait Neighbours<C: Store>: Common<C> {
         alloc: Global,
         key: &Self::Key,
     ) -> Result<Option<Span<Self::Key, Self::Value>>, Error>
-        ensures span { IfOk result (λ s. Self.scheme.form.ordered ≡ true → (list : List Operation) → Self.stands self.old list
-            → option_map (span_view Self.Key.bytes Self.Value.bytes) s ≡ span_of list (Self.Key.bytes key.now)) }
+        ensures span { IfOk result (λ s.
+            Self.scheme.form.ordered ≡ true → (list : List Operation) → Self.stands self.old list
+            → option_map (span_view Self.Key.bytes Self.Value.bytes) s
+            ≡ span_of list (Self.Key.bytes key.now)) }
         ensures reads { ReadsOnly Self.Meaning C.Store self.old self.new result }
         ensures never { IfErr result (λ e. e ≢ Error.StaleBatch) }
-        ensures refused { IfErr result (λ e. (list : List Operation) → Self.stands self.old list → TellsFrom C.Store (Self.inside self.old) list → refusal_of e ≡ None) };
+        ensures refused { IfErr result (λ e. (list : List Operation) → Self.stands self.old list
+            → TellsFrom C.Store (Self.inside self.old) list
+            → refusal_of e ≡ None) };
 
     /// In an ordered database reads the value of a key, and the next key.
     fn all(
@@ -83,11 +103,15 @@ pub trait Neighbours<C: Store>: Common<C> {
         alloc: Global,
         key: &Self::Key,
     ) -> Result<Option<(Self::Value, Self::Key)>, Error>
-        ensures whole { IfOk result (λ p. Self.scheme.form.ordered ≡ true → (list : List Operation) → Self.stands self.old list
-            → option_map (whole_view Self.Key.bytes Self.Value.bytes) p ≡ option_map (λ e. (e.value, e.next)) (live_of (live list) (Self.Key.bytes key.now))) }
+        ensures whole { IfOk result (λ p.
+            Self.scheme.form.ordered ≡ true → (list : List Operation) → Self.stands self.old list
+            → option_map (whole_view Self.Key.bytes Self.Value.bytes) p
+            ≡ option_map (λ e. (e.value, e.next)) (live_of (live list) (Self.Key.bytes key.now))) }
         ensures reads { ReadsOnly Self.Meaning C.Store self.old self.new result }
         ensures never { IfErr result (λ e. e ≢ Error.StaleBatch) }
-        ensures refused { IfErr result (λ e. (list : List Operation) → Self.stands self.old list → TellsFrom C.Store (Self.inside self.old) list → refusal_of e ≡ None) };
+        ensures refused { IfErr result (λ e. (list : List Operation) → Self.stands self.old list
+            → TellsFrom C.Store (Self.inside self.old) list
+            → refusal_of e ≡ None) };
 
     /// In an ordered database reads the live keys of a range with their values, by key.
     fn range(
@@ -96,11 +120,15 @@ pub trait Neighbours<C: Store>: Common<C> {
         low: &Bound<Self::Key>,
         high: &Bound<Self::Key>,
     ) -> Result<Vec<(Self::Key, Self::Value)>, Error>
-        ensures pairs { IfOk result (λ pairs. Self.scheme.form.ordered ≡ true → (list : List Operation) → Self.stands self.old list
-            → map (pair_view Self.Key.bytes Self.Value.bytes) pairs.items ≡ pairs_in (limit_of Self.Key.bytes low.now) (limit_of Self.Key.bytes high.now) list) }
+        ensures pairs { IfOk result (λ pairs.
+            Self.scheme.form.ordered ≡ true → (list : List Operation) → Self.stands self.old list
+            → map (pair_view Self.Key.bytes Self.Value.bytes) pairs.items
+            ≡ pairs_in (limit_of Self.Key.bytes low.now) (limit_of Self.Key.bytes high.now) list) }
         ensures reads { ReadsOnly Self.Meaning C.Store self.old self.new result }
         ensures never { IfErr result (λ e. e ≢ Error.StaleBatch) }
-        ensures refused { IfErr result (λ e. (list : List Operation) → Self.stands self.old list → TellsFrom C.Store (Self.inside self.old) list → refusal_of e ≡ None) };
+        ensures refused { IfErr result (λ e. (list : List Operation) → Self.stands self.old list
+            → TellsFrom C.Store (Self.inside self.old) list
+            → refusal_of e ≡ None) };
 
     /// In an ordered database reads the live keys of a range, by key.
     fn keys(
@@ -109,9 +137,13 @@ pub trait Neighbours<C: Store>: Common<C> {
         low: &Bound<Self::Key>,
         high: &Bound<Self::Key>,
     ) -> Result<Vec<Self::Key>, Error>
-        ensures keys { IfOk result (λ keys. Self.scheme.form.ordered ≡ true → (list : List Operation) → Self.stands self.old list
-            → map Self.Key.bytes keys.items ≡ keys_in (limit_of Self.Key.bytes low.now) (limit_of Self.Key.bytes high.now) list) }
+        ensures keys { IfOk result (λ keys.
+            Self.scheme.form.ordered ≡ true → (list : List Operation) → Self.stands self.old list
+            → map Self.Key.bytes keys.items
+            ≡ keys_in (limit_of Self.Key.bytes low.now) (limit_of Self.Key.bytes high.now) list) }
         ensures reads { ReadsOnly Self.Meaning C.Store self.old self.new result }
         ensures never { IfErr result (λ e. e ≢ Error.StaleBatch) }
-        ensures refused { IfErr result (λ e. (list : List Operation) → Self.stands self.old list → TellsFrom C.Store (Self.inside self.old) list → refusal_of e ≡ None) };
+        ensures refused { IfErr result (λ e. (list : List Operation) → Self.stands self.old list
+            → TellsFrom C.Store (Self.inside self.old) list
+            → refusal_of e ≡ None) };
 }

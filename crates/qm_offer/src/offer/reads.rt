@@ -20,23 +20,30 @@ use std::alloc::{AllocError, Global};
 pub trait Reading<C: Store>: Common<C> {
     /// The roots of the list that a merkleized batch makes.
     fn batch_root(batch: &Self::Merkleized) -> Roots<Self::Digest>
-        ensures { (chain : Chain) (tip : List Operation) → Self.is_merkleized batch.now chain tip → AreRoots Self.scheme Self.Digest.bytes tip result };
+        ensures { (chain : Chain) (tip : List Operation) → Self.is_merkleized batch.now chain tip
+            → AreRoots Self.scheme Self.Digest.bytes tip result };
 
     /// The size of a merkleized batch's base, and its own operations.
     fn ops(
         alloc: Global,
         batch: &Self::Merkleized,
     ) -> Result<(u64, Vec<Listed<Self::Key, Self::Value>>), AllocError>
-        ensures { IfOk result (λ r. (chain : Chain) (tip : List Operation) → Self.is_merkleized batch.now chain tip
-            → (r.0 ≡ length chain.base) × (map (listed_view Self.Key.bytes Self.Value.bytes) r.1.items ≡ own_operations chain tip)) };
+        ensures { IfOk result (λ r.
+            (chain : Chain) (tip : List Operation) → Self.is_merkleized batch.now chain tip
+            → (r.0 ≡ length chain.base)
+            × (map (listed_view Self.Key.bytes Self.Value.bytes) r.1.items
+            ≡ own_operations chain tip)) };
 
     /// Reads the values of keys, in their order.
     fn get(&mut self, alloc: Global, keys: &[Self::Key]) -> Result<Vec<Option<Self::Value>>, Error>
         ensures values { IfOk result (λ v. (list : List Operation) → Self.stands self.old list
-            → map (option_map Self.Value.bytes) v.items ≡ map (λ k. value_of list (Self.Key.bytes k)) keys.now) }
+            → map (option_map Self.Value.bytes) v.items
+            ≡ map (λ k. value_of list (Self.Key.bytes k)) keys.now) }
         ensures reads { ReadsOnly Self.Meaning C.Store self.old self.new result }
         ensures never { IfErr result (λ e. e ≢ Error.StaleBatch) }
-        ensures refused { IfErr result (λ e. (list : List Operation) → Self.stands self.old list → TellsFrom C.Store (Self.inside self.old) list → refusal_of e ≡ None) };
+        ensures refused { IfErr result (λ e. (list : List Operation) → Self.stands self.old list
+            → TellsFrom C.Store (Self.inside self.old) list
+            → refusal_of e ≡ None) };
 
     /// Reads the values of keys through a batch: its own writes, then its base list. It is refused where the database is at no
     /// state at which the batch's parent can be read.
@@ -46,11 +53,15 @@ pub trait Reading<C: Store>: Common<C> {
         batch: &Self::Batch,
         keys: &[Self::Key],
     ) -> Result<Vec<Option<Self::Value>>, Error>
-        ensures readable { IfOk result (λ _. AtBatch Self.Meaning self.old batch.now (λ list chain above ws. CanRead Self.Meaning list above chain.base)) }
-        ensures values { IfOk result (λ v. AtBatch Self.Meaning self.old batch.now (λ list chain above ws. IsKnown list above chain.base
-            → map (option_map Self.Value.bytes) v.items ≡ map (λ k. read_through chain.base ws (Self.Key.bytes k)) keys.now)) }
-        ensures failure { IfErr result (λ e. AtBatch Self.Meaning self.old batch.now (λ list chain above ws.
-            IsReadFailure Self.Meaning (TellsFrom C.Store (Self.inside self.old) list) list above chain.base e)) }
+        ensures readable { IfOk result (λ _. AtBatch Self.Meaning self.old batch.now
+            (λ list chain above ws. CanRead Self.Meaning list above chain.base)) }
+        ensures values { IfOk result (λ v. AtBatch Self.Meaning self.old batch.now
+            (λ list chain above ws. IsKnown list above chain.base
+            → map (option_map Self.Value.bytes) v.items
+            ≡ map (λ k. read_through chain.base ws (Self.Key.bytes k)) keys.now)) }
+        ensures failure { IfErr result (λ e.
+            AtBatch Self.Meaning self.old batch.now (λ list chain above ws. IsReadFailure
+            Self.Meaning (TellsFrom C.Store (Self.inside self.old) list) list above chain.base e)) }
         ensures reads { ReadsOnly Self.Meaning C.Store self.old self.new result }
         ensures never { IfErr result (λ e. e ≢ Error.StaleBatch) };
 
@@ -62,18 +73,25 @@ pub trait Reading<C: Store>: Common<C> {
         batch: &Self::Merkleized,
         keys: &[Self::Key],
     ) -> Result<Vec<Option<Self::Value>>, Error>
-        ensures readable { IfOk result (λ _. AtTip Self.Meaning self.old batch.now (λ list chain tip. CanRead Self.Meaning list chain tip)) }
-        ensures values { IfOk result (λ v. AtTip Self.Meaning self.old batch.now (λ list chain tip. IsKnown list chain tip
-            → map (option_map Self.Value.bytes) v.items ≡ map (λ k. value_of tip (Self.Key.bytes k)) keys.now)) }
-        ensures failure { IfErr result (λ e. AtTip Self.Meaning self.old batch.now (λ list chain tip. IsReadFailure Self.Meaning (TellsFrom C.Store (Self.inside self.old) list) list chain tip e)) }
+        ensures readable { IfOk result (λ _. AtTip Self.Meaning self.old batch.now
+            (λ list chain tip. CanRead Self.Meaning list chain tip)) }
+        ensures values { IfOk result (λ v.
+            AtTip Self.Meaning self.old batch.now (λ list chain tip. IsKnown list chain tip
+            → map (option_map Self.Value.bytes) v.items
+            ≡ map (λ k. value_of tip (Self.Key.bytes k)) keys.now)) }
+        ensures failure { IfErr result (λ e.
+            AtTip Self.Meaning self.old batch.now (λ list chain tip. IsReadFailure Self.Meaning
+            (TellsFrom C.Store (Self.inside self.old) list) list chain tip e)) }
         ensures reads { ReadsOnly Self.Meaning C.Store self.old self.new result }
         ensures never { IfErr result (λ e. e ≢ Error.StaleBatch) };
 
     /// The roots of the database's list.
     fn root(&self) -> Roots<Self::Digest>
-        ensures { (list : List Operation) → Self.stands self.now list → AreRoots Self.scheme Self.Digest.bytes list result };
+        ensures { (list : List Operation) → Self.stands self.now list
+            → AreRoots Self.scheme Self.Digest.bytes list result };
 
     /// The metadata of the list's last commit.
     fn metadata(&self, alloc: Global) -> Result<Option<Self::Value>, AllocError>
-        ensures { IfOk result (λ v. (list : List Operation) → Self.stands self.now list → option_map Self.Value.bytes v ≡ last_metadata list) };
+        ensures { IfOk result (λ v. (list : List Operation) → Self.stands self.now list
+            → option_map Self.Value.bytes v ≡ last_metadata list) };
 }

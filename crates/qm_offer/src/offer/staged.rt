@@ -25,12 +25,16 @@ pub trait Staging<C: Store>: Batching<C> {
         batch: Self::Batch,
         keys: &[Self::Key],
     ) -> Result<(Vec<Option<Self::Value>>, Self::Staged), Error>
-        ensures readable { IfOk result (λ _. AtBatch Self.Meaning self.old batch (λ list chain above ws. CanRead Self.Meaning list above chain.base)) }
-        ensures values { IfOk result (λ r. AtBatch Self.Meaning self.old batch (λ list chain above ws. IsKnown list above chain.base
-            → (map (option_map Self.Value.bytes) r.0.items ≡ map (λ k. read_through chain.base ws (Self.Key.bytes k)) keys.now)
+        ensures readable { IfOk result (λ _. AtBatch Self.Meaning self.old batch
+            (λ list chain above ws. CanRead Self.Meaning list above chain.base)) }
+        ensures values { IfOk result (λ r. AtBatch Self.Meaning self.old batch
+            (λ list chain above ws. IsKnown list above chain.base
+            → (map (option_map Self.Value.bytes) r.0.items
+            ≡ map (λ k. read_through chain.base ws (Self.Key.bytes k)) keys.now)
             × Self.is_staged r.1 chain above ws (map Self.Key.bytes keys.now))) }
-        ensures failure { IfErr result (λ e. AtBatch Self.Meaning self.old batch (λ list chain above ws.
-            IsReadFailure Self.Meaning (TellsFrom C.Store (Self.inside self.old) list) list above chain.base e)) }
+        ensures failure { IfErr result (λ e.
+            AtBatch Self.Meaning self.old batch (λ list chain above ws. IsReadFailure Self.Meaning
+            (TellsFrom C.Store (Self.inside self.old) list) list above chain.base e)) }
         ensures reads { ReadsOnly Self.Meaning C.Store self.old self.new result }
         ensures never { IfErr result (λ e. e ≢ Error.StaleBatch) };
 
@@ -41,13 +45,18 @@ pub trait Staging<C: Store>: Batching<C> {
         batch: Self::Staged,
         keys: &[Self::Key],
     ) -> Result<(Range<usize>, Vec<Option<Self::Value>>, Self::Staged), Error>
-        ensures readable { IfOk result (λ _. AtStaged Self.Meaning self.old batch (λ list chain above ws staged. CanRead Self.Meaning list above chain.base)) }
-        ensures range { IfOk result (λ r. (r.0.start ≡ Self.count batch) × (r.0.end ≡ Self.count batch + length keys.now)) }
-        ensures values { IfOk result (λ r. AtStaged Self.Meaning self.old batch (λ list chain above ws staged. IsKnown list above chain.base
-            → (map (option_map Self.Value.bytes) r.1.items ≡ map (λ k. read_through chain.base ws (Self.Key.bytes k)) keys.now)
+        ensures readable { IfOk result (λ _. AtStaged Self.Meaning self.old batch
+            (λ list chain above ws staged. CanRead Self.Meaning list above chain.base)) }
+        ensures range { IfOk result (λ r.
+            (r.0.start ≡ Self.count batch) × (r.0.end ≡ Self.count batch + length keys.now)) }
+        ensures values { IfOk result (λ r. AtStaged Self.Meaning self.old batch
+            (λ list chain above ws staged. IsKnown list above chain.base
+            → (map (option_map Self.Value.bytes) r.1.items
+            ≡ map (λ k. read_through chain.base ws (Self.Key.bytes k)) keys.now)
             × Self.is_staged r.2 chain above ws (staged ++ map Self.Key.bytes keys.now))) }
-        ensures failure { IfErr result (λ e. AtStaged Self.Meaning self.old batch (λ list chain above ws staged.
-            IsReadFailure Self.Meaning (TellsFrom C.Store (Self.inside self.old) list) list above chain.base e)) }
+        ensures failure { IfErr result (λ e.
+            AtStaged Self.Meaning self.old batch (λ list chain above ws staged. IsReadFailure
+            Self.Meaning (TellsFrom C.Store (Self.inside self.old) list) list above chain.base e)) }
         ensures reads { ReadsOnly Self.Meaning C.Store self.old self.new result }
         ensures never { IfErr result (λ e. e ≢ Error.StaleBatch) };
 
@@ -68,6 +77,7 @@ pub trait Staging<C: Store>: Batching<C> {
         requires { length resolution.now.slots.items ≡ Self.count batch }
         ensures makes { AtStaged Self.Meaning self.old batch (λ list chain above ws keys.
             let writes = slotted ws keys (slot_views Self.Value.bytes resolution.now.slots.items) (write_views Self.Key.bytes Self.Value.bytes resolution.now.others.items) in
-            Makes Self.Meaning C.Store self.old list chain (tip_of Self.scheme P.rules chain writes policy.old (option_map Self.Value.bytes metadata.now)) result) }
+            Makes Self.Meaning C.Store self.old list chain (tip_of Self.scheme P.rules chain writes
+            policy.old (option_map Self.Value.bytes metadata.now)) result) }
         ensures reads { ReadsOnly Self.Meaning C.Store self.old self.new result };
 }

@@ -30,9 +30,14 @@ pub(crate) fn kept_proof<F: Family, D: Digest>(
     requires within { end ≤ size }
     requires size { size ≤ tree.now.leaves }
     requires inactive { inactive ≤ length (trees.peaks F.shape size) }
-    ensures value { (hash : List ℕ → List ℕ) (list : List (List ℕ)) → Stands F.shape D.bytes hash tree.now list → IfOk result (λ p. proof_view D.bytes p ≡ proof_of hash F.shape (take size list) inactive start end) }
-    ensures held { OnOk result (first_lacked (node_at F.shape tree.now) (needed_positions F.shape size start end) ≡ None) }
-    ensures cause { IfErr result (IsLacked (node_at F.shape tree.now) (needed_positions F.shape size start end)) }
+    ensures value { (hash : List ℕ → List ℕ) (list : List (List ℕ))
+        → Stands F.shape D.bytes hash tree.now list
+        → IfOk result (λ p.
+        proof_view D.bytes p ≡ proof_of hash F.shape (take size list) inactive start end) }
+    ensures held { OnOk result
+        (first_lacked (node_at F.shape tree.now) (needed_positions F.shape size start end) ≡ None) }
+    ensures cause { IfErr result
+        (IsLacked (node_at F.shape tree.now) (needed_positions F.shape size start end)) }
     ensures whole { tree.now.start ≤ start → IfErr result (λ e. e ≡ Error.Memory) }
 {
     let (_, leaves) = tree.bounds();
@@ -52,12 +57,22 @@ pub(super) fn proof_over<F: Family, D: Digest>(
     requires order { start ≤ end }
     requires within { end ≤ batch.now.newest.tree.leaves }
     requires inactive { inactive ≤ length (trees.peaks F.shape batch.now.newest.tree.leaves) }
-    ensures value { (hash : List ℕ → List ℕ) (list new : List (List ℕ)) (lists : List (List (List ℕ))) → Stands F.shape D.bytes hash tree.now list
-        → IsHistory F.shape D.bytes hash (all_layers batch.now) (new ∷ lists) → Contains (new ∷ lists) list → IfOk result (λ p. proof_view D.bytes p ≡ proof_of hash F.shape new inactive start end) }
-    ensures held { OnOk result (first_lacked (over_at F.shape batch.now tree.now) (needed_positions F.shape batch.now.newest.tree.leaves start end) ≡ None) }
-    ensures cause { IfErr result (IsLacked (over_at F.shape batch.now tree.now) (needed_positions F.shape batch.now.newest.tree.leaves start end)) }
-    ensures whole { (hash : List ℕ → List ℕ) (list new : List (List ℕ)) (lists : List (List (List ℕ))) → tree.now.start ≤ start → Stands F.shape D.bytes hash tree.now list
-        → IsHistory F.shape D.bytes hash (all_layers batch.now) (new ∷ lists) → Contains (new ∷ lists) list → IfErr result (λ e. e ≡ Error.Memory) }
+    ensures value { (hash : List ℕ → List ℕ) (list new : List (List ℕ))
+        (lists : List (List (List ℕ))) → Stands F.shape D.bytes hash tree.now list
+        → IsHistory F.shape D.bytes hash (all_layers batch.now) (new ∷ lists)
+        → Contains (new ∷ lists) list
+        → IfOk result (λ p. proof_view D.bytes p ≡ proof_of hash F.shape new inactive start end) }
+    ensures held { OnOk result (first_lacked (over_at F.shape batch.now tree.now)
+        (needed_positions F.shape batch.now.newest.tree.leaves start end)
+        ≡ None) }
+    ensures cause { IfErr result (IsLacked (over_at F.shape batch.now tree.now)
+        (needed_positions F.shape batch.now.newest.tree.leaves start end)) }
+    ensures whole { (hash : List ℕ → List ℕ) (list new : List (List ℕ))
+        (lists : List (List (List ℕ))) → tree.now.start ≤ start
+        → Stands F.shape D.bytes hash tree.now list
+        → IsHistory F.shape D.bytes hash (all_layers batch.now) (new ∷ lists)
+        → Contains (new ∷ lists) list
+        → IfErr result (λ e. e ≡ Error.Memory) }
 {
     let (first, past) = tree.bounds();
     prove!(first.get() <= past.get());
@@ -79,10 +94,14 @@ pub(super) fn proof_from<F: Family, D: Digest, N: Nodes<F, D>>(
     requires order { start ≤ end }
     requires within { end ≤ size }
     requires inactive { inactive ≤ length (trees.peaks F.shape size) }
-    ensures value { (hash : List ℕ → List ℕ) (list : List (List ℕ)) → size ≤ length list → Tells F.shape D.bytes hash (N.node_at nodes.now) list
-        → IfOk result (λ p. proof_view D.bytes p ≡ proof_of hash F.shape (take size list) inactive start end) }
-    ensures cause { IfErr result (IsLacked (N.node_at nodes.now) (needed_positions F.shape size start end)) }
-    ensures held { OnOk result (first_lacked (N.node_at nodes.now) (needed_positions F.shape size start end) ≡ None) }
+    ensures value { (hash : List ℕ → List ℕ) (list : List (List ℕ)) → size ≤ length list
+        → Tells F.shape D.bytes hash (N.node_at nodes.now) list
+        → IfOk result (λ p.
+        proof_view D.bytes p ≡ proof_of hash F.shape (take size list) inactive start end) }
+    ensures cause { IfErr result
+        (IsLacked (N.node_at nodes.now) (needed_positions F.shape size start end)) }
+    ensures held { OnOk result
+        (first_lacked (N.node_at nodes.now) (needed_positions F.shape size start end) ≡ None) }
 {
     let size: Location<F> = Location::new(size);
     match Proof::new(
@@ -115,9 +134,14 @@ pub(super) fn kept_peaks<F: Family, D: Digest>(
     count: u64,
 ) -> Result<Vec<D>, Error>
     requires { count ≤ tree.now.leaves }
-    ensures value { (hash : List ℕ → List ℕ) (list : List (List ℕ)) → Stands F.shape D.bytes hash tree.now list → IfOk result (λ v. map D.bytes v.items ≡ map (trees.digest_of hash F.shape list) (trees.peaks F.shape count)) }
-    ensures held { OnOk result (first_lacked (node_at F.shape tree.now) (trees.peak_positions F.shape count) ≡ None) }
-    ensures cause { IfErr result (IsLacked (node_at F.shape tree.now) (trees.peak_positions F.shape count)) }
+    ensures value { (hash : List ℕ → List ℕ) (list : List (List ℕ))
+        → Stands F.shape D.bytes hash tree.now list
+        → IfOk result (λ v.
+        map D.bytes v.items ≡ map (trees.digest_of hash F.shape list) (trees.peaks F.shape count)) }
+    ensures held { OnOk result
+        (first_lacked (node_at F.shape tree.now) (trees.peak_positions F.shape count) ≡ None) }
+    ensures cause { IfErr result
+        (IsLacked (node_at F.shape tree.now) (trees.peak_positions F.shape count)) }
     ensures whole { tree.now.start ≤ count → IfErr result (λ e. e ≡ Error.Memory) }
 {
     let (_, leaves) = tree.bounds();
@@ -133,12 +157,23 @@ pub(super) fn peaks_over<F: Family, D: Digest>(
     count: u64,
 ) -> Result<Vec<D>, Error>
     requires { count ≤ batch.now.newest.tree.leaves }
-    ensures value { (hash : List ℕ → List ℕ) (list new : List (List ℕ)) (lists : List (List (List ℕ))) → Stands F.shape D.bytes hash tree.now list
-        → IsHistory F.shape D.bytes hash (all_layers batch.now) (new ∷ lists) → Contains (new ∷ lists) list → IfOk result (λ v. map D.bytes v.items ≡ map (trees.digest_of hash F.shape new) (trees.peaks F.shape count)) }
-    ensures held { OnOk result (first_lacked (over_at F.shape batch.now tree.now) (trees.peak_positions F.shape count) ≡ None) }
-    ensures cause { IfErr result (IsLacked (over_at F.shape batch.now tree.now) (trees.peak_positions F.shape count)) }
-    ensures whole { (hash : List ℕ → List ℕ) (list new : List (List ℕ)) (lists : List (List (List ℕ))) → tree.now.start ≤ count → Stands F.shape D.bytes hash tree.now list
-        → IsHistory F.shape D.bytes hash (all_layers batch.now) (new ∷ lists) → Contains (new ∷ lists) list → IfErr result (λ e. e ≡ Error.Memory) }
+    ensures value { (hash : List ℕ → List ℕ) (list new : List (List ℕ))
+        (lists : List (List (List ℕ))) → Stands F.shape D.bytes hash tree.now list
+        → IsHistory F.shape D.bytes hash (all_layers batch.now) (new ∷ lists)
+        → Contains (new ∷ lists) list
+        → IfOk result (λ v.
+        map D.bytes v.items ≡ map (trees.digest_of hash F.shape new) (trees.peaks F.shape count)) }
+    ensures held { OnOk result (first_lacked (over_at F.shape batch.now tree.now)
+        (trees.peak_positions F.shape count)
+        ≡ None) }
+    ensures cause { IfErr result
+        (IsLacked (over_at F.shape batch.now tree.now) (trees.peak_positions F.shape count)) }
+    ensures whole { (hash : List ℕ → List ℕ) (list new : List (List ℕ))
+        (lists : List (List (List ℕ))) → tree.now.start ≤ count
+        → Stands F.shape D.bytes hash tree.now list
+        → IsHistory F.shape D.bytes hash (all_layers batch.now) (new ∷ lists)
+        → Contains (new ∷ lists) list
+        → IfErr result (λ e. e ≡ Error.Memory) }
 {
     let (first, past) = tree.bounds();
     prove!(first.get() <= past.get());
@@ -155,10 +190,14 @@ fn peak_digests<F: Family, D: Digest, N: Nodes<F, D>>(
     count: u64,
 ) -> Result<Vec<D>, Error>
     requires { count ≤ 2 ^ 62 }
-    ensures value { (hash : List ℕ → List ℕ) (list : List (List ℕ)) → count ≤ length list → Tells F.shape D.bytes hash (N.node_at nodes.now) list
-        → IfOk result (λ v. map D.bytes v.items ≡ map (trees.digest_of hash F.shape list) (trees.peaks F.shape count)) }
-    ensures held { OnOk result (first_lacked (N.node_at nodes.now) (trees.peak_positions F.shape count) ≡ None) }
-    ensures cause { IfErr result (IsLacked (N.node_at nodes.now) (trees.peak_positions F.shape count)) }
+    ensures value { (hash : List ℕ → List ℕ) (list : List (List ℕ)) → count ≤ length list
+        → Tells F.shape D.bytes hash (N.node_at nodes.now) list
+        → IfOk result (λ v.
+        map D.bytes v.items ≡ map (trees.digest_of hash F.shape list) (trees.peaks F.shape count)) }
+    ensures held { OnOk result
+        (first_lacked (N.node_at nodes.now) (trees.peak_positions F.shape count) ≡ None) }
+    ensures cause { IfErr result
+        (IsLacked (N.node_at nodes.now) (trees.peak_positions F.shape count)) }
 {
     let count: Location<F> = Location::new(count);
     let positions = F::nodes_to_pin(alloc, count)?;
@@ -171,7 +210,8 @@ fn digests_at<F: Family, D: Digest, N: Nodes<F, D>>(
     nodes: &N,
     positions: &[Position<F>],
 ) -> Result<Vec<D>, Error>
-    ensures digests { IfOk result (λ v. map Some v.items ≡ map (N.node_at nodes.now) positions.now) }
+    ensures digests { IfOk result (λ v.
+        map Some v.items ≡ map (N.node_at nodes.now) positions.now) }
     ensures held { OnOk result (first_lacked (N.node_at nodes.now) positions.now ≡ None) }
     ensures cause { IfErr result (IsLacked (N.node_at nodes.now) positions.now) }
 {
@@ -188,7 +228,8 @@ fn digest_at<F: Family, D: Digest, N: Nodes<F, D>>(
     position: Position<F>,
 ) -> Result<D, Error>
     ensures digest { IfOk result (λ d. N.node_at nodes.now position ≡ Some d) }
-    ensures cause { IfErr result (λ e. (N.node_at nodes.now position ≡ None) × (e ≡ Error.Merkle (MerkleError.ElementPruned position))) }
+    ensures cause { IfErr result (λ e. (N.node_at nodes.now position ≡ None)
+        × (e ≡ Error.Merkle (MerkleError.ElementPruned position))) }
 {
     match nodes.get_node(position) {
         Some(digest) => Ok(digest),
@@ -208,10 +249,13 @@ pub(super) fn read_items<C: Store>(
     requires end { end ≤ C.end store.old }
     requires few { end ≤ 2 ^ 62 }
     ensures count { IfOk result (λ v. length v.items ≡ end - start) }
-    ensures items { IfOk result (λ v. IfSome (C.told store.old) (λ held. map (λ v. v.items) v.items ≡ take (end - start) (drop (start - C.start store.old) held.items))) }
-    ensures never { IfErr result (λ e. (e ≡ Error.Memory) ⊎ (e ≡ Error.Journal JournalError.Store)) }
+    ensures items { IfOk result (λ v. IfSome (C.told store.old) (λ held. map (λ v. v.items) v.items
+        ≡ take (end - start) (drop (start - C.start store.old) held.items))) }
+    ensures never { IfErr result (λ e.
+        (e ≡ Error.Memory) ⊎ (e ≡ Error.Journal JournalError.Store)) }
     ensures kept { IsKept C.Store store.old store.new }
-    ensures cause { IsCause (C.faults store.old) (C.faults store.new) (IsErrOf result (Error.Journal JournalError.Store)) }
+    ensures cause { IsCause (C.faults store.old) (C.faults store.new)
+        (IsErrOf result (Error.Journal JournalError.Store)) }
 {
     let mut items = Vec::with_capacity(alloc, (end - start) as usize)?;
     for at in start..end {

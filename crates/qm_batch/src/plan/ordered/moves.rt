@@ -32,11 +32,17 @@ fn find_before<F, I: qm_index::Unordered<Value = Location<F>>, L: Items, U: Step
     decided: &[Decided<U::Key, U::Value>],
 ) -> Result<Vec<(Location<F>, U)>, Error>
     requires { U.form.ordered ≡ true }
-    ensures value { (lent list : List model.Operation) → IsLent L.reads U.form I.index_key (I.entries index.now) log.old lent → LeadOver (map (λ l. l.value) layers.now) lent list
-        → IsRing lent → IsRing list → IfSome (L.reads.told log.old) (λ _. IfOk result (λ found. map (read_view U.view) found.items ≡ filter_map (before_evicted list) (decided_views U.Key.bytes U.Value.bytes decided.now))) }
+    ensures value { (lent list : List model.Operation)
+        → IsLent L.reads U.form I.index_key (I.entries index.now) log.old lent
+        → LeadOver (map (λ l. l.value) layers.now) lent list → IsRing lent → IsRing list
+        → IfSome (L.reads.told log.old) (λ _.
+        IfOk result (λ found. map (read_view U.view) found.items
+        ≡ filter_map (before_evicted list) (decided_views U.Key.bytes U.Value.bytes decided.now))) }
     ensures read { IsRead L.reads log.old log.new }
     ensures error { IfErr result (IsReadError L.reads log.old log.new) }
-    ensures whole { (lent : List model.Operation) → IsLent L.reads U.form I.index_key (I.entries index.now) log.old lent → NoneBelow (L.reads.start log.old) lent
+    ensures whole { (lent : List model.Operation)
+        → IsLent L.reads U.form I.index_key (I.entries index.now) log.old lent
+        → NoneBelow (L.reads.start log.old) lent
         → IfErr result (λ e. (n : ℕ) → e ≢ Error.Journal (JournalError.ItemPruned n)) }
 {
     let mut all = Vec::new(alloc);
@@ -60,12 +66,21 @@ pub(crate) fn befores_of<F, I: qm_index::Unordered<Value = Location<F>>, L: Item
     decided: &[Decided<U::Key, U::Value>],
 ) -> Result<Vec<(Location<F>, U)>, Error>
     requires { base.now.size ≤ 2 ^ 62 }
-    ensures value { (lent list : List model.Operation) → U.form.ordered ≡ true → IsLent L.reads U.form I.index_key (I.entries index.now) log.old lent → IsBase (base_view base.now) lent list
-        → IsRing lent → IsRing (list ++ operations_of (touch_views U.view U.Key.bytes U.Value.bytes made.now)) → All (IsFrom list) (touch_views U.view U.Key.bytes U.Value.bytes made.now)
-        → IfSome (L.reads.told log.old) (λ _. IfOk result (λ found. map (read_view U.view) found.items ≡ filter_map (before_evicted (list ++ operations_of (touch_views U.view U.Key.bytes U.Value.bytes made.now))) (decided_views U.Key.bytes U.Value.bytes decided.now))) }
+    ensures value { (lent list : List model.Operation) → U.form.ordered ≡ true
+        → IsLent L.reads U.form I.index_key (I.entries index.now) log.old lent
+        → IsBase (base_view base.now) lent list → IsRing lent
+        → IsRing (list ++ operations_of (touch_views U.view U.Key.bytes U.Value.bytes made.now))
+        → All (IsFrom list) (touch_views U.view U.Key.bytes U.Value.bytes made.now)
+        → IfSome (L.reads.told log.old) (λ _.
+        IfOk result (λ found. map (read_view U.view) found.items
+        ≡ filter_map (before_evicted
+        (list ++ operations_of (touch_views U.view U.Key.bytes U.Value.bytes made.now)))
+        (decided_views U.Key.bytes U.Value.bytes decided.now))) }
     ensures read { IsRead L.reads log.old log.new }
     ensures error { IfErr result (IsReadError L.reads log.old log.new) }
-    ensures whole { (lent : List model.Operation) → IsLent L.reads U.form I.index_key (I.entries index.now) log.old lent → NoneBelow (L.reads.start log.old) lent
+    ensures whole { (lent : List model.Operation)
+        → IsLent L.reads U.form I.index_key (I.entries index.now) log.old lent
+        → NoneBelow (L.reads.start log.old) lent
         → IfErr result (λ e. (n : ℕ) → e ≢ Error.Journal (JournalError.ItemPruned n)) }
 {
     if !U::is_ordered() || evicted(decided) == 0 {

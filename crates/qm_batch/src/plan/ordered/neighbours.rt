@@ -35,12 +35,19 @@ pub(crate) fn neighbours_of<
     layers: &[Rc<Layer<F, U>>],
     sites: &[Site<'a, U::Key, U::Value>],
 ) -> Result<Vec<Neighbour<'a, F, U>>, Error>
-    ensures value { (lent base : List operations.Operation) (ws : List model.Write) → U.form.ordered ≡ true → IsLent L.reads U.form I.index_key (I.entries index.now) log.old lent → LeadOver (map (λ l. l.value) layers.now) lent base
-        → IsRing lent → IsRing base → map (linked_view U.Key.bytes U.Value.bytes) sites.now ≡ map (linked_in base) ws
-        → IfSome (L.reads.told log.old) (λ _. IfOk result (λ neighbours. map (neighbour_view U.view U.Key.bytes) neighbours.items ≡ filter_map (neighbour_in base) ws)) }
+    ensures value { (lent base : List operations.Operation) (ws : List model.Write)
+        → U.form.ordered ≡ true
+        → IsLent L.reads U.form I.index_key (I.entries index.now) log.old lent
+        → LeadOver (map (λ l. l.value) layers.now) lent base → IsRing lent → IsRing base
+        → map (linked_view U.Key.bytes U.Value.bytes) sites.now ≡ map (linked_in base) ws
+        → IfSome (L.reads.told log.old) (λ _.
+        IfOk result (λ neighbours. map (neighbour_view U.view U.Key.bytes) neighbours.items
+        ≡ filter_map (neighbour_in base) ws)) }
     ensures read { IsRead L.reads log.old log.new }
     ensures error { IfErr result (IsReadError L.reads log.old log.new) }
-    ensures whole { (lent : List operations.Operation) → IsLent L.reads U.form I.index_key (I.entries index.now) log.old lent → NoneBelow (L.reads.start log.old) lent
+    ensures whole { (lent : List operations.Operation)
+        → IsLent L.reads U.form I.index_key (I.entries index.now) log.old lent
+        → NoneBelow (L.reads.start log.old) lent
         → IfErr result (λ e. (n : ℕ) → e ≢ Error.Journal (JournalError.ItemPruned n)) }
 {
     let mut neighbours = Vec::new(alloc);
