@@ -144,7 +144,7 @@ module _ {X C B S M : Type 0} (members : stores.Ghosts C) (means : meaning.Ghost
       → ((s : State) → Stands members means old s → IsSteady means.scheme s → s.choices ≡ more ++ rest → Apart means.scheme.root ((turn means.scheme rules s line).1).had → T s × Stands members means new (turn means.scheme rules s line).1)
       → (s : State) → Between members means rules old (more ++ rest) s → Apart means.scheme.root ((turn means.scheme rules s line).1).had → T s × Between members means rules new rest (turn means.scheme rules s line).1
   goes-between old new more rest line T chosen did s between apart =
-      let done = did s between.stands (sound-steady means.scheme rules means.bounds.prompt s between.sound) between.choices apart in (
+      let done = did s between.stands (sound-steady means.scheme rules means.bounds s between.sound) between.choices apart in (
         done.0,
         record {
           stands = done.1;

@@ -19,7 +19,9 @@ use Rattle.qm_model.specs.Ordered.{IsRing}
 use Rattle.qm_model.specs.Step.{Kind, Made, IsGood, first, next, step, ordered, unordered}
 use Rattle.qm_model.specs.Batches.{Chain, Apart, IsAmong, IsRising, Begins, commitment, fits, readable}
 use Rattle.qm_model.specs.Grafted.{boundary}
-use Rattle.qm_model.specs.Own.{Engine, Log, no_log, left_at, ArePrompt, ArePruned, IsKept, Takes, OpensParts, settled_list, ended_size, ended_part}
+use Rattle.qm_model.specs.Own.{Engine, Log, no_log, left_at, ArePrompt, ArePruned, IsKept, Takes, OpensParts, settled_list, ended_size, ended_part, KeepsCount}
+use Rattle.qm_model.specs.Policies.{policies}
+use Rattle.qm_model.proofs.Crashes.{keeps-count}
 use Rattle.qm_model.specs.Opening.{Chunks, Opening, refuses, opens, opening, opened_list}
 use Rattle.qm_model.specs.Ranges.{key_above, key_below}
 use Rattle.qm_model.specs.Refused.{Refused, Merkle, LocationOverflow}
@@ -31,7 +33,7 @@ use Rattle.qm_model.proofs.Steps as steps
 use Rattle.qm_model.proofs.OrderedSteps.{made-ordered}
 use Rattle.qm_model.proofs.Prefixes.{unordered-begins, ordered-begins}
 use Rattle.qm_model.proofs.Boundaries.{boundary-rises}
-use Rattle.qm_model.proofs.Openings.{IsPart, ended-part, ended-whole, unordered-parts, ordered-parts, unordered-left, ordered-left}
+use Rattle.qm_model.proofs.Openings.{IsPart, ended-part, ended-whole, unordered-parts, ordered-parts, unordered-left, ordered-left, unordered-keeps, ordered-keeps}
 use Rattle.qm_machine.specs.Lines.{Line, Open, Batch, Child, Tip, Put, Del, Merkleize, Stage, Expand, Resolve, Apply, Ops, Get, Many, Next, Prev, Span, Range, Keys, Info, BatchInfo, Root, BatchRoot, BatchProof, Meta, Prove, Pins, Question, Held, Absent, Witness, Current, Prune, Commit, Sync, Close, Destroy, Crash, Answer}
 use Rattle.qm_machine.specs.Lines as lines
 use Rattle.qm_machine.specs.Machine.{State, Slot, gone, writing, staged, merkleized, turn, slot_at, with_slot, initial, started, start_child, put_in, list_operations, with_database, closed, settled, commit, restarted, opened_as, if_any, if_current, if_absences, held_at, absent_at, answered, found_in, unless, merkleize_tip, merkleize_writes, merkleize_in, resolve_in, apply_in, if_readable, if_staged, stage_in, expand_in, read_in, read, if_ordered, beside_in, beside_of, info_in, root_in, proof_in, pruned, prune_in}
@@ -328,13 +330,23 @@ module _ (m : Scheme) {P : Type 0} (rules : Rules P) where
       let list = opened_list size s.log.list in
       subst (λ ops. s.log.start ≤ floor ops) (ap ended_part (take-length list) ∙ ended-whole list takes.ended) takes.kept.start
 
+  -- what metadata counts of what databases leave stays so
+  counts-kept : HasBounds m → (log : Log) → IsKept (engine_of m rules) log → KeepsCount (engine_of m policies) log
+  counts-kept bounds log kept = by m.form.ordered kept
+    where
+      by : (b : Bool) → IsKept (of_kind b) log → KeepsCount (record { kind = cond b ordered unordered; rules = policies; hash = m.hash; layout = layout_of m }) log
+      by true kept = keeps-count rules policies (ordered-keeps rules) m.hash m.form m.shape m.digest_size (chunks_of m) bounds.places log kept
+      by false kept = keeps-count rules policies (unordered-keeps rules) m.hash m.form m.shape m.digest_size (chunks_of m) bounds.places log kept
+
   -- what a command has to know
-  pub sound-steady : ArePrompt (chunks_of m) m.shape → (s : State) → IsSound m rules s → IsSteady m s
-  sound-steady prompt s is = record {
+  pub sound-steady : HasBounds m → (s : State) → IsSound m rules s → IsSteady m s
+  sound-steady bounds s is = let prompt = bounds.prompt in record {
     of_form = is.kept.made.of_form;
     good = λ bound size e. made-good (opened_list size s.log.list) (opened-made prompt s bound size is e);
     ring = λ bound size e ordered_form. made-ring (opened_list size s.log.list) ordered_form (opened-made prompt s bound size is e);
     low = opened-low prompt s is;
+    counts = counts-kept bounds s.log is.kept;
+    opened_counts = λ bound size e. let takes : Takes (engine_of m rules) s.log bound size = opens-parts prompt s.log bound size is.kept e in counts-kept bounds _ takes.kept;
     few = le_trans (Begins-length s.log.list is.kept.made.whole is.kept.made.begins) (made-few (kind_of m) rules is.kept.made.whole is.kept.made.made);
     held = is.held;
     within = λ list open_here. (made-good list (is.made list (is.held list open_here).1)).floor_within;

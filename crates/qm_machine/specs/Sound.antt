@@ -8,7 +8,8 @@ use Rattle.qm_model.specs.Ordered.{IsRing}
 use Rattle.qm_model.specs.Opening.{opens, opening, opened_list}
 use Rattle.qm_model.specs.Step.{Made, IsGood}
 use Rattle.qm_model.specs.Batches.{IsAmong, IsRising, Begins}
-use Rattle.qm_model.specs.Own.{IsKept}
+use Rattle.qm_model.specs.Own.{IsKept, KeepsCount, taken_up}
+use Rattle.qm_model.specs.Policies.{policies}
 use Rattle.qm_machine.specs.Machine.{State, Slot, gone, writing, staged, merkleized, slot_at, found_in}
 use Rattle.qm_model.specs.Schemes.{Scheme, kind_of, engine_of, layout_of}
 
@@ -20,14 +21,16 @@ IsSoundSlot had (staged chain parent ws keys) = IsAmong had chain × IsRising ch
 IsSoundSlot had (merkleized chain tip) = IsAmong had chain × IsRising chain × Contains had tip × Begins chain.base tip
 
 -- What a command has to know of that, whatever the policies are: the store's operations are of the machine's form, and not too many; what an
--- opening takes up of them is good, that of an ordered database a ring, and its floor not below the store's start; the open
--- database's list is the store's, and its floor is within it; of two lists that the run has had, one of which begins with the other,
--- that one has no lower floor.
+-- opening takes up of them is good, that of an ordered database a ring, and its floor not below the store's start; what metadata counts of
+-- the store's list, or of one that an opening takes up, it counts of each that goes on; the open database's list is the store's, and its
+-- floor is within it; of two lists that the run has had, one of which begins with the other, that one has no lower floor.
 pub record IsSteady (m : Scheme) (s : State) : Type 0 where
   pub of_form : All (IsOf m.form) s.log.list
   pub good : (bound : Option ℕ) (size : ℕ) → opening (layout_of m) (found_in m s.log) bound ≡ opens size → IsGood (opened_list size s.log.list)
   pub ring : (bound : Option ℕ) (size : ℕ) → opening (layout_of m) (found_in m s.log) bound ≡ opens size → m.form.ordered ≡ true → IsRing (opened_list size s.log.list)
   pub low : (bound : Option ℕ) (size : ℕ) → opening (layout_of m) (found_in m s.log) bound ≡ opens size → s.log.start ≤ floor (opened_list size s.log.list)
+  pub counts : KeepsCount (engine_of m policies) s.log
+  pub opened_counts : (bound : Option ℕ) (size : ℕ) → opening (layout_of m) (found_in m s.log) bound ≡ opens size → KeepsCount (engine_of m policies) (taken_up (opened_list size s.log.list) s.log)
   pub few : length s.log.list ≤ 2 ^ 62
   pub held : (list : List Operation) → s.database ≡ Some list → (s.log.list ≡ list) × Contains s.had list
   pub within : (list : List Operation) → s.database ≡ Some list → floor list < length list

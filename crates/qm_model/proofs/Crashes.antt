@@ -1,5 +1,5 @@
 -- What crashes leave of own stores, at rest and inside calls.
-use Rattle.std.proofs.Common.{◌≡◌, ◌⊎◌, inl, inr, ℕ, ◌-◌, ◌*◌, ◌<◌, ◌≤◌, min, false, List, [], ◌∷◌, ◌++◌, length, take, drop, map, refl, sym, ap, ◌∙◌, None, subst, arith, length-take-le, length-append, le_refl, All, Contains, append_assoc, ◌^◌, le_of_eq, Some, suc, zero, ◌/◌, ◌+◌}
+use Rattle.std.proofs.Common.{◌≡◌, ◌⊎◌, inl, inr, ℕ, ◌-◌, ◌*◌, ◌<◌, ◌≤◌, min, false, List, [], ◌∷◌, ◌++◌, length, take, drop, map, refl, sym, ap, ◌∙◌, None, Option, IfSome, subst, arith, length-take-le, length-append, le_refl, All, Contains, append_assoc, ◌^◌, le_of_eq, Some, suc, zero, ◌/◌, ◌+◌}
 use Rattle.std.specs.List.{concat, list_any}
 use Rattle.std.proofs.Math.Nat.{le_trans}
 use Rattle.std.proofs.Math.Seq.{take-length, take-append_seam}
@@ -16,11 +16,12 @@ use Rattle.qm_model.specs.Step.{Kind, ordered, unordered}
 use Rattle.qm_model.specs.Batches.{Begins}
 use Rattle.qm_model.specs.StoreModel.{Entry, Rest, Stored, end_of, rest_of, at_rest, appended, settled, lowered, rewound, cut_by, pruned, with_metadata, destroyed, empty, left_at, IsImage, since, MayBeLeft, HasRestarted, HasAppended, IsOldOrNew, RewindLeaves, DestroyLeaves, ReadsAs, Fails, metadata_in}
 use Rattle.qm_model.specs.Opening.{Layout, opens, opening, opened_list, Chunks, count_bytes, count_in, pins_found, when, is_wrong_size}
-use Rattle.qm_model.specs.Own.{Engine, any_engine, Log, no_log, taken_up, IsStored, IsPartMade, IsKept, IsOwn, head_of, settled_list, ended_size, ended_part, Stays, IsBetween, AreBetween, CrashesBetween, OpensWhole, OpensParts, Takes, OpensBetween, CrashLaws, MetadataIs, ArePruned, IsCounted, counted, current_engine, ArePrompt, NeedsRise}
+use Rattle.qm_model.specs.Own.{Engine, any_engine, Log, no_log, taken_up, IsStored, IsPartMade, IsKept, IsOwn, head_of, settled_list, ended_size, ended_part, Stays, IsBetween, AreBetween, CrashesBetween, OpensWhole, OpensParts, Takes, OpensBetween, CrashLaws, MetadataIs, ArePruned, IsCounted, counted, current_engine, ArePrompt, NeedsRise, KeepsCount}
 use Rattle.qm_model.specs.Own as logs
 use Rattle.std.specs.Prelude.{nat_lt, not, ◌==◌, is_none}
 use Rattle.std.proofs.lemmas.Nat.{mul-le, pow_pos}
 use Rattle.qm_model.specs.Families.{Births, HasPlaces}
+use Rattle.qm_model.specs.Schemes.{AreOver}
 use Rattle.qm_model.specs.Refused.{CountNotValid, CountTooLarge, MissingPin, InvalidPin}
 use Rattle.qm_model.specs.Grafted.{chunk_node, needed_size}
 use Rattle.std.specs.Option.{option_map_or}
@@ -895,3 +896,19 @@ mmb_rises c some a b low =
   where
     needs : (k : ℕ) → needed_size mmb c.height (suc k) ≡ suc (k / 2) * 2 ^ suc c.height + 2 ^ c.height - 1
     needs k = ap (λ o. option_map_or (λ m. m) o (mmb.birth (chunk_node c.height (suc k - 1)))) (mmb_threshold c.height k some)
+
+-- Of logs that databases leave metadata counts the same, whatever chunks they have.
+
+module _ {P Q : Type 0} {kind : Kind} (rules : Rules P) (policies : Rules Q) (keeps : Keeps kind rules) (hash : Bytes → Bytes) (form : Form) (shape : Shape) (digest_size : ℕ) where
+  abbrev pub under : {R : Type 0} → Rules R → Option Chunks → Engine R
+  under rules chunks = record { kind = kind; rules = rules; hash = hash; layout = record { form = form; shape = shape; digest_size = digest_size; chunks = chunks } }
+
+  -- under other policies too, since metadata tells nothing of these
+  pub keeps-count : (chunks : Option Chunks) → AreOver shape chunks → (low : Log) → IsKept (under rules chunks) low → KeepsCount (under policies chunks) low
+  keeps-count None over low kept log other s t one two front more metas is = two ∙ is
+  keeps-count (Some c) (enough, places) low kept log other s t one two front more metas is =
+      alike policies other t
+      (counted-metadata keeps hash form shape digest_size c places.0 places.1 enough low log other s t kept one two front more metas (alike rules log s is))
+    where
+      alike : {R S : Type 0} {a : Rules S} (b : Rules R) (log : Log) (s : Stored) → MetadataIs (under a (Some c)) (Some c) log s → MetadataIs (under b (Some c)) (Some c) log s
+      alike b log s is = record { readable = is.readable; count = is.count; pins = is.pins }

@@ -98,6 +98,11 @@ module _ {P : Type 0} (e : Engine P) where
     pub metadata : MetadataIs e.layout.chunks log s
     pub stable : s.stable ≡ log.stable
 
+  -- What metadata counts of a list, it counts of each list with as many pruned chunks, where both go on from what is settled of this log.
+  abbrev pub KeepsCount : Log → Type 0
+  KeepsCount low = (log other : Log) (s t : Stored) → low.chunks ≡ log.chunks → other.chunks ≡ log.chunks → Begins (settled_list low) log.list → Begins (settled_list low) other.list
+      → t.metadata ≡ s.metadata → MetadataIs e.layout.chunks log s → MetadataIs e.layout.chunks other t
+
   -- Which lists, starts and counts a database leaves.
 
   -- a beginning of a list that steps made, of operations of the database's form

@@ -11,6 +11,7 @@ use Rattle.qm_model.specs.Proofs.{Proof}
 use Rattle.qm_model.specs.Checks.{Checks}
 use Rattle.qm_model.specs.Opening.{Chunks, Layout}
 use Rattle.qm_model.specs.Own.{Engine, ArePrompt}
+use Rattle.qm_model.specs.Families.{Births, HasPlaces}
 
 -- what a current database has over an any one: chunks of activity bits, grafted onto its trees, and the checks of its proofs
 pub record Grafts : Type 0 where
@@ -43,6 +44,10 @@ kind_of m = if m.form.ordered then ordered else unordered
 abbrev pub chunks_of : Scheme → Option Chunks
 chunks_of m = option_map (λ g. g.chunks) m.grafts
 
+-- chunks have 8 locations at least, and stand over the trees of a family
+abbrev pub AreOver : Shape → Option Chunks → Type 0
+AreOver shape chunks = IfSome chunks (λ c. (3 ≤ c.height) × ((births : Births) × HasPlaces shape births))
+
 -- how its databases lie in a store
 abbrev pub layout_of : Scheme → Layout
 layout_of m = record { form = m.form; shape = m.shape; digest_size = m.digest_size; chunks = chunks_of m }
@@ -61,9 +66,10 @@ abbrev pub chunks_after : Option Grafts → ℕ → ℕ → ℕ
 chunks_after None pruned to = pruned
 chunks_after (Some g) pruned to = max pruned (to / 2 ^ g.chunks.height)
 
--- No list may be pruned past its floor, nor, in a current database, past the boundary of its chunks; and no node over a chunk waits
--- for longer than the threshold tells.
+-- No list may be pruned past its floor, nor, in a current database, past the boundary of its chunks; no node over a chunk waits for
+-- longer than the threshold tells, and chunks are of 8 locations at least, over a family's trees.
 pub record HasBounds (m : Scheme) : Type 0 where
   pub low : (list : List Operation) → m.boundary list ≤ floor list
   pub chunks : IfSome (chunks_of m) (λ c. (list : List Operation) → m.boundary list ≤ boundary m.shape c.height list)
   pub prompt : ArePrompt (chunks_of m) m.shape
+  pub places : AreOver m.shape (chunks_of m)

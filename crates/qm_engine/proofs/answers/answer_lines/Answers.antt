@@ -65,7 +65,7 @@ returns-in-Some-ended g c =
           (c.loop-line.invariant.machine stored log is own before.0 behind.0 before.1)
           (λ s between none. own-of m policies _ s.log (rw (sym (c.answer_line-next.ensures.unused none)) at between.stands.store.told) between.sound.kept)
           (λ s between apart. line-own g.C.Store g.X.Meaning g.met.X.Common.plain c.loop-line.session behind.0 (line_of c.in-Some.line.now) _ s (rw c.returned.ensures.store at c.returned.ensures.stable) between apart
-          (c.answer_line-next.ensures.left s between.stands (sound-steady m policies g.X.Meaning.bounds.prompt s between.sound) apart)))));
+          (c.answer_line-next.ensures.left s between.stands (sound-steady m policies g.X.Meaning.bounds s between.sound) apart)))));
       done = λ e. absurd (ended-at _ c.in-Some-ended.is c.answer_line-next.ensures.not_done e);
       bad = λ e.
           at_bad c.args.input.now c.loop-line.rest.now c.in-Some.line.now c.in-Some.behind.now c.loop-line.answered c.loop-line.invariant.at c.in-Some.ensures.some

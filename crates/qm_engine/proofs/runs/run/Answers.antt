@@ -67,7 +67,7 @@ returns-in-Some g c =
           (length-map c.loop-command.replies.items a ∙ c.loop-command.invariant.count)
           (c.loop-command.invariant.machine stored log is own before.0 behind.0 before.1)
           (λ s between apart. own-left g.C.Store g.X.Meaning g.P.Policy.rules g.met.X.Common.plain c.loop-command.session behind.0 (f c.command-item.result) _ s (rw c.returned.ensures.store at c.returned.ensures.stable) between apart
-          (c.step-next.ensures.left s between.stands (sound-steady g.X.Meaning.scheme g.P.Policy.rules g.X.Meaning.bounds.prompt s between.sound) apart)))));
+          (c.step-next.ensures.left s between.stands (sound-steady g.X.Meaning.scheme g.P.Policy.rules g.X.Meaning.bounds s between.sound) apart)))));
       done = λ e. absurd (ended-at _ c.in-Some.is c.step-next.ensures.not_done e);
       short = λ e. omega (arith, ap length kept, c.loop-command.invariant.count, c.loop-command-test.true);
       beside = rw c.returned.ensures.store (before.0 ++ behind.0, turns-through before.0 behind.0 (g.C.Store.told c.args.store) _ _ before.1 behind.1);
