@@ -39,3 +39,4 @@ pub mod CheckProving
 pub mod Stores
 pub mod Openings
 pub mod Crashes
+pub mod Metadata

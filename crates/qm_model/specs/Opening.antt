@@ -85,6 +85,10 @@ entry_of entries key = option_map (λ e. e.value) (find (λ e. bytes_eq e.key ke
 abbrev pub count_bytes : List Entry → Bytes
 count_bytes entries = unwrap_or (entry_of entries (metadata_key 1 0)) (eight_bytes 0)
 
+-- entries of keys and values
+abbrev pub entries_of : List (Bytes × Bytes) → List Entry
+entries_of pairs = map (λ p. record { key = p.0; value = p.1 }) pairs
+
 -- how many chunks are pruned
 abbrev pub count_in : List Entry → ℕ
 count_in entries = number_of_eight (count_bytes entries)

@@ -18,10 +18,10 @@ ghost use Rattle.qm_model.specs.Policies.{OnlyKeeps, NeverMoves};
 ghost use Rattle.qm_model.specs.Proofs.{item_leaves, proof_of, verdict};
 ghost use Rattle.qm_model.specs.Trees.{Shape, peaks, root, leaves_from};
 ghost use Rattle.qm_model.specs.StoreModel.{Stored, empty, IsImage};
-ghost use Rattle.qm_model.specs.Opening.{found, Chunks};
-ghost use Rattle.qm_model.specs.Own.{Engine, any_engine, current_engine, ArePrompt, NeedsRise, Log, no_log, left_at, IsKept, IsOwn, head_of, found_in, OpensParts, OpensWhole, IsBetween, OpensBetween, CrashLaws};
+ghost use Rattle.qm_model.specs.Opening.{found, Chunks, entries_of};
+ghost use Rattle.qm_model.specs.Own.{Engine, any_engine, current_engine, ArePrompt, NeedsRise, Log, no_log, left_at, IsKept, IsOwn, head_of, found_in, OpensParts, OpensWhole, IsBetween, OpensBetween, CrashLaws, IsCounted};
 ghost use Rattle.qm_model.specs.Bits.{bits};
-ghost use Rattle.qm_model.specs.Grafted.{chunk_size, chunk_of, canonical};
+ghost use Rattle.qm_model.specs.Grafted.{chunk_size, chunk_of, canonical, metadata};
 ghost use Rattle.qm_model.specs.RangeProofs.{chunks_of, range_proof, range_verdict};
 ghost use Rattle.qm_model.specs.Families.{Births, HasPlaces};
 
@@ -346,6 +346,15 @@ pub fn a_range_proof_of_a_list_verifies()
 pub fn own_stores_open_alike<P>()
     ensures { (e : Engine P) (log : Log) (s : Stored) → IsOwn e log s
         → found e.layout s ≡ found_in e log }
+{}
+
+/// Metadata that is written of a list is read as the list's.
+pub fn metadata_is_read<P>()
+    ensures { (e : Engine P) (c : Chunks) (log : Log) → e.layout.chunks ≡ Some c
+        → log.chunks * 2 ^ c.height ≤ 2 ^ 62 → ((m : Bytes) → length (e.hash m) ≡ e.layout.digest_size)
+        → length (peaks e.layout.shape log.chunks) ≤ 2 ^ 64 → log.chunks < 2 ^ 64
+        → IsCounted e c log
+        (entries_of (metadata e.hash e.layout.shape c.height e.layout.form log.list log.chunks)) }
 {}
 
 /// The empty store is an own store.
