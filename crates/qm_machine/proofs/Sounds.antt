@@ -335,8 +335,8 @@ module _ (m : Scheme) {P : Type 0} (rules : Rules P) where
   counts-kept bounds log kept = by m.form.ordered kept
     where
       by : (b : Bool) → IsKept (of_kind b) log → KeepsCount (record { kind = cond b ordered unordered; rules = policies; hash = m.hash; layout = layout_of m }) log
-      by true kept = keeps-count rules policies (ordered-keeps rules) m.hash m.form m.shape m.digest_size (chunks_of m) bounds.places log kept
-      by false kept = keeps-count rules policies (unordered-keeps rules) m.hash m.form m.shape m.digest_size (chunks_of m) bounds.places log kept
+      by true kept = keeps-count rules policies (ordered-keeps rules) m.hash m.form m.shape m.digest_size (chunks_of m) bounds.over log kept
+      by false kept = keeps-count rules policies (unordered-keeps rules) m.hash m.form m.shape m.digest_size (chunks_of m) bounds.over log kept
 
   -- what a command has to know
   pub sound-steady : HasBounds m → (s : State) → IsSound m rules s → IsSteady m s

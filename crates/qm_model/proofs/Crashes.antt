@@ -21,7 +21,7 @@ use Rattle.qm_model.specs.Own as logs
 use Rattle.std.specs.Prelude.{nat_lt, not, ◌==◌, is_none}
 use Rattle.std.proofs.lemmas.Nat.{mul-le, pow_pos}
 use Rattle.qm_model.specs.Families.{Births, HasPlaces}
-use Rattle.qm_model.specs.Schemes.{AreOver}
+use Rattle.qm_model.specs.Schemes.{IsOver}
 use Rattle.qm_model.specs.Refused.{CountNotValid, CountTooLarge, MissingPin, InvalidPin}
 use Rattle.qm_model.specs.Grafted.{chunk_node, needed_size}
 use Rattle.std.specs.Option.{option_map_or}
@@ -88,10 +88,10 @@ settled-at_most log =
 pub settled-in : (log : Log) → Begins (settled_list log) log.list
 settled-in log = Begins-through (settled_list log) (take log.stable log.list) log.list (begins_take (ended_size (take log.stable log.list)) (take log.stable log.list)) (begins_take log.stable log.list)
 
-settled-within : (log : Log) (to : ℕ) → log.stable ≤ to → Begins (settled_list log) (take to log.list)
+pub settled-within : (log : Log) (to : ℕ) → log.stable ≤ to → Begins (settled_list log) (take to log.list)
 settled-within log to low = Begins-through (settled_list log) (take log.stable log.list) (take to log.list) (begins_take (ended_size (take log.stable log.list)) (take log.stable log.list)) (begins_both log.stable to log.list low)
 
-settled-before : (log : Log) (more : List Operation) → Begins (settled_list log) (log.list ++ more)
+pub settled-before : (log : Log) (more : List Operation) → Begins (settled_list log) (log.list ++ more)
 settled-before log more = Begins-through (settled_list log) log.list (log.list ++ more) (settled-in log) (take-append_seam log.list more)
 
 -- Metadata of one log is that of another, where both go on from a settled list within which as many chunks may be pruned.
@@ -904,11 +904,11 @@ module _ {P Q : Type 0} {kind : Kind} (rules : Rules P) (policies : Rules Q) (ke
   under rules chunks = record { kind = kind; rules = rules; hash = hash; layout = record { form = form; shape = shape; digest_size = digest_size; chunks = chunks } }
 
   -- under other policies too, since metadata tells nothing of these
-  pub keeps-count : (chunks : Option Chunks) → AreOver shape chunks → (low : Log) → IsKept (under rules chunks) low → KeepsCount (under policies chunks) low
+  pub keeps-count : (chunks : Option Chunks) → IfSome chunks (IsOver hash shape digest_size) → (low : Log) → IsKept (under rules chunks) low → KeepsCount (under policies chunks) low
   keeps-count None over low kept log other s t one two front more metas is = two ∙ is
-  keeps-count (Some c) (enough, places) low kept log other s t one two front more metas is =
+  keeps-count (Some c) over low kept log other s t one two front more metas is =
       alike policies other t
-      (counted-metadata keeps hash form shape digest_size c places.0 places.1 enough low log other s t kept one two front more metas (alike rules log s is))
+      (counted-metadata keeps hash form shape digest_size c over.births over.trees over.enough low log other s t kept one two front more metas (alike rules log s is))
     where
       alike : {R S : Type 0} {a : Rules S} (b : Rules R) (log : Log) (s : Stored) → MetadataIs (under a (Some c)) (Some c) log s → MetadataIs (under b (Some c)) (Some c) log s
       alike b log s is = record { readable = is.readable; count = is.count; pins = is.pins }

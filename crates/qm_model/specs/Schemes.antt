@@ -1,8 +1,8 @@
 -- What the lists of a kind of databases are hashed and kept by.
-use Rattle.std.specs.Prelude.{◌≤◌, ℕ, ◌/◌, ◌^◌, max, ◌==◌, Bool, true, if◌then◌else◌, List, Option, Some, None, IfSome, option_map}
+use Rattle.std.specs.Prelude.{◌≤◌, ◌≡◌, ℕ, ◌/◌, ◌^◌, max, ◌==◌, length, Bool, true, if◌then◌else◌, List, Option, Some, None, IfSome, option_map}
 use Rattle.qm_model.specs.Operations.{Bytes, Operation}
 use Rattle.qm_model.specs.Forms.{Form}
-use Rattle.qm_model.specs.Trees.{Shape}
+use Rattle.qm_model.specs.Trees.{Shape, peaks}
 use Rattle.qm_model.specs.Live.{floor}
 use Rattle.qm_model.specs.Grafted.{boundary}
 use Rattle.qm_model.specs.Walk.{Rules}
@@ -44,9 +44,13 @@ kind_of m = if m.form.ordered then ordered else unordered
 abbrev pub chunks_of : Scheme → Option Chunks
 chunks_of m = option_map (λ g. g.chunks) m.grafts
 
--- chunks have 8 locations at least, and stand over the trees of a family
-abbrev pub AreOver : Shape → Option Chunks → Type 0
-AreOver shape chunks = IfSome chunks (λ c. (3 ≤ c.height) × ((births : Births) × HasPlaces shape births))
+-- Chunks have 8 locations at least, and stand over the trees of a family, of few peaks, whose digests are of one size.
+pub record IsOver (hash : Bytes → Bytes) (shape : Shape) (size : ℕ) (c : Chunks) : Type 0 where
+  pub enough : 3 ≤ c.height
+  pub births : Births
+  pub trees : HasPlaces shape births
+  pub few : (n : ℕ) → length (peaks shape n) ≤ 2 ^ 64
+  pub sized : (m : Bytes) → length (hash m) ≡ size
 
 -- how its databases lie in a store
 abbrev pub layout_of : Scheme → Layout
@@ -72,4 +76,4 @@ pub record HasBounds (m : Scheme) : Type 0 where
   pub low : (list : List Operation) → m.boundary list ≤ floor list
   pub chunks : IfSome (chunks_of m) (λ c. (list : List Operation) → m.boundary list ≤ boundary m.shape c.height list)
   pub prompt : ArePrompt (chunks_of m) m.shape
-  pub places : AreOver m.shape (chunks_of m)
+  pub over : IfSome (chunks_of m) (IsOver m.hash m.shape m.digest_size)
