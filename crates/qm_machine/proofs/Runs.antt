@@ -14,6 +14,7 @@ use Rattle.qm_machine.specs.Lines.{Line, Open, Batch, Child, Tip, Put, Del, Merk
 use Rattle.qm_machine.specs.Lines as lines
 use Rattle.qm_model.specs.Refused.{Refused}
 use Rattle.qm_machine.specs.Machine.{State, Slot, choices_after, gone, writing, staged, merkleized, turn, answers, state_after, slot_at, start_child, put_in, list_operations, with_database, opened_as, found_in, closed, unless, merkleize_tip, merkleize_writes, merkleize_in, resolve_in, apply_in, if_readable, if_staged, stage_in, expand_in, read_in, read, if_ordered, beside_in, beside_of, info_in, root_in, proof_in, prune_in, if_any, if_current, if_absences, held_at, absent_at, answered}
+use Rattle.qm_machine.specs.Machine.{asked, if_checked}
 use Rattle.qm_model.specs.Schemes.{Scheme, layout_of, Grafts, takes}
 use Rattle.qm_model.specs.Held.{pins_lacked, proof_lacked}
 use Rattle.qm_model.specs.Ranges.{key_above, key_below}
@@ -86,11 +87,18 @@ absent_keeps : (s : State) (proved : ℕ × Bool) (found : Option Live) → Keep
 absent_keeps s proved None = (λ x a. a, refl)
 absent_keeps s proved (Some e) = (λ x a. a, refl)
 
+asked_keeps : (s : State) (g : Grafts) (checks : Checks) (question : Question) → Keeps s (asked s g checks question)
+asked_keeps s g checks (Held key) = with_list s s.database _ (λ list. held_keeps s checks list (live_of (live list) key))
+asked_keeps s g checks (Absent key) = absences_keep s checks.absent _ (λ check. with_list s s.database _ (λ list. absent_keeps s (check list key) (live_of (live list) key)))
+asked_keeps s g checks (lines.Chunks start max) = with_list s s.database _ (λ list. unless_keeps s (range_refusal g.chunks.height s.log.chunks s.log.start list start) _)
+asked_keeps s g checks Witness = with_list s s.database _ (λ list. (λ x a. a, refl))
+
 answered_keeps : (s : State) (g : Grafts) (question : Question) → Keeps s (answered s g question)
-answered_keeps s g (Held key) = with_list s s.database _ (λ list. held_keeps s g.checks list (live_of (live list) key))
-answered_keeps s g (Absent key) = absences_keep s g.checks.absent _ (λ check. with_list s s.database _ (λ list. absent_keeps s (check list key) (live_of (live list) key)))
-answered_keeps s g (lines.Chunks start max) = with_list s s.database _ (λ list. unless_keeps s (range_refusal g.chunks.height s.log.chunks s.log.start list start) _)
-answered_keeps s g Witness = with_list s s.database _ (λ list. (λ x a. a, refl))
+answered_keeps s g question = by g.checks
+  where
+    by : (checks : Option Checks) → Keeps s (if_checked s checks (λ checks. asked s g checks question))
+    by None = (λ x a. a, refl)
+    by (Some checks) = asked_keeps s g checks question
 
 tip_keeps : (s : State) (h : ℕ) (chain : Chain) (tip : List Operation) (due : Option Refused) → Keeps s (merkleize_tip s h chain tip due)
 tip_keeps s h chain tip None = (λ x a. Contains-more s.had tip x a, refl)

@@ -36,7 +36,7 @@ use Rattle.qm_model.proofs.Boundaries.{boundary-rises}
 use Rattle.qm_model.proofs.Openings.{IsPart, ended-part, ended-whole, unordered-parts, ordered-parts, unordered-left, ordered-left, unordered-keeps, ordered-keeps}
 use Rattle.qm_machine.specs.Lines.{Line, Open, Batch, Child, Tip, Put, Del, Merkleize, Stage, Expand, Resolve, Apply, Ops, Get, Many, Next, Prev, Span, Range, Keys, Info, BatchInfo, Root, BatchRoot, BatchProof, Meta, Prove, Pins, Question, Held, Absent, Witness, Current, Prune, Commit, Sync, Close, Destroy, Crash, Answer}
 use Rattle.qm_machine.specs.Lines as lines
-use Rattle.qm_machine.specs.Machine.{State, Slot, gone, writing, staged, merkleized, turn, slot_at, with_slot, initial, started, start_child, put_in, list_operations, with_database, closed, settled, commit, restarted, opened_as, if_any, if_current, if_absences, held_at, absent_at, answered, found_in, unless, merkleize_tip, merkleize_writes, merkleize_in, resolve_in, apply_in, if_readable, if_staged, stage_in, expand_in, read_in, read, if_ordered, beside_in, beside_of, info_in, root_in, proof_in, pruned, prune_in}
+use Rattle.qm_machine.specs.Machine.{State, Slot, gone, writing, staged, merkleized, turn, slot_at, with_slot, initial, started, start_child, put_in, list_operations, with_database, closed, settled, commit, restarted, opened_as, if_any, if_current, if_absences, held_at, absent_at, if_checked, asked, answered, found_in, unless, merkleize_tip, merkleize_writes, merkleize_in, resolve_in, apply_in, if_readable, if_staged, stage_in, expand_in, read_in, read, if_ordered, beside_in, beside_of, info_in, root_in, proof_in, pruned, prune_in}
 use Rattle.qm_model.specs.Schemes.{Scheme, Grafts, takes, chunks_of, chunks_after, kind_of, engine_of, layout_of, HasBounds}
 use Rattle.qm_model.specs.Held.{pins_lacked, proof_lacked}
 use Rattle.qm_machine.specs.Sound.{IsSoundSlot, IsSteady, IsSound}
@@ -291,11 +291,18 @@ module _ (m : Scheme) {P : Type 0} (rules : Rules P) where
   absences_sound s None key is = (λ apart formed. is)
   absences_sound s (Some c) key is = with_list s s.database _ is (λ list e. absent_sound s (c list key) (live_of (live list) key) is)
 
+  asked_sound : (s : State) (g : Grafts) (checks : Checks) (question : Question) → IsSound m rules s → Sound (asked s g checks question)
+  asked_sound s g checks (Held key) is = with_list s s.database _ is (λ list e. held_sound s checks list (live_of (live list) key) is)
+  asked_sound s g checks (Absent key) is = absences_sound s checks.absent key is
+  asked_sound s g checks (lines.Chunks start max) is = with_list s s.database _ is (λ list e. unless_due s (range_refusal g.chunks.height s.log.chunks s.log.start list start) _ is)
+  asked_sound s g checks Witness is = with_list s s.database _ is (λ list e. (λ apart formed. is))
+
   answered_sound : (s : State) (g : Grafts) (question : Question) → IsSound m rules s → Sound (answered s g question)
-  answered_sound s g (Held key) is = with_list s s.database _ is (λ list e. held_sound s g.checks list (live_of (live list) key) is)
-  answered_sound s g (Absent key) is = absences_sound s g.checks.absent key is
-  answered_sound s g (lines.Chunks start max) is = with_list s s.database _ is (λ list e. unless_due s (range_refusal g.chunks.height s.log.chunks s.log.start list start) _ is)
-  answered_sound s g Witness is = with_list s s.database _ is (λ list e. (λ apart formed. is))
+  answered_sound s g question is = by g.checks
+    where
+      by : (checks : Option Checks) → Sound (if_checked s checks (λ checks. asked s g checks question))
+      by None = λ apart formed. is
+      by (Some checks) = asked_sound s g checks question is
 
   -- another slot of the table
   slotted_sound : (s : State) (h : ℕ) (slot : Slot) → IsSoundSlot s.had slot → IsSound m rules s → IsSound m rules (with_slot s h slot)

@@ -35,7 +35,7 @@ with_chunks form shape g checks = record {
   boundary = boundary shape g;
   proof = ops_proof toy shape form;
   pins = pins_at toy shape form;
-  grafts = Some (record { chunks = record { height = g; name = codes "grafted" }; checks = checks });
+  grafts = Some (record { chunks = record { height = g; name = codes "grafted" }; checks = Some checks });
 }
 
 abbrev current : Shape → ℕ → Scheme

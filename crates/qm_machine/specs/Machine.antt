@@ -179,18 +179,27 @@ absent_at s proved None = (AbsentAt proved.0 proved.1, s)
 absent_at s proved (Some e) = refuse s KeyExists
 
 -- up to `max` operations from `start` on with their chunks, and their proof, checked
-abbrev pub chunks_in : State → Grafts → ℕ → ℕ → List Operation → Answer × State
-chunks_in s g start max list =
+abbrev pub chunks_in : State → Grafts → Checks → ℕ → ℕ → List Operation → Answer × State
+chunks_in s g checks start max list =
     let n = proof_count (length list) start max in
-    let proved = g.checks.range list start (start + n) in
+    let proved = checks.range list start (start + n) in
     unless s (range_refusal g.chunks.height s.log.chunks s.log.start list start) (Chunked n proved.0 proved.1)
 
--- the answer to a question that only a current database is asked
+-- what only one does that offers proofs of keys and ranges
+abbrev pub if_checked : State → Option Checks → (Checks → Answer × State) → Answer × State
+if_checked s None offered = refuse s NotOffered
+if_checked s (Some checks) offered = offered checks
+
+-- the answer to a question, by these checks
+abbrev pub asked : State → Grafts → Checks → Question → Answer × State
+asked s g checks (Held key) = with_database s s.database (λ list. held_at s checks list (live_of (live list) key))
+asked s g checks (Absent key) = if_absences s checks.absent (λ check. with_database s s.database (λ list. absent_at s (check list key) (live_of (live list) key)))
+asked s g checks (lines.Chunks start max) = with_database s s.database (chunks_in s g checks start max)
+asked s g checks Witness = with_database s s.database (λ list. (Witnessed (checks.witness list), s))
+
+-- that to a question that only a current database is asked
 abbrev pub answered : State → Grafts → Question → Answer × State
-answered s g (Held key) = with_database s s.database (λ list. held_at s g.checks list (live_of (live list) key))
-answered s g (Absent key) = if_absences s g.checks.absent (λ check. with_database s s.database (λ list. absent_at s (check list key) (live_of (live list) key)))
-answered s g (lines.Chunks start max) = with_database s s.database (chunks_in s g start max)
-answered s g Witness = with_database s s.database (λ list. (Witnessed (g.checks.witness list), s))
+answered s g question = if_checked s g.checks (λ checks. asked s g checks question)
 
 module _ (m : Scheme) where
   -- what an opening finds in a store, by its list

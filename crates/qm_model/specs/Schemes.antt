@@ -13,10 +13,11 @@ use Rattle.qm_model.specs.Opening.{Chunks, Layout}
 use Rattle.qm_model.specs.Own.{Engine, ArePrompt}
 use Rattle.qm_model.specs.Families.{Births, HasPlaces}
 
--- what a current database has over an any one: chunks of activity bits, grafted onto its trees, and the checks of its proofs
+-- what a current database has over an any one: chunks of activity bits, grafted onto its trees, and the checks of its proofs of keys and
+-- ranges, where it offers these
 pub record Grafts : Type 0 where
   pub chunks : Chunks
-  pub checks : Checks
+  pub checks : Option Checks
 
 -- what a machine stands on: how operations are spelled and hashed, over which family of trees, and how many bytes a digest
 -- has; a list's roots and boundary, the proofs of its operations and its pins
