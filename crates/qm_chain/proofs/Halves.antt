@@ -1,5 +1,5 @@
 -- The entry of a key among entries that ascend, looked for by halves or by its place.
-use Rattle.std.proofs.Common.{◌≡◌, ◌∙◌, ap, sym, refl, subst, ℕ, ◌+◌, ◌<◌, length, get_or, take, drop, true, false, cond, List, [], ◌∷◌, ◌++◌, Option, Some, None}
+use Rattle.std.proofs.Common.{◌≡◌, ◌∙◌, ap, sym, subst, ℕ, ◌+◌, ◌<◌, length, get_or, take, drop, true, false, cond, List, [], ◌∷◌, ◌++◌, Some, None}
 use Rattle.std.specs.Prelude.{bytes_eq}
 use Rattle.std.specs.List.{AllByRecursion as Each}
 use Rattle.std.specs.Option.{option_or}
@@ -16,25 +16,13 @@ use Rattle.qm_model.specs.Keys.{key_lt}
 use Rattle.qm_chain.specs.Ascending.{IsAscending}
 use Rattle.qm_chain.specs.Entries.{keys_of, entry_of}
 use Rattle.qm_chain.proofs.KeyOrder.{Ascends, ascends_from, ascending_from, each_weaker, lt_on, apart, eq_back, same_key}
-
-or_none : {X : Type 0} (o : Option X) → option_or o None ≡ o
-or_none None = refl
-or_none (Some x) = refl
+use Rattle.qm_chain.proofs.Merging.{none_where, each_keys, or_none}
 
 module _ {K E : Type 0} (bytes : K → Bytes) where
-  -- where no entry has the key
-  none_where : (es : List (K × E)) (q : Bytes) → Each (λ e. bytes_eq (bytes e.0) q ≡ false) es → entry_of bytes es q ≡ None
-  none_where [] q h = refl
-  none_where (e ∷ es) q h = ap (λ t. cond t (Some e) (entry_of bytes es q)) h.0 ∙ none_where es q h.1
-
-  each_keys : (P : Bytes → Type 0) (es : List (K × E)) → Each P (keys_of bytes es) → Each (λ e. P (bytes e.0)) es
-  each_keys P [] h = tt
-  each_keys P (e ∷ es) h = (h.0, each_keys P es h.1)
-
   -- the entries in front of one are below it
   front_below : (front behind : List (K × E)) (m : K × E) → Ascends (keys_of bytes (front ++ m ∷ behind)) → Each (λ e. key_lt (bytes e.0) (bytes m.0) ≡ true) front
   front_below [] behind m h = tt
-  front_below (e ∷ front) behind m h = (at front (each_keys (λ k. key_lt (bytes e.0) k ≡ true) (front ++ m ∷ behind) h.0), front_below front behind m h.1)
+  front_below (e ∷ front) behind m h = (at front (each_keys bytes (λ k. key_lt (bytes e.0) k ≡ true) (front ++ m ∷ behind) h.0), front_below front behind m h.1)
     where
       at : (front : List (K × E)) → Each (λ u. key_lt (bytes e.0) (bytes u.0) ≡ true) (front ++ m ∷ behind) → key_lt (bytes e.0) (bytes m.0) ≡ true
       at [] h = h.0
@@ -67,7 +55,7 @@ module _ {K E : Type 0} (bytes : K → Bytes) where
     none_in_front before =
         either_half
         ∙ ap (λ o. option_or o (entry_of bytes (m ∷ behind) k))
-        (none_where front k (each_weaker (λ e. key_lt (bytes e.0) (bytes m.0) ≡ true) (λ e. bytes_eq (bytes e.0) k ≡ false) (λ e h. before (bytes e.0) h) front (front_below front behind m ascends)))
+        (none_where bytes front k (each_weaker (λ e. key_lt (bytes e.0) (bytes m.0) ≡ true) (λ e. bytes_eq (bytes e.0) k ≡ false) (λ e h. before (bytes e.0) h) front (front_below front behind m ascends)))
 
     -- a key above the middle is behind it
     pub behind_kept : slice_cmp nat_cmp (bytes m.0) k ≡ Less → IsAscending (keys_of bytes behind) × (entry_of bytes behind k ≡ entry_of bytes rest k)
@@ -81,9 +69,9 @@ module _ {K E : Type 0} (bytes : K → Bytes) where
     pub front_kept : slice_cmp nat_cmp (bytes m.0) k ≡ Greater → IsAscending (keys_of bytes front) × (entry_of bytes front k ≡ entry_of bytes rest k)
     front_kept above =
         let lower : key_lt k (bytes m.0) ≡ true = ap is_lt (nat_list_cmp_total.antisymm k (bytes m.0) ∙ ap ordering_reverse above) in
-        let later : Each (λ e. key_lt (bytes m.0) (bytes e.0) ≡ true) behind = each_keys (λ j. key_lt (bytes m.0) j ≡ true) behind (back_ascends front (m ∷ behind) ascends).0 in
+        let later : Each (λ e. key_lt (bytes m.0) (bytes e.0) ≡ true) behind = each_keys bytes (λ j. key_lt (bytes m.0) j ≡ true) behind (back_ascends front (m ∷ behind) ascends).0 in
         let none : entry_of bytes (m ∷ behind) k ≡ None =
-        none_where (m ∷ behind) k (
+        none_where bytes (m ∷ behind) k (
           eq_back k (bytes m.0) (apart k (bytes m.0) lower),
           each_weaker (λ e. key_lt (bytes m.0) (bytes e.0) ≡ true) (λ e. bytes_eq (bytes e.0) k ≡ false)
               (λ e h. eq_back k (bytes e.0) (apart k (bytes e.0) (lt_on k (bytes m.0) (bytes e.0) lower h))) behind later,
@@ -111,7 +99,7 @@ module _ {K E : Type 0} (bytes : K → Bytes) where
 
     pub entry_new : entry_of bytes (take i es) (bytes here.0) ≡ None
     entry_new =
-        none_where (take i es) (bytes here.0)
+        none_where bytes (take i es) (bytes here.0)
         (each_weaker (λ e. key_lt (bytes e.0) (bytes here.0) ≡ true) (λ e. bytes_eq (bytes e.0) (bytes here.0) ≡ false) (λ e h. apart (bytes e.0) (bytes here.0) h) (take i es)
         (front_below (take i es) (drop (i + 1) es) here (subst (λ xs. Ascends (keys_of bytes xs)) (sym split) (ascends_from (keys_of bytes es) ascending))))
 
