@@ -1,14 +1,15 @@
 //! Texts of errors.
 
 use qm_base::{Corrupt, Error, JournalError, MerkleError};
+use qm_chain::FloorError;
 use qm_store::StoreError;
 use std::alloc::{AllocError, Global};
 use std::test::Fail;
 
-// What errors print, a line each, and in the last what those of a store do.
+// What errors print, a line each, then those of a store, and those of a floor.
 const TEXTS: &str = "\
 out of memory
-initialization bound is 0
+initialization bound must allow at least one operation
 stale batch: current database state does not match the batch
 stale read: database is at no state of the batch's chain
 prune location 9 beyond minimum required location 4
@@ -24,6 +25,8 @@ journal error: Store
 journal error: ItemPruned 7
 journal error: ItemTooLarge 65546
 out of memory, store fault
+floor regressed: batch floor 4 < prior floor 5
+floor beyond commit location: floor 10 > commit loc 9
 ";
 
 // The error that prints the line at an index.
@@ -55,6 +58,8 @@ fn texts(alloc: Global) -> Result<String, AllocError> {
         writeln!(texts, "{}", error_at(index))?;
     }
     writeln!(texts, "{}, {}", StoreError::Memory, StoreError::Failed)?;
+    writeln!(texts, "{}", FloorError::FloorRegressed(4, 5))?;
+    writeln!(texts, "{}", FloorError::FloorBeyondSize(10, 9))?;
     Ok(texts)
 }
 
