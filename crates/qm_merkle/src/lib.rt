@@ -12,4 +12,5 @@ pub mod position;
 pub use batch::{MerkleizedBatch, UnmerkleizedBatch};
 pub use family::{Family, Node};
 pub use hasher::StandardHasher;
+pub use mem::Mem;
 pub use position::Position;
