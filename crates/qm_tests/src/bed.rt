@@ -63,7 +63,7 @@ pub(crate) const KEY: [u8; 4] = [1, 2, 3, 4];
 const VALUE: [u8; 8] = [10, 11, 12, 13, 14, 15, 16, 17];
 
 // What a call answers, or why it was refused.
-fn kept<T: Drop, X: Drop, C: Drop>(done: Result<T, Refusal<X, C>>) -> Result<T, Error> {
+pub(crate) fn kept<T: Drop, X: Drop, C: Drop>(done: Result<T, Refusal<X, C>>) -> Result<T, Error> {
     match done {
         Ok(answer) => Ok(answer),
         Err(refusal) => Err(refusal.error),
@@ -79,7 +79,7 @@ pub(crate) fn of_bytes<S: ByteString>(alloc: Global, bytes: &[u8]) -> Result<S, 
 }
 
 // The database of the whole list that a store keeps, with chunks of activity bits, of which none is pruned.
-fn opened<B: Bed>(alloc: Global, store: B::Store) -> Result<Database<B>, Error> {
+pub(crate) fn opened<B: Bed>(alloc: Global, store: B::Store) -> Result<Database<B>, Error> {
     let opening = Config {
         translator: B::translator(),
         init_cache: NonZeroUsize::MIN,

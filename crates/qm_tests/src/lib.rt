@@ -16,6 +16,10 @@ mod fixed;
 #[cfg(test)]
 mod grafts;
 #[cfg(test)]
+mod lengths;
+#[cfg(test)]
 mod overlays;
+#[cfg(test)]
+mod scans;
 #[cfg(test)]
 mod trees;
