@@ -6,6 +6,8 @@ mod base;
 #[cfg(test)]
 mod bed;
 #[cfg(test)]
+mod caches;
+#[cfg(test)]
 mod diffs;
 #[cfg(test)]
 mod expiry;
