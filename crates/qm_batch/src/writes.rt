@@ -41,8 +41,8 @@ impl<K: ByteString, V: ByteString> Writes<K, V> {
         }
     }
 
-    /// Puts a write behind the others: a value for the key, or its end. It takes one descent of the map of keys. Where
-    /// memory lacks the writes are gone.
+    /// Puts a write after the others: a value for the key, or its deletion. It takes one descent of the map of keys. Without
+    /// memory the writes are gone.
     pub fn push(self, key: K, value: Option<V>) -> Result<Writes<K, V>, AllocError>
         ensures { IfOk result (λ writes.
             writes ≡ self ++ record { key = K.bytes key; value = option_map V.bytes value } ∷ []) }

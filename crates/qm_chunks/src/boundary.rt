@@ -8,8 +8,8 @@ use crate::nodes::{birth_of, chunk_node};
 use qm_merkle::family::end_of;
 use qm_merkle::{Family, Node};
 
-/// How many operations there have to be before so many chunks may go, where the node over the last of them and its
-/// neighbour waits for more than its own leaves.
+/// The least list size at which `chunks` chunks may be pruned, if the node over the last of them and its neighbour waits for
+/// more than its own leaves.
 pub fn pair_absorption_threshold<F: Family>(height: u32, chunks: u64) -> Option<u64>
     requires low { height < 62 }
     requires within { chunks * 2 ^ height ≤ 2 ^ 62 }
@@ -21,7 +21,7 @@ pub fn pair_absorption_threshold<F: Family>(height: u32, chunks: u64) -> Option<
     pair_threshold::<F>(Node::new(height + 1, (chunks - 1) / 2))
 }
 
-// How many operations there have to be, by the node over two chunks, where it waits for more than its own leaves.
+// The least list size by the node over two chunks, if that waits for more than its own leaves.
 fn pair_threshold<F: Family>(node: Node) -> Option<u64>
     requires { trees.end_of node ≤ 2 ^ 62 }
     ensures { result ≡ grafted.pair_threshold F.shape node }
@@ -34,7 +34,7 @@ fn pair_threshold<F: Family>(node: Node) -> Option<u64>
     }
 }
 
-/// How many operations there have to be before so many chunks may go.
+/// The least list size at which `chunks` chunks may be pruned.
 pub fn needed_size<F: Family>(height: u32, chunks: u64) -> u64
     requires some { 0 < chunks }
     requires low { height < 62 }

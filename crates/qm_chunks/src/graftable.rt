@@ -13,9 +13,12 @@ use crate::nodes::chunk_node;
 use qm_merkle::family::{end_of, place};
 use qm_merkle::{Family, Node, Position, mmb, mmr};
 
-/// A family that chunks can be grafted onto: a node is born by when the leaves of the next one of its height are there, a tree
-/// of no leaves has no nodes, where a node over chunks is born, the one that stands for it in the grafted tree is born too, and where chunks may go, so it is the
-/// other way round for the nodes over them.
+/// A family that chunks can be grafted onto. Four laws hold of it:
+///
+/// 1. A node is born by the time the leaves of the next one of its height are there.
+/// 2. A tree of no leaves has no nodes.
+/// 3. Once a node over chunks is born, the one that stands for it in the grafted tree is born too.
+/// 4. For the nodes over chunks that may be pruned it is also the other way round.
 pub trait Graftable: Family {
     /// How many leaves a tree has when the node is born.
     fn birth(node: Node) -> u64

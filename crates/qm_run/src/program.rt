@@ -207,11 +207,11 @@ fn run<C: Store + Drop, K: Sink, G: Gate>(
 }
 
 /// The program. The words are those after its name: `run any unordered mmr` or `run any ordered mmr`. It reads the
-/// source to its end, runs the commands of its lines over the store, up to the first line that is none, and writes the
-/// replies, one line each. It answers a status and the store.
+/// source to its end, runs the commands of its lines over the store, up to the first line that is not a command, and writes
+/// the replies, one line each. It answers a status and the store.
 ///
-/// The statuses: 0, every line has its reply; 1, other words; 2, a line that is none, after whose replies
-/// `bad line` and its number were written; 3, the source failed; 4, the sink failed; 5, want of memory; 6, the
+/// The statuses: 0, every line has its reply; 1, the words are not one of the two; 2, a line is not a command, and after the
+/// replies before it `bad line` and its number were written; 3, the source failed; 4, the sink failed; 5, want of memory; 6, the
 /// store failed, and after the replies so far `store fault` was written; 7, more than 16,777,216 bytes of input.
 pub fn qmdb_main<C: Store + Drop, S: Source, K: Sink, G: Gate>(
     alloc: Global,

@@ -50,7 +50,7 @@ impl<T: Drop> From<AllocFailed<T>> for StoreError {
     }
 }
 
-// A refusal of memory is want of memory, and whatever else the system refuses is a fault.
+// `OutOfMemory` is `Memory`, and every other error of the system is `Failed`.
 impl From<io::Error> for StoreError {
     ghost use Rattle.std.specs.Prelude.{◌≡◌, ◌↔◌};
     ghost use Rattle.std.specs.IoError.{error_kind};
