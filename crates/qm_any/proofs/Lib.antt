@@ -23,3 +23,4 @@ pub mod OfferedStores
 pub mod OfferedSpans
 pub mod OfferedRanges
 pub mod OfferedProofs
+pub mod Opened

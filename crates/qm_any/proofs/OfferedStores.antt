@@ -1,16 +1,13 @@
 -- What opens a database over sha256, and what makes one last or ends it, as an offer says it.
-use Rattle.std.proofs.Common.{arith, ◌≡◌, ◌⊎◌, inl, inr, ◌≤◌, ◌<◌, ℕ, zero, suc, List, [], ◌∷◌, length, map, Option, Some, None, IfSome, refl, sym, ap, ◌∙◌, subst}
-use Rattle.std.specs.Prelude.{◌^◌, option_map, option_and_then}
-use Rattle.std.specs.Option.{option_or}
+use Rattle.std.proofs.Common.{arith, ◌≡◌, ◌⊎◌, inl, inr, ◌≤◌, ◌<◌, ℕ, List, length, map, Option, Some, None, ap, subst}
+use Rattle.std.specs.Prelude.{◌^◌}
 use Rattle.qm_model.specs.Families.{Births, IsFamily, HasPeaks}
 use Rattle.qm_model.specs.Trees.{Shape}
 use Rattle.std.specs.Prelude.{Result, Ok, Err, IfOk, IfErr}
 use Rattle.qm_model.specs.Forms.{Form, spelling}
 use Rattle.qm_model.specs.Live.{floor}
-use Rattle.qm_model.specs.Operations.{Bytes, Operation, fresh}
+use Rattle.qm_model.specs.Operations.{Bytes, Operation}
 use Rattle.qm_model.specs.StoreModel.{Stored, settled, pruned, IsImage, IsOldOrNew, ReadsAs, Fails, Leaves, Turns, Becomes}
-use Rattle.qm_model.specs.Opening.{Selected, commit_at, last_commit, below_bound, found, selected, size_of}
-use Rattle.qm_model.specs.Refusals.{commit_floor}
 use Rattle.qm_base.specs.declared.error.Error.{Error}
 use Rattle.qm_base.specs.declared.error.Error.TheVariants as errors
 use Rattle.qm_base.specs.declared.error.JournalError.TheVariants as journal
@@ -21,12 +18,10 @@ use Rattle.qm_store.specs.declared.refusal.Given.TheVariants as variants
 use Rattle.qm_store.specs.declared.refusal.Refusal.{Refusal}
 use Rattle.qm_store.specs.Given.{store_after, store_given}
 use Rattle.qm_store.specs.Refusals.{refusal_of}
-use Rattle.qm_any.specs.Restoring as any
 use Rattle.qm_any.specs.Lasting.{cut_to, IsHeadAt}
 use Rattle.qm_any.specs.Databases.{Database, IsDatabase}
-use Rattle.qm_model.specs.Schemes.{layout_of}
-use Rattle.qm_model.specs.Taken.{IsTaken, selected_size, head_at, taken, pruned_from, LeavesOpening, LeavesPruning}
-use Rattle.qm_any.proofs.OfferedHeads.{head-is, is-head, scheme}
+use Rattle.qm_model.specs.Taken.{head_at, pruned_from, LeavesPruning}
+use Rattle.qm_any.proofs.OfferedHeads.{head-is, scheme}
 use Rattle.qm_any.specs.Offered.{sha256_hashing}
 
 turned-each : (o new : Option Stored) (R Q : Stored → Stored → Type 0) → ((s t : Stored) → R s t → Q s t) → Turns o new R → Turns o new Q
@@ -37,64 +32,6 @@ turned-each (Some s) (Some t) R Q each is = each s t is
 -- what a failed call left, without what a crash inside it would have left
 pub leaves-now : (o new : Option Stored) (R : Stored → Stored → Type 0) → Leaves o new R → Turns o new R
 leaves-now o new R left = turned-each o new (Fails R R) R (λ s t failed. failed.now) left
-
--- a commit that is selected stands at the start or behind it
-abbrev IsPast : ℕ → Option Selected → Type 0
-IsPast start at = (size_of at ≡ 0) ⊎ (start < size_of at)
-
-commit-past : (start i : ℕ) (item : Option Operation) (before : Option Selected) → start ≤ i → IsPast start before → IsPast start (option_or (commit_at i item) before)
-commit-past start i item before low past = by (option_and_then commit_floor item)
-  where
-    by : (floor : Option ℕ) → IsPast start (option_or (option_map (λ f. record { size = suc i; floor = f }) floor) before)
-    by None = past
-    by (Some f) = inr (omega (arith, low))
-
-last-past : (start i : ℕ) (before : Option Selected) (items : List (Option Operation)) → start ≤ i → IsPast start before → IsPast start (last_commit i before items)
-last-past start i before [] low past = past
-last-past start i before (item ∷ items) low past = last-past start (suc i) (option_or (commit_at i item) before) items (omega (arith, low)) (commit-past start i item before low past)
-
-module _ (shape : Shape) (births : Births) (family : IsFamily shape births) (peaked : HasPeaks shape) (form : Form) where
-  past_start : (s : Stored) (bound : Option ℕ) (j : ℕ) → selected_size (scheme shape form) bound s ≡ suc j → s.start < suc j
-  past_start s bound j is = by (last-past s.start s.start None (below_bound bound (found (layout_of (scheme shape form)) s)) (omega arith) (inl refl))
-    where
-      by : IsPast s.start (selected (found (layout_of (scheme shape form)) s) bound) → s.start < suc j
-      by (inl none) = absurd (omega (arith, none, is))
-      by (inr past) = omega (arith, past, is)
-
-  -- the list that is taken up, as the database has it
-  pub opened-list : (told : Option Stored) (bound : Option ℕ) (S : List Operation → Type 0)
-      → IfSome told (λ s. (list : List Operation) → any.HasList (sha256_hashing shape form) s (any.selected_size (sha256_hashing shape form) bound s) list → S list)
-      → IfSome told (λ s. any.selected_size (sha256_hashing shape form) bound s ≡ 0 → S fresh)
-      → IfSome told (λ s. (list : List Operation) → IsTaken (scheme shape form) s (selected_size (scheme shape form) bound s) list → S list)
-  opened-list None bound S stands begun = tt
-  opened-list (Some s) bound S stands begun = λ list is. by (selected_size (scheme shape form) bound s) refl list is
-    where
-      by : (n : ℕ) → selected_size (scheme shape form) bound s ≡ n → (list : List Operation) → IsTaken (scheme shape form) s n list → S list
-      by zero e list is = subst S (sym is) (begun e)
-      by (suc j) e list is =
-          let within : s.start ≤ length list = omega (arith, is.size_is, past_start s bound j e) in
-          stands list (subst (λ n. any.HasList (sha256_hashing shape form) s n list) (sym e) record {
-            size_is = is.size_is;
-            of = is.of;
-            good = is.good;
-            ring = is.ring;
-            items = is.items;
-            head = is-head shape births family peaked form list s.start (omega (arith, is.size_is, is.few, within)) within s.head is.head;
-          })
-
-  taken-same : (n : ℕ) (s : Stored) → any.taken (sha256_hashing shape form) n s ≡ taken (scheme shape form) n s
-  taken-same zero s = refl
-  taken-same (suc n) s = refl
-
-  leaves-same : (n : ℕ) (s t : Stored) → any.LeavesOpening (sha256_hashing shape form) n s t → LeavesOpening (scheme shape form) n s t
-  leaves-same zero s t is = is
-  leaves-same (suc n) s t is = is
-
-  pub became-taken : (o new : Option Stored) (bound : Option ℕ) → Turns o new (λ s t. t ≡ any.taken (sha256_hashing shape form) (any.selected_size (sha256_hashing shape form) bound s) s) → Turns o new (λ s t. t ≡ taken (scheme shape form) (selected_size (scheme shape form) bound s) s)
-  became-taken o new bound is = turned-each o new _ _ (λ s t e. e ∙ taken-same (selected_size (scheme shape form) bound s) s) is
-
-  pub left-opening : (o new : Option Stored) (bound : Option ℕ) → Turns o new (λ s t. any.LeavesOpening (sha256_hashing shape form) (any.selected_size (sha256_hashing shape form) bound s) s t) → Turns o new (λ s t. LeavesOpening (scheme shape form) (selected_size (scheme shape form) bound s) s t)
-  left-opening o new bound is = turned-each o new _ _ (λ s t. leaves-same (selected_size (scheme shape form) bound s) s t) is
 
 -- want of memory and a fault of the store refuse nothing
 pub untold : (e : Error) → (e ≡ errors.Memory) ⊎ (e ≡ errors.Journal journal.Store) → refusal_of e ≡ None

@@ -37,11 +37,11 @@ use Rattle.qm_store.specs.declared.log.LogGiven.{LogGiven}
 use Rattle.qm_store.specs.declared.log.LogGiven.TheVariants as variants
 use Rattle.qm_store.specs.Log.{Log, IsLog, IsRefused, store_given}
 use Rattle.qm_step.specs.Kinds.{HasRing}
-use Rattle.qm_build.specs.Opened.{IsOpened}
+use Rattle.qm_open.specs.Opened.{IsOpened}
 use Rattle.qm_any.specs.Layouts.{Layout, spellings}
 use Rattle.qm_any.specs.Databases.{Database, IsDatabase}
-use Rattle.qm_build.proofs.Checking.{three}
-use Rattle.qm_any.specs.Restoring.{height_of, pruned_view}
+use Rattle.qm_open.proofs.Checking.{three}
+use Rattle.qm_any.specs.Opening.{height_of, pruned_view}
 
 -- what shared metadata spells
 pub shared-bytes : {A V B : Type 0} (value : A → V) (bytes : V → B) (m : Option A) (meta : Option V) → option_map value m ≡ meta → option_map (λ r. bytes (value r)) m ≡ option_map bytes meta
@@ -193,13 +193,16 @@ module _ (form : Form) (told : Option Stored) (bound : Option ℕ) where
 pub selects-same : (form : Form) (s : Stored) (pruned : Option Pruned) (bound : Option ℕ) → opening.selected (found_of form s pruned) bound ≡ opening.selected (any_found form s) bound
 selects-same form s pruned bound = selected-same form s pruned bound ∙ sym (selected-same form s None bound)
 
--- so many chunks are told
-pub so-pruned : (pruned : Option (ℕ × Option ℕ)) (n chunks : ℕ) → n ≡ chunks → IfSome pruned (λ p. chunks ≡ p.0) → IfSome pruned (λ p. n ≡ p.0)
-so-pruned None n chunks is told = tt
-so-pruned (Some p) n chunks is told = is ∙ told
+-- this number of pruned chunks is told
+abbrev pub told_chunks : ℕ → Option (ℕ × Option ℕ) → Option ℕ
+told_chunks chunk pruned = option_map (λ p. p.chunks) (option_map (pruned_view chunk) pruned)
+
+pub so-pruned : (chunk : ℕ) (pruned : Option (ℕ × Option ℕ)) (n chunks : ℕ) → n ≡ chunks → IfSome pruned (λ p. chunks ≡ p.0) → IfSome (told_chunks chunk pruned) (λ k. n ≡ k)
+so-pruned chunk None n chunks is told = tt
+so-pruned chunk (Some p) n chunks is told = is ∙ told
 
 -- where they have no bit, none is told
-pub none-pruned : (chunk : ℕ) (pruned : Option (ℕ × Option ℕ)) (n : ℕ) → n ≡ 0 → bits_of (option_map (pruned_view chunk) pruned) ≡ 0 → IfSome pruned (λ p. n ≡ p.0)
+pub none-pruned : (chunk : ℕ) (pruned : Option (ℕ × Option ℕ)) (n : ℕ) → n ≡ 0 → bits_of (option_map (pruned_view chunk) pruned) ≡ 0 → IfSome (told_chunks chunk pruned) (λ k. n ≡ k)
 none-pruned chunk None n is none = tt
 none-pruned chunk (Some p) n is none =
     let some = pow_pos (height_of chunk) in

@@ -1,7 +1,7 @@
 -- What openings leave of a store.
-use Rattle.std.proofs.Common.{◌≡◌, ◌∙◌, ◌-◌, ◌≤◌, ◌<◌, ◌++◌, ℕ, zero, suc, min, List, [], ◌∷◌, length, take, ap, sym, subst, refl, arith, append-nil, Option, Some, None}
+use Rattle.std.proofs.Common.{◌≡◌, ◌∙◌, ◌-◌, ◌≤◌, ◌<◌, ◌++◌, ℕ, zero, suc, min, List, [], ◌∷◌, length, map, take, true, ap, sym, subst, refl, arith, append-nil, Option, Some, None}
 use Rattle.std.proofs.lemmas.List.{take-take, length-take}
-use Rattle.qm_model.specs.Operations.{Bytes, fresh}
+use Rattle.qm_model.specs.Operations.{Bytes, Operation, fresh}
 use Rattle.qm_model.specs.StoreModel.{Stored, end_of, left_at, appended, settled, rewound, IsImage, RewindLeaves, ReadsAs, HasAppended, Turns, Becomes}
 use Rattle.qm_model.proofs.Stores.{cut-whole, leaves-now}
 use Rattle.qm_store.specs.declared.Store as store
@@ -11,8 +11,10 @@ use Rattle.qm_store.specs.declared.refusal.Refusal.{Refusal}
 use Rattle.qm_store.specs.Given.{store_given, IsUnchanged}
 use Rattle.qm_store.specs.Log.{IsKept}
 use Rattle.qm_any.specs.Lasting.{HasLeftStable, IsGivenUp}
-use Rattle.qm_any.specs.Layouts.{Hashing, spellings}
-use Rattle.qm_any.specs.Restoring.{taken, LeavesOpening}
+use Rattle.qm_model.specs.Forms.{spelling}
+use Rattle.qm_model.specs.Ordered.{IsRing}
+use Rattle.qm_model.specs.Schemes.{Scheme}
+use Rattle.qm_model.specs.Taken.{HasList, IsTaken, taken, LeavesOpening}
 use Rattle.qm_any.proofs.Lasting.{turns-behind}
 
 -- an image of a store that was rewound is one that the rewind may leave
@@ -69,20 +71,25 @@ unmoved more s = record {
   within = λ inside. inside;
 }
 
-module _ {D : Type 0} (hashing : Hashing D) where
+module _ (m : Scheme) where
   -- where a list is selected its size is no 0
-  pub taken-some : (size : ℕ) (s : Stored) → 0 < size → taken hashing size s ≡ settled (rewound size s)
+  pub taken-some : (size : ℕ) (s : Stored) → 0 < size → taken m size s ≡ settled (rewound size s)
   taken-some zero s some = absurd (omega (arith, some))
   taken-some (suc n) s some = refl
 
-  pub leaves-some : (size : ℕ) (s new : Stored) → 0 < size → ReadsAs (min s.stable size) (RewindLeaves size s) new → LeavesOpening hashing size s new
+  pub leaves-some : (size : ℕ) (s new : Stored) → 0 < size → ReadsAs (min s.stable size) (RewindLeaves size s) new → LeavesOpening m size s new
   leaves-some zero s new some is = absurd (omega (arith, some))
   leaves-some (suc n) s new some is = is
 
   -- a store that is refused may have what it had
-  pub leaves-whole : (size : ℕ) (s : Stored) → s.stable ≤ end_of s → LeavesOpening hashing size s s
-  leaves-whole zero s stable = unmoved (spellings hashing fresh) s
+  pub leaves-whole : (size : ℕ) (s : Stored) → s.stable ≤ end_of s → LeavesOpening m size s s
+  leaves-whole zero s stable = unmoved (map (spelling m.form) fresh) s
   leaves-whole (suc n) s stable = reads-whole (suc n) s stable
+
+  -- it is a list of that size
+  pub list-some : (size : ℕ) (s : Stored) (list : List Operation) → 0 < size → IsTaken m s size list → HasList m s size list × (m.form.ordered ≡ true → IsRing list)
+  list-some zero s list some is = absurd (omega (arith, some))
+  list-some (suc n) s list some is = is
 
 -- What becomes of what is told.
 

@@ -4,7 +4,7 @@ pub mod Databases
 pub mod Reasons
 pub mod Tips
 pub mod Scanned
-pub mod Restoring
+pub mod Opening
 pub mod Lent
 pub mod Reading
 pub mod Offered

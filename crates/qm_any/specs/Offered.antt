@@ -1,29 +1,16 @@
 -- The machine of a database's lists, and the hashing of the databases that are offered.
-use Rattle.std.specs.Prelude.{ℕ, None}
+use Rattle.std.specs.Prelude.{ℕ}
 use Rattle.sha2.specs.Sha256.{sha256}
 use Rattle.qm_model.specs.Operations.{Bytes}
 use Rattle.qm_model.specs.Forms.{Form}
-use Rattle.qm_model.specs.Live.{floor}
-use Rattle.qm_model.specs.Proofs.{ops_proof, pins_at}
-use Rattle.qm_model.specs.Schemes.{Scheme}
+use Rattle.qm_model.specs.Schemes.{Scheme, any_scheme}
 use Rattle.qm_model.specs.Trees.{Shape}
 use Rattle.qm_base.specs.declared.sha256.Sha256Digest.{Sha256Digest}
-use Rattle.qm_any.specs.Layouts.{Hashing, Layout, list_root}
+use Rattle.qm_any.specs.Layouts.{Hashing, Layout}
 
--- of lists that are hashed so, by digests of this size: its root is the operations root, and nothing is grafted onto its trees
+-- of lists that are hashed so, by digests of this size
 abbrev pub scheme_of : {D : Type 0} → ℕ → Hashing D → Scheme
-scheme_of size hashing = record {
-  form = hashing.form;
-  shape = hashing.shape;
-  hash = hashing.hash;
-  digest_size = size;
-  root = list_root hashing;
-  canonical = list_root hashing;
-  boundary = floor;
-  proof = ops_proof hashing.hash hashing.shape hashing.form;
-  pins = pins_at hashing.hash hashing.shape hashing.form;
-  grafts = None;
-}
+scheme_of size hashing = any_scheme hashing.hash hashing.shape size hashing.form
 
 -- the bytes of a digest
 abbrev pub digest_bytes : Sha256Digest → Bytes

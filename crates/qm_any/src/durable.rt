@@ -11,8 +11,8 @@ ghost use Rattle.qm_any.specs.Lasting.{bits_from, boundary_of, over_log, HasLast
 use crate::db::{Beside, Db, LaidOut};
 use qm_base::{Error, Hasher, Location};
 use qm_bits::Chunks;
-use qm_build::store_of;
 use qm_merkle::Family;
+use qm_open::store_of;
 use qm_operations::Update;
 use qm_store::{AuthLog, Given, LogRefusal, MetaEntry, Refusal, Store};
 use std::alloc::Global;

@@ -4,15 +4,15 @@
 pub mod batch;
 pub mod db;
 mod durable;
+mod fresh;
 pub mod laws;
 mod offer;
 mod open;
 mod operations;
 mod ordered;
 pub mod proof;
-mod restore;
 pub mod scan;
 pub mod staged;
 
-pub use qm_build::{hasher, initial_root};
-pub use restore::{Config, init, init_with};
+pub use open::{init, init_with};
+pub use qm_open::{Config, hasher, initial_root};

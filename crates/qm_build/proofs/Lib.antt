@@ -6,9 +6,9 @@ pub mod Reading
 pub mod Whole
 pub mod Within
 pub mod Decoding
-pub mod Beside
 pub mod Linking
 pub mod Behind
 pub mod Onward
-pub mod Checking
+pub mod Floors
 pub mod Telling
+pub mod Ended

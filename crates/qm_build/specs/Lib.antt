@@ -2,7 +2,6 @@ pub mod Building
 pub mod Built
 pub mod Cached
 pub mod Reads
-pub mod Opened
 pub mod Linked
 pub mod Reasons
-pub mod Apart
+pub mod Proved

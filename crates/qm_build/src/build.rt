@@ -5,9 +5,9 @@ ghost use Rattle.std.specs.List.{list_any};
 ghost use Rattle.qm_model.specs.Operations as model;
 ghost use Rattle.qm_operations.specs.Views.{operation_view};
 ghost use Rattle.qm_build.specs.Building.{ArePlaced, AreWithin, between};
-ghost use Rattle.qm_build.specs.Built.{IsBuilt, NoneBelow};
+ghost use Rattle.qm_build.specs.Built.{Rebuilds};
 ghost use Rattle.qm_build.specs.Cached.{Holds, AreKeys};
-ghost use Rattle.qm_build.specs.Reads.{items_within, HasOperations, IsRead, IsReadError, IsReadFault};
+ghost use Rattle.qm_build.specs.Reads.{HasOperations, IsRead, IsReadFault};
 
 use crate::cache::Cache;
 use crate::moves::{move_key, note};
@@ -46,24 +46,8 @@ pub fn build_snapshot<
     requires empty { I.entries index.old ≡ [] }
     requires kept { log.old.tree.start ≤ floor }
     requires below { floor < log.old.tree.leaves }
-    ensures built { (ops : List model.Operation)
-        → HasOperations C.Store F.shape H.Digest.bytes H.hash U.form log.old ops
-        → NoneBelow floor ops
-        → IfSome (C.told log.old.store) (λ _.
-        IfOk result (λ s. IsBuilt I.index_key (I.entries index.new) s.live s.activity floor ops)) }
-    ensures decodes { (ops : List model.Operation)
-        → HasOperations C.Store F.shape H.Digest.bytes H.hash U.form log.old ops
-        → IfSome (C.told log.old.store) (λ _.
-        IfErr result (λ e. e ≢ Error.DataCorrupted Corrupt.ItemDoesNotDecode)) }
-    ensures long { IfOk result (λ s.
-        (floor + length s.activity ≡ log.old.tree.leaves) × (s.live ≤ length s.activity)) }
-    ensures decoded { IfSome (C.told log.old.store) (λ s.
-        OnOk result (list_any is_none (items_within U.form s floor log.old.tree.leaves) ≡ false)) }
-    ensures corrupt { IfSome (C.told log.old.store) (λ s.
-        IfErr result (λ e. e ≡ Error.DataCorrupted Corrupt.ItemDoesNotDecode
-        → list_any is_none (items_within U.form s floor log.old.tree.leaves) ≡ true)) }
-    ensures read { IsRead C.Store F.shape H.Digest.bytes H.hash log.old log.new }
-    ensures error { IfErr result (IsReadError C.Store log.old log.new) }
+    ensures { Rebuilds C.Store F.shape H.Digest.bytes H.hash U.form I.index_key floor log.old
+        log.new (I.entries index.new) result }
 {
     let floor = floor.get();
     let (_, size) = log.bounds();

@@ -14,11 +14,12 @@ ghost use Rattle.qm_store.specs.Reads.{IsRead};
 ghost use Rattle.qm_store.specs.Log.{IsLog};
 ghost use Rattle.qm_store.specs.Refusals.{IsAmong, IsDue};
 ghost use Rattle.qm_build.specs.Reasons.{proof_reasons};
+ghost use Rattle.qm_build.specs.Proved.{AtLogged, Proves};
 
+use crate::item::commit_floor_in;
 use crate::read::operation_in;
 use qm_base::{Corrupt, Error, Hasher, JournalError, Location, MerkleError};
 use qm_merkle::Family;
-use qm_open::commit_floor_in;
 use qm_operations::{Operation, Update};
 use qm_proofs::Proof;
 use qm_store::{AuthLog, Store};
@@ -33,35 +34,10 @@ pub fn proved_over<F: Family, C: Store, H: Hasher, U: Update>(
     start: u64,
     max: NonZeroU64,
 ) -> Result<(Proof<H::Digest>, Vec<Operation<F, U>>), Error>
-    ensures offered { (list : List operations.Operation)
-        → IsLog C.Store F.shape H.Digest.bytes H.hash log.old (map (spelling U.form) list)
-        → All (IsOf U.form) list
-        → IfSome (C.told log.old.store) (λ _.
-        OnOk result (proof_refusal (C.start log.old.store) list size start ≡ None)) }
-    ensures kept { OnOk result (C.start log.old.store ≤ start) }
-    ensures proof { (list : List operations.Operation)
-        → IsLog C.Store F.shape H.Digest.bytes H.hash log.old (map (spelling U.form) list)
-        → All (IsOf U.form) list
-        → IfSome (C.told log.old.store) (λ _.
-        IfOk result (λ shown. proof_view H.Digest.bytes shown.0
-        ≡ ops_proof H.hash F.shape U.form (take size list) start
-        (start + proof_count size start (non_zero_u64_get max)))) }
-    ensures operations { (list : List operations.Operation)
-        → IsLog C.Store F.shape H.Digest.bytes H.hash log.old (map (spelling U.form) list)
-        → All (IsOf U.form) list
-        → IfSome (C.told log.old.store) (λ _.
-        IfOk result (λ shown. operation_views U.view U.Key.bytes U.Value.bytes shown.1.items
-        ≡ take (proof_count size start (non_zero_u64_get max)) (drop start list))) }
-    ensures refused { (list : List operations.Operation)
-        → IsLog C.Store F.shape H.Digest.bytes H.hash log.old (map (spelling U.form) list)
-        → All (IsOf U.form) list
-        → IfSome (C.told log.old.store) (λ _.
-        IfErr result (λ e. IsDue e (proof_refusal (C.start log.old.store) list size start))) }
-    ensures causes { IfErr result (λ e. IsAmong e (proof_reasons size start)) }
-    ensures never { IfErr result (λ e. e ≢ Error.StaleBatch) }
-    ensures cause { IfErr result (λ e. e ≡ Error.Journal JournalError.Store
-        → Rose (C.faults log.old.store) (C.faults log.new.store)) }
-    ensures read { IsRead C.Store F.shape H.Digest.bytes H.hash log.old log.new }
+    ensures { Proves C.Store F.shape H.Digest.bytes H.hash U.form
+        (λ shown. proof_view H.Digest.bytes shown.0)
+        (λ shown. operation_views U.view U.Key.bytes U.Value.bytes shown.1.items) size start
+        (non_zero_u64_get max) log.old log.new result }
 {
     // The log has at most 2^62 items, and is kept from where its store is.
     log.bounds();
@@ -79,21 +55,13 @@ fn offered<F: Family, C: Store, H: Hasher, U: Update>(
     size: u64,
     start: u64,
 ) -> Result<u64, Error>
-    ensures offered { (list : List operations.Operation)
-        → IsLog C.Store F.shape H.Digest.bytes H.hash log.old (map (spelling U.form) list)
-        → All (IsOf U.form) list
-        → IfSome (C.told log.old.store) (λ _.
+    ensures offered { AtLogged C.Store F.shape H.Digest.bytes H.hash U.form log.old (λ list.
         OnOk result (proof_refusal (C.start log.old.store) list size start ≡ None)) }
     ensures kept { OnOk result (C.start log.old.store ≤ start) }
     ensures within { OnOk result ((size ≤ log.old.tree.leaves) × (start < size)) }
-    ensures floor { (list : List operations.Operation)
-        → IsLog C.Store F.shape H.Digest.bytes H.hash log.old (map (spelling U.form) list)
-        → All (IsOf U.form) list
-        → IfSome (C.told log.old.store) (λ _. IfOk result (λ f. f ≡ lives.floor (take size list))) }
-    ensures refused { (list : List operations.Operation)
-        → IsLog C.Store F.shape H.Digest.bytes H.hash log.old (map (spelling U.form) list)
-        → All (IsOf U.form) list
-        → IfSome (C.told log.old.store) (λ _.
+    ensures floor { AtLogged C.Store F.shape H.Digest.bytes H.hash U.form log.old (λ list.
+        IfOk result (λ f. f ≡ lives.floor (take size list))) }
+    ensures refused { AtLogged C.Store F.shape H.Digest.bytes H.hash U.form log.old (λ list.
         IfErr result (λ e. IsDue e (proof_refusal (C.start log.old.store) list size start))) }
     ensures causes { IfErr result (λ e. IsAmong e (proof_reasons size start)) }
     ensures never { IfErr result (λ e. e ≢ Error.StaleBatch) }
@@ -121,10 +89,8 @@ fn floor_at_end<F: Family, C: Store, H: Hasher, U: Update>(
     size: u64,
 ) -> Result<Option<u64>, Error>
     requires { size ≤ log.old.tree.leaves }
-    ensures floor { (list : List operations.Operation)
-        → IsLog C.Store F.shape H.Digest.bytes H.hash log.old (map (spelling U.form) list)
-        → All (IsOf U.form) list
-        → IfSome (C.told log.old.store) (λ _. IfOk result (λ f. f ≡ floor_before list size)) }
+    ensures floor { AtLogged C.Store F.shape H.Digest.bytes H.hash U.form log.old (λ list.
+        IfOk result (λ f. f ≡ floor_before list size)) }
     ensures some { IfOk result (λ f. IfSome f (λ _. 0 < size)) }
     ensures kept { OnOk result (last_refusal (C.start log.old.store) size ≡ None) }
     ensures pruned { IfErr result (λ e. IsDue e (last_refusal (C.start log.old.store) size)) }

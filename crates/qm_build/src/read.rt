@@ -1,8 +1,10 @@
 //! Operations and keys, read from a log.
 
-ghost use Rattle.std.specs.Prelude.{◌≡◌, ◌≢◌, ◌⊎◌, ◌↔◌, ◌≤◌, ◌<◌, ℕ, List, Some, None, true, slice_get, option_map, All, IfSome, IfOk, IfErr};
+ghost use Rattle.std.specs.Prelude.{◌≡◌, ◌≢◌, ◌⊎◌, ◌↔◌, ◌≤◌, ◌<◌, ◌-◌, ℕ, List, Some, None, true, slice_get, option_map, All, IfSome, IfOk, IfErr};
 ghost use Rattle.qm_model.specs.Forms.{IsSpelling, decoded};
+ghost use Rattle.qm_model.specs.Live as lives;
 ghost use Rattle.qm_model.specs.Operations as model;
+ghost use Rattle.qm_model.specs.Operations.{IsCommitEnded};
 ghost use Rattle.qm_operations.specs.Parts.{update_key};
 ghost use Rattle.qm_operations.specs.Views.{operation_view};
 ghost use Rattle.qm_index.specs.Buckets.{bucket_at};
@@ -42,6 +44,31 @@ pub(crate) fn read_operation<F: Family, C: Store, H: Hasher, U: Update>(
 {
     let item = log.read(at)?;
     operation_in(alloc, &item)
+}
+
+/// The metadata of the commit with which a log's list ends. It reads one item.
+pub fn last_metadata<F: Family, C: Store, H: Hasher, U: Update>(
+    alloc: Global,
+    log: &mut AuthLog<F, C, H>,
+) -> Result<Option<U::Value>, Error>
+    requires { log.old.tree.start < log.old.tree.leaves }
+    ensures value { (ops : List model.Operation)
+        → HasOperations C.Store F.shape H.Digest.bytes H.hash U.form log.old ops → IsCommitEnded ops
+        → IfSome (C.told log.old.store) (λ _.
+        IfOk result (λ metadata. option_map U.Value.bytes metadata ≡ lives.last_metadata ops)) }
+    ensures corrupt { IfSome (C.told log.old.store) (λ s.
+        IfErr result (λ e. e ≡ Error.DataCorrupted Corrupt.ItemDoesNotDecode
+        → IsUndecoded U.form s (log.old.tree.leaves - 1))) }
+    ensures read { IsRead C.Store F.shape H.Digest.bytes H.hash log.old log.new }
+    ensures error { IfErr result (IsReadError C.Store log.old log.new) }
+{
+    let (_, size) = log.bounds();
+    let operation: Operation<F, U> = read_operation(alloc, log, size - 1)?;
+    match operation {
+        Operation::CommitFloor(metadata, _) => Ok(metadata),
+        Operation::Update(_) => Ok(None),
+        Operation::Delete(_) => Ok(None),
+    }
 }
 
 /// The operation that an item spells. One that spells none is refused.

@@ -3,8 +3,7 @@
 ghost use Rattle.std.specs.Prelude.{◌≡◌, ◌≢◌, ◌<◌, ◌≤◌, ◌+◌, List, [], length, is_none, true, false, IfSome, IfOk, IfErr, OnOk};
 ghost use Rattle.std.specs.List.{list_any};
 ghost use Rattle.qm_model.specs.Operations as model;
-ghost use Rattle.qm_build.specs.Built.{IsBuilt, NoneBelow};
-ghost use Rattle.qm_build.specs.Reads.{items_within, HasOperations, IsRead, IsReadError};
+ghost use Rattle.qm_build.specs.Built.{Rebuilds};
 
 use crate::build::{Snapshot, build_snapshot};
 use qm_base::{Corrupt, Error, Hasher, Location};
@@ -38,24 +37,8 @@ pub trait SnapshotBuild<F: Family>: qm_index::Unordered<Value = Location<F>>
         requires empty { Self.entries self.old ≡ [] }
         requires kept { log.old.tree.start ≤ floor }
         requires below { floor < log.old.tree.leaves }
-        ensures built { (ops : List model.Operation)
-            → HasOperations C.Store F.shape H.Digest.bytes H.hash U.form log.old ops
-            → NoneBelow floor ops
-            → IfSome (C.told log.old.store) (λ _. IfOk result (λ s.
-            IsBuilt Self.index_key (Self.entries self.new) s.live s.activity floor ops)) }
-        ensures decodes { (ops : List model.Operation)
-            → HasOperations C.Store F.shape H.Digest.bytes H.hash U.form log.old ops
-            → IfSome (C.told log.old.store) (λ _.
-            IfErr result (λ e. e ≢ Error.DataCorrupted Corrupt.ItemDoesNotDecode)) }
-        ensures long { IfOk result (λ s.
-            (floor + length s.activity ≡ log.old.tree.leaves) × (s.live ≤ length s.activity)) }
-        ensures decoded { IfSome (C.told log.old.store) (λ s. OnOk result
-            (list_any is_none (items_within U.form s floor log.old.tree.leaves) ≡ false)) }
-        ensures corrupt { IfSome (C.told log.old.store) (λ s.
-            IfErr result (λ e. e ≡ Error.DataCorrupted Corrupt.ItemDoesNotDecode
-            → list_any is_none (items_within U.form s floor log.old.tree.leaves) ≡ true)) }
-        ensures read { IsRead C.Store F.shape H.Digest.bytes H.hash log.old log.new }
-        ensures error { IfErr result (IsReadError C.Store log.old log.new) }
+        ensures { Rebuilds C.Store F.shape H.Digest.bytes H.hash U.form Self.index_key floor log.old
+            log.new (Self.entries self.new) result }
     {
         build_snapshot::<F, Self, C, H, U>(alloc, self, log, floor, kept_keys)
     }

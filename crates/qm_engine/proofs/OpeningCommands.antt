@@ -1,5 +1,5 @@
 -- The command that opens what a store keeps.
-use Rattle.std.proofs.Common.{◌≡◌, ℕ, zero, suc, ◌+◌, ◌≤◌, List, [], ◌∷◌, length, get_or, take, drop, map, Option, Some, None, IfSome, arith, refl, sym, ◌∙◌, ap, subst, le_refl, le_trans, length-take-le}
+use Rattle.std.proofs.Common.{◌≡◌, ℕ, zero, suc, ◌+◌, ◌≤◌, List, [], ◌∷◌, length, get_or, take, drop, map, Option, Some, None, IfSome, arith, refl, sym, ◌∙◌, ap, subst, le_refl, length-take-le}
 use Rattle.std.specs.Prelude.{IsSome, is_some, option_map}
 use Rattle.std.specs.List.{AllByRecursion as Each}
 use Rattle.std.specs.List.{drop-map}
@@ -136,16 +136,14 @@ module _ {X C B S M K V D : Type 0} (members : stores.Ghosts C) (means : meaning
             let few_so = subst (λ n. n ≤ length s.log.list) e few in
             let behind_so = subst (λ n. s.log.start ≤ n) e behind in
             let has = k.store.told.has in
-            record {
+            (record {
               size_is = length-take-le (suc j) s.log.list few_so;
-              few = le_trans few_so steady.few;
               of = All-take (IsOf means.scheme.form) (suc j) s.log.list steady.of_form;
               good = steady.good bound (suc j) opens_so;
-              ring = steady.ring bound (suc j) opens_so;
               items = items-cut means.scheme peakless s.log stored has (suc j) behind_so
                   ∙ (sym (drop-map (spelling means.scheme.form) s.log.start (take (suc j) s.log.list)) ∙ ap (λ n. drop n (map (spelling means.scheme.form) (take (suc j) s.log.list))) (sym has.start));
               head = head-cut means.scheme peakless s.log stored has (suc j) behind_so ∙ ap (head_at means.scheme (take (suc j) s.log.list)) (sym has.start);
-            }
+            }, steady.ring bound (suc j) opens_so)
 
     new_told : (after : C) → model.Turns (members.told (store_given means.inside held)) (members.told after) (λ t new. new ≡ taken means.scheme (selected_size means.scheme bound t) t) → HasLog means.scheme (members.told after) (taken_up list s.log)
     new_told after became =

@@ -2,12 +2,12 @@
 use Rattle.std.specs.Prelude.{◌≤◌, ◌≡◌, ℕ, ◌/◌, ◌^◌, max, ◌==◌, length, Bool, true, if◌then◌else◌, List, Option, Some, None, IfSome, option_map}
 use Rattle.qm_model.specs.Operations.{Bytes, Operation}
 use Rattle.qm_model.specs.Forms.{Form}
-use Rattle.qm_model.specs.Trees.{Shape, peaks}
+use Rattle.qm_model.specs.Trees.{Shape, ops_root, peaks}
 use Rattle.qm_model.specs.Live.{floor}
 use Rattle.qm_model.specs.Grafted.{boundary}
 use Rattle.qm_model.specs.Walk.{Rules}
 use Rattle.qm_model.specs.Step.{Kind, ordered, unordered}
-use Rattle.qm_model.specs.Proofs.{Proof}
+use Rattle.qm_model.specs.Proofs.{Proof, ops_proof, pins_at}
 use Rattle.qm_model.specs.Checks.{Checks}
 use Rattle.qm_model.specs.Opening.{Chunks, Layout}
 use Rattle.qm_model.specs.Own.{Engine, ArePrompt}
@@ -36,6 +36,22 @@ pub record Scheme : Type 0 where
   pub pins : List Operation → ℕ → List Bytes
   -- none in an any database
   pub grafts : Option Grafts
+
+-- that of any databases whose lists are hashed so, by digests of this size: both roots are the operations root, and nothing is grafted
+-- onto their trees
+abbrev pub any_scheme : (Bytes → Bytes) → Shape → ℕ → Form → Scheme
+any_scheme hash shape size form = record {
+  form = form;
+  shape = shape;
+  hash = hash;
+  digest_size = size;
+  root = ops_root hash shape form;
+  canonical = ops_root hash shape form;
+  boundary = floor;
+  proof = ops_proof hash shape form;
+  pins = pins_at hash shape form;
+  grafts = None;
+}
 
 -- the kind of its databases
 abbrev pub kind_of : Scheme → Kind

@@ -1,5 +1,5 @@
 -- What an opening makes of a store, and a prune, by a scheme.
-use Rattle.std.specs.Prelude.{◌≡◌, ◌-◌, ◌⊎◌, ◌≤◌, ◌<◌, ◌^◌, ℕ, zero, suc, min, nat_lt, if◌then◌else◌, List, length, map, take, drop, All, true, false, Option, None, Some, bytes_eq}
+use Rattle.std.specs.Prelude.{◌≡◌, ◌-◌, ◌⊎◌, ◌<◌, ℕ, zero, suc, min, nat_lt, if◌then◌else◌, List, length, map, take, drop, All, true, false, Option, None, Some, bytes_eq}
 use Rattle.std.specs.Option.{option_map_or}
 use Rattle.std.specs.List.{concat}
 use Rattle.qm_model.specs.Operations.{Bytes, Operation, fresh}
@@ -19,17 +19,15 @@ head_at m list to = concat (pins_at m.hash m.shape m.form (take to list) to)
 -- a store has a list of such databases up to a size: its items from the start on, and the pins of what stands before it
 pub record HasList (m : Scheme) (s : Stored) (size : ℕ) (list : List Operation) : Type 0 where
   pub size_is : length list ≡ size
-  pub few : size ≤ 2 ^ 62
   pub of : All (IsOf m.form) list
   pub good : IsGood list
-  pub ring : m.form.ordered ≡ true → IsRing list
   pub items : take (size - s.start) s.items ≡ drop s.start (map (spelling m.form) list)
   pub head : s.head ≡ head_at m list s.start
 
--- the list that is taken up where so many items are selected, the fresh one where none are
+-- the list that is taken up where this number of items is selected, the fresh one where none are; the links of an ordered one form a ring
 abbrev pub IsTaken : Scheme → Stored → ℕ → List Operation → Type 0
 IsTaken m s zero list = list ≡ fresh
-IsTaken m s (suc n) list = HasList m s (suc n) list
+IsTaken m s (suc n) list = HasList m s (suc n) list × (m.form.ordered ≡ true → IsRing list)
 
 -- how many items an opening up to a bound selects
 abbrev pub selected_size : Scheme → Option ℕ → Stored → ℕ

@@ -1,2 +1,6 @@
 pub mod Selecting
 pub mod Refusing
+pub mod Beside
+pub mod Checking
+pub mod Empty
+pub mod Heads

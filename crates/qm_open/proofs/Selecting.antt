@@ -1,27 +1,15 @@
 -- The last commit of items, looked for from the end.
-use Rattle.std.proofs.Common.{◌≡◌, refl, ◌∙◌, ◌≤◌, ◌+◌, ◌-◌, ℕ, zero, suc, List, [], ◌∷◌, ◌++◌, length, take, take_all, arith, ap, sym, Option, Some, None}
+use Rattle.std.proofs.Common.{◌≡◌, ◌∙◌, ◌≤◌, ◌+◌, ◌-◌, ℕ, zero, suc, List, [], ◌∷◌, ◌++◌, length, take, take_all, arith, ap, sym, Option, Some, None}
 use Rattle.std.specs.Prelude.{min, option_map, option_and_then, slice_get}
 use Rattle.std.specs.Option.{option_or}
 use Rattle.std.proofs.lemmas.List.{length-map, length-take-le, take_min}
 use Rattle.std.proofs.lemmas.Option.{slice_get-map, slice_get_within}
-use Rattle.qm_model.specs.Operations.{Bytes, Operation, update, delete, commit}
-use Rattle.qm_operations.specs.Parts.{floor_of}
-use Rattle.qm_model.specs.Forms.{Form, IsSpelling, decoded}
+use Rattle.qm_model.specs.Operations.{Bytes, Operation}
+use Rattle.qm_model.specs.Forms.{Form, decoded}
 use Rattle.qm_model.specs.Refusals.{commit_floor}
 use Rattle.qm_model.specs.Opening.{Selected, commit_at, last_commit}
 use Rattle.qm_model.specs.StoreModel.{Stored, end_of}
-use Rattle.qm_model.proofs.Forms.{decoded-spelling}
 use Rattle.qm_open.specs.Selecting.{kept_items, up_to}
-
--- the floor of a commit, in the words of refusals
-pub floor-same : (op : Operation) → floor_of op ≡ commit_floor op
-floor-same (update k v n) = refl
-floor-same (delete k) = refl
-floor-same (commit m f) = refl
-
--- what bytes that spell an operation tell of a floor
-pub floor-of : (form : Form) (bs : Bytes) (f : Option ℕ) → f ≡ option_and_then commit_floor (decoded form bs) → (op : Operation) → IsSpelling form bs op → f ≡ commit_floor op
-floor-of form bs f is op spells = is ∙ ap (option_and_then commit_floor) (ap (decoded form) (sym spells.spelled) ∙ decoded-spelling form op spells.of)
 
 take-next : {X : Type 0} (k : ℕ) (xs : List X) (x : X) → slice_get xs k ≡ Some x → take (suc k) xs ≡ take k xs ++ x ∷ []
 take-next k [] x is = cc

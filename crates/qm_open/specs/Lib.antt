@@ -1,1 +1,3 @@
 pub mod Selecting
+pub mod Opened
+pub mod Apart

@@ -7,7 +7,7 @@ use Rattle.qm_model.specs.Forms.{Form, decoded}
 use Rattle.qm_model.specs.Grafted.{pair_absorption_threshold}
 use Rattle.qm_model.specs.Trees.{Shape, peaks}
 use Rattle.qm_model.specs.Opening as opening
-use Rattle.qm_model.specs.Opening.{Chunks, Layout, Found, when, first_refusal, size_of, floor_of, pruned_bits, is_past_bits, items_between, is_ring}
+use Rattle.qm_model.specs.Opening.{Chunks, Layout, Found, when, first_refusal, size_of, floor_of, pruned_bits, is_past_bits, items_between, is_ring, opening_refusal}
 use Rattle.qm_model.specs.Refused.{Refused, NoRetainedCommit, FloorExceedsCommit, PrunedPastBits, HeadDoesNotMatch, ItemDoesNotDecode, LinksFormNoRing, HistoricalFloorPruned, DataCorrupted}
 use Rattle.qm_model.specs.Refusals.{commit_floor}
 use Rattle.qm_model.specs.StoreModel.{Stored}
@@ -87,6 +87,14 @@ content_refusal layout f at =
     ∷ when (list_any is_none items) (DataCorrupted ItemDoesNotDecode)
     ∷ when (layout.form.ordered && not (is_ring (filter_map (λ item. item) items))) (DataCorrupted LinksFormNoRing)
     ∷ [])
+
+-- why a store of which these chunks are pruned is not opened up to a bound, if it is not
+abbrev pub refusal_up_to : Form → Shape → ℕ → Option Pruned → Option ℕ → Stored → Option Refused
+refusal_up_to form shape digest_size pruned bound s = opening_refusal (layout_of form shape digest_size pruned) (found_of form s pruned) bound
+
+-- why it is not opened up to the commit that is selected, None in an empty store, if it is not
+abbrev pub refusal_at : Form → Shape → ℕ → Option opening.Selected → Stored → Option Refused
+refusal_at form shape digest_size at s = content_refusal (any_layout form shape digest_size) (any_found form s) at
 
 -- the floor of the commit that a store's item at a location spells, if it spells one
 abbrev pub floor_told : Form → Stored → ℕ → Option ℕ

@@ -10,9 +10,9 @@ ghost use Rattle.qm_store.specs.Log.{IsKept};
 ghost use Rattle.qm_store.specs.Refusals.{refusal_of, IsDue};
 ghost use Rattle.qm_open.specs.Selecting.{bits_of, content_refusal, floor_told, found_of, kept_items, layout_of, selected_refusal, selected_view, up_to, AreFew, HasThreshold};
 
-use crate::item::commit_floor_in;
 use crate::pruned::{Pruned, bits_in, is_past, is_too_short};
 use qm_base::{Corrupt, Error, JournalError};
+use qm_build::commit_floor_in;
 use qm_operations::Update;
 use qm_store::Store;
 use std::alloc::Global;

@@ -1,27 +1,26 @@
 -- The leaves' digests of items.
-use Rattle.std.proofs.Common.{◌≡◌, ℕ, zero, suc, ◌+◌, ◌-◌, ◌<◌, ◌≤◌, List, [], ◌∷◌, ◌++◌, length, map, take, drop, get_or, arith, ap, ap₂, sym, ◌∙◌, refl, Some, append-nil, append_assoc}
-use Rattle.std.specs.Prelude.{slice_get}
+use Rattle.std.proofs.Common.{◌≡◌, ℕ, zero, suc, ◌+◌, ◌-◌, ◌*◌, ◌^◌, ◌<◌, ◌≤◌, All, List, [], ◌∷◌, ◌++◌, length, map, take, drop, get_or, arith, ap, ap₂, sym, ◌∙◌, refl, Some, append-nil, append_assoc}
+use Rattle.std.specs.Prelude.{slice_get, slice_index_or}
 use Rattle.std.specs.List.{concat}
+use Rattle.std.proofs.lemmas.List.Elements.{All-nil, All-cons, All-head, All-tail}
 use Rattle.std.proofs.Math.Seq.{take-append_seam, drop-append_seam}
 use Rattle.std.proofs.lemmas.List.{map-append, take-append-drop, length-take-le, length-map, take-map}
 use Rattle.std.proofs.lemmas.List.Folds.{concat-append}
 use Rattle.qm_model.specs.Operations.{Bytes, Operation}
 use Rattle.qm_model.specs.Forms.{Form, spelling}
-use Rattle.qm_model.specs.Trees.{Shape, leaf, leaf_digest, leaves_from}
+use Rattle.qm_model.specs.Trees.{Shape, digest, leaf, leaf_digest, leaves_from}
 use Rattle.qm_store.specs.Log.{digests_from}
 
 -- lists of pieces of one size are the same where the joined bytes are
-pub pieces-same : {D : Type 0} (bytes : D → Bytes) (size : ℕ) → ((d : D) → length (bytes d) ≡ size) → (xs ys : List D) → length xs ≡ length ys → concat (map bytes xs) ≡ concat (map bytes ys) → map bytes xs ≡ map bytes ys
-pieces-same bytes size sized [] [] long same = refl
-pieces-same bytes size sized [] (y ∷ ys) long same = absurd (omega arith)
-pieces-same bytes size sized (x ∷ xs) [] long same = absurd (omega arith)
-pieces-same bytes size sized (x ∷ xs) (y ∷ ys) long same =
-    let level : length (bytes x) ≡ length (bytes y) = sized x ∙ sym (sized y) in
-    let first : bytes x ≡ bytes y =
-    sym (take-append_seam (bytes x) (concat (map bytes xs))) ∙ ap₂ take level same ∙ take-append_seam (bytes y) (concat (map bytes ys)) in
-    let rest : concat (map bytes xs) ≡ concat (map bytes ys) =
-    sym (drop-append_seam (bytes x) (concat (map bytes xs))) ∙ ap₂ drop level same ∙ drop-append_seam (bytes y) (concat (map bytes ys)) in
-    ap₂ (λ a b. a ∷ b) first (pieces-same bytes size sized xs ys (omega arith) rest)
+pub pieces-same : (size : ℕ) (xs ys : List Bytes) → All (λ x. length x ≡ size) xs → All (λ y. length y ≡ size) ys → length xs ≡ length ys → concat xs ≡ concat ys → xs ≡ ys
+pieces-same size [] [] sized alike long same = refl
+pieces-same size [] (y ∷ ys) sized alike long same = absurd (omega (arith, long))
+pieces-same size (x ∷ xs) [] sized alike long same = absurd (omega (arith, long))
+pieces-same size (x ∷ xs) (y ∷ ys) sized alike long same =
+    let level : length x ≡ length y = All-head (λ b. length b ≡ size) x xs sized ∙ sym (All-head (λ b. length b ≡ size) y ys alike) in
+    let first : x ≡ y = sym (take-append_seam x (concat xs)) ∙ ap₂ take level same ∙ take-append_seam y (concat ys) in
+    let rest : concat xs ≡ concat ys = sym (drop-append_seam x (concat xs)) ∙ ap₂ drop level same ∙ drop-append_seam y (concat ys) in
+    ap₂ (λ a b. a ∷ b) first (pieces-same size xs ys (All-tail (λ b. length b ≡ size) x xs sized) (All-tail (λ b. length b ≡ size) y ys alike) (omega (arith, long)) rest)
 
 -- the next piece of what is left
 pub pieces-next : {D : Type 0} (bytes : D → Bytes) (made : List D) (d : D) (size : ℕ) (rest whole : Bytes) → bytes d ≡ take size rest → concat (map bytes made) ++ rest ≡ whole →
@@ -100,3 +99,20 @@ module _ (hash : Bytes → Bytes) (shape : Shape) where
       map-append bytes made (d ∷ [])
       ∙ ap₂ (λ a b. a ++ b ∷ []) so_far (digest ∙ ap (λ i. leaf_digest hash (shape.position (leaf i)) item) place)
       ∙ sym (digests_from-next start (at - start) items item is) ∙ ap (λ k. digests_from hash shape start (take k items)) next
+
+-- Digests are as long as the hash makes them.
+module _ (hash : Bytes → Bytes) (size : ℕ) (hashed : (m : Bytes) → length (hash m) ≡ size) (shape : Shape) where
+  sized-at : (leaves : List Bytes) (i : ℕ) → All (λ d. length d ≡ size) leaves → i < length leaves → length (slice_index_or leaves i []) ≡ size
+  sized-at [] i sized within = absurd (omega (arith, within))
+  sized-at (d ∷ leaves) zero sized within = All-head (λ b. length b ≡ size) d leaves sized
+  sized-at (d ∷ leaves) (suc i) sized within = sized-at leaves i (All-tail (λ b. length b ≡ size) d leaves sized) (omega (arith, within))
+
+  -- that of a node whose leaves are there
+  pub sized-digest : (leaves : List Bytes) → All (λ d. length d ≡ size) leaves → (h i : ℕ) → suc i * 2 ^ h ≤ length leaves → length (digest hash shape leaves h i) ≡ size
+  sized-digest leaves sized zero i within = sized-at leaves i sized (omega (arith, within))
+  sized-digest leaves sized (suc h) i within = hashed _
+
+  pub sized-leaves : (i : ℕ) (items : List Bytes) → All (λ d. length d ≡ size) (digests_from hash shape i items)
+  sized-leaves i [] = All-nil (λ d. length d ≡ size)
+  sized-leaves i (item ∷ items) =
+      All-cons (λ d. length d ≡ size) (leaf_digest hash (shape.position (leaf i)) item) (digests_from hash shape (suc i) items) (hashed _) (sized-leaves (suc i) items)

@@ -1,7 +1,7 @@
 -- Trees that begin at a store's start, and grow by a batch of leaves.
 use Rattle.std.proofs.Common.{◌≡◌, ℕ, suc, ◌^◌, ◌≤◌, ◌<◌, ◌⊎◌, inl, inr, zero, Bool, true, false, cond, List, [], ◌∷◌, ◌++◌, length, map, take, drop, get_or, arith, ap, ap₂, sym, ◌∙◌, refl, subst, All, Contains, Result, Ok, Err, IfOk}
 use Rattle.std.specs.Prelude.{◌↔◌, IsSome, nat_le}
-use Rattle.std.proofs.lemmas.List.Elements.{All-nil, All-cons, All-head, All-tail}
+use Rattle.std.proofs.lemmas.List.Elements.{All-nil, All-cons, All-head, All-tail, All-map}
 use Rattle.std.specs.List.{concat}
 use Rattle.std.proofs.lemmas.List.{length-take-le, length-map}
 use Rattle.qm_model.specs.Operations.{Bytes}
@@ -10,10 +10,9 @@ use Rattle.qm_model.specs.Families.{Births, IsFamily, HasPeaks}
 use Rattle.qm_merkle.specs.Mems.{Kept, Stands}
 use Rattle.qm_model.proofs.Chains.{Contains-first}
 use Rattle.qm_merkle.specs.Batches.{Draft, Layer, Batch, stops, all_layers, layer_at, layers_since, leaves_of, replaced_from, drafted, IsOver, IsHistory}
-use Rattle.qm_merkle.proofs.Growth.{digest-append, map_same}
 use Rattle.qm_store.specs.KeptTrees.{IsAdding}
-use Rattle.qm_store.specs.Log.{digests_from, IsHead}
-use Rattle.qm_store.proofs.Leaves.{pieces-same, length-digests_from, digests_from-split}
+use Rattle.qm_store.specs.Log.{digests_from, head_over}
+use Rattle.qm_store.proofs.Leaves.{pieces-same, length-digests_from, sized-digest, sized-leaves}
 
 -- what holds of a value by two facts
 pub if_both : {X E : Type 0} (r : Result X E) (P Q R : X → Type 0) → ((x : X) → P x → Q x → R x) → IfOk r P → IfOk r Q → IfOk r R
@@ -77,22 +76,21 @@ module _ {D : Type 0} (bytes : D → Bytes) where
 
   module _ (shape : Shape) (births : Births) (family : IsFamily shape births) (peaked : HasPeaks shape) (hash : Bytes → Bytes) where
     -- the tree with the pins of a head stands for the items before
-    pub stands-pruned : (size : ℕ) → ((d : D) → length (bytes d) ≡ size) → (tree : Kept D) (n : ℕ) (list : List Bytes) (head : Bytes) → IsHead shape bytes hash n (digests_from hash shape 0 list) head →
+    pub stands-pruned : (size : ℕ) → ((d : D) → length (bytes d) ≡ size) → ((m : Bytes) → length (hash m) ≡ size) → (tree : Kept D) (n : ℕ) (list : List Bytes) (head : Bytes) → head ≡ head_over shape hash n (digests_from hash shape 0 (take n list)) →
         n ≤ 2 ^ 62 → n ≤ length list → tree.start ≡ n → tree.leaves ≡ n → length tree.pins ≡ length (peaks shape n) → concat (map bytes tree.pins) ≡ head → Stands shape bytes hash tree (digests_from hash shape 0 (take n list))
-    stands-pruned size sized tree n list head told few within start leaves long spelled =
+    stands-pruned size sized hashed tree n list head told few within start leaves long spelled =
         let before = digests_from hash shape 0 (take n list) in
-        let past = digests_from hash shape n (drop n list) in
+        let row = map (digest_of hash shape before) (peaks shape n) in
         let count : length before ≡ n = length-digests_from hash shape 0 (take n list) ∙ length-take-le n list within in
-        let all : digests_from hash shape 0 list ≡ before ++ past = sym (digests_from-split hash shape n list within) in
-        let level : length tree.pins ≡ length told.pins = long ∙ sym (ap length told.digests ∙ length-map (peaks shape n) (digest_of hash shape (digests_from hash shape 0 list))) ∙ length-map told.pins bytes in
-        let same : map bytes tree.pins ≡ map bytes told.pins = pieces-same bytes size sized tree.pins told.pins level (spelled ∙ sym told.spelled) in
-        let whole : map (digest_of hash shape (before ++ past)) (peaks shape n) ≡ map (digest_of hash shape before) (peaks shape n) =
-        map_same (digest_of hash shape (before ++ past)) (digest_of hash shape before) (peaks shape n)
-        (λ k d lt. digest-append hash shape before past (get_or (peaks shape n) k d).height (get_or (peaks shape n) k d).index
-        (omega (arith, family.inside (get_or (peaks shape n) k d), peaked.born n few k d lt, count))) in
+        let same : map bytes tree.pins ≡ row =
+        pieces-same size (map bytes tree.pins) row (All-map (λ b. length b ≡ size) bytes tree.pins (λ k d lt. sized (get_or tree.pins k d)))
+        (All-map (λ b. length b ≡ size) (digest_of hash shape before) (peaks shape n)
+        (λ k d lt. sized-digest hash size hashed shape before (sized-leaves hash size hashed shape 0 (take n list)) (get_or (peaks shape n) k d).height (get_or (peaks shape n) k d).index
+        (omega (arith, family.inside (get_or (peaks shape n) k d), peaked.born n few k d lt, count))))
+        (length-map tree.pins bytes ∙ long ∙ sym (length-map (peaks shape n) (digest_of hash shape before))) (spelled ∙ told) in
         record {
           count = leaves ∙ sym count;
-          pins = same ∙ told.digests ∙ ap (λ ds. map (digest_of hash shape ds) (peaks shape n)) all ∙ whole ∙ ap (λ m. map (digest_of hash shape before) (peaks shape m)) (sym start);
+          pins = same ∙ ap (λ m. map (digest_of hash shape before) (peaks shape m)) (sym start);
           nodes = λ x late born. absurd (omega arith);
         }
 

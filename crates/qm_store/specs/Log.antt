@@ -28,6 +28,10 @@ abbrev pub digests_from : (Bytes → Bytes) → Shape → ℕ → List Bytes →
 digests_from hash shape i [] = []
 digests_from hash shape i (item ∷ rest) = leaf_digest hash (shape.position (leaf i)) item ∷ digests_from hash shape (suc i) rest
 
+-- the digests of the peaks over n leaves, one after another
+abbrev pub head_over : Shape → (Bytes → Bytes) → ℕ → List Bytes → Bytes
+head_over shape hash n leaves = concat (map (digest_of hash shape leaves) (peaks shape n))
+
 -- the bytes are the digests of the peaks over n leaves, one after another
 pub record IsHead {D : Type 0} (shape : Shape) (bytes : D → Bytes) (hash : Bytes → Bytes) (n : ℕ) (leaves : List Bytes) (head : Bytes) : Type 0 where
   pub pins : List D

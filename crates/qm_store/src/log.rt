@@ -12,7 +12,7 @@ ghost use Rattle.qm_merkle.specs.Mems.{Stands, IsWhole, node_at};
 ghost use Rattle.qm_merkle.specs.Batches.{all_layers, layers_since, stops, stops_since, lists_since, IsHistory};
 ghost use Rattle.qm_proofs.specs.Proofs.{proof_view, needed_positions, first_lacked, over_at};
 ghost use Rattle.qm_store.specs.KeptTrees.{IsAdding, IsKeptTree};
-ghost use Rattle.qm_store.specs.Log.{Log, digests_from, IsHead, log_error, IsLog, IsKept, HasGrown, HasGrownPart, HasBecome, HasLeft, HasLeftPruned, IsRefused, IsLacked};
+ghost use Rattle.qm_store.specs.Log.{Log, digests_from, IsHead, log_error, IsLog, IsKept, HasGrown, HasGrownPart, HasBecome, HasLeft, HasLeftPruned, IsRefused, IsLacked, head_over};
 
 use crate::{KeptTree, MetaEntry, Store, StoreError};
 use qm_base::{Corrupt, Digest, Error, Hasher, JournalError, Location, MerkleError};
@@ -81,8 +81,8 @@ impl<F: Family, C: Store, H: Hasher + Drop> AuthLog<F, C, H> {
         ensures stands { (list : List (List ℕ)) → length list ≡ size
             → IfSome (C.told store) (λ held.
             take (size - C.start store) held.items ≡ drop (C.start store) list
-            → IsHead F.shape H.Digest.bytes H.hash (C.start store)
-            (digests_from H.hash F.shape 0 list) held.head
+            → held.head ≡ head_over F.shape H.hash (C.start store)
+            (digests_from H.hash F.shape 0 (take (C.start store) list))
             → IfOk result (λ log. IsLog C.Store F.shape H.Digest.bytes H.hash log list)) }
         ensures start { IfOk result (λ log. log.tree.start ≡ C.start store) }
         ensures size { IfOk result (λ log. log.tree.leaves ≡ size) }
@@ -762,8 +762,8 @@ fn load<F: Family, C: Store, H: Hasher>(
     ensures stands { (list : List (List ℕ)) → length list ≡ size
         → IfSome (C.told store.old) (λ held.
         take (size - C.start store.old) held.items ≡ drop (C.start store.old) list
-        → IsHead F.shape H.Digest.bytes H.hash (C.start store.old)
-        (digests_from H.hash F.shape 0 list) held.head
+        → held.head ≡ head_over F.shape H.hash (C.start store.old)
+        (digests_from H.hash F.shape 0 (take (C.start store.old) list))
         → IfOk result (λ tree.
         Stands F.shape H.Digest.bytes H.hash tree (digests_from H.hash F.shape 0 list))) }
     ensures start { IfOk result (λ tree. tree.start ≡ C.start store.old) }
@@ -789,10 +789,11 @@ fn load<F: Family, C: Store, H: Hasher>(
 
 // The tree of no leaves past a store's start.
 fn pruned<F: Family, C: Store, D: Digest>(alloc: Global, store: &mut C) -> Result<Mem<F, D>, Error>
-    ensures stands { (hash : List ℕ → List ℕ) (list : List (List ℕ))
-        → C.start store.old ≤ length list
+    ensures stands { (hash : List ℕ → List ℕ) → ((m : List ℕ) → length (hash m) ≡ D.SIZE)
+        → (list : List (List ℕ)) → C.start store.old ≤ length list
         → IfSome (C.told store.old) (λ held.
-        IsHead F.shape D.bytes hash (C.start store.old) (digests_from hash F.shape 0 list) held.head
+        held.head ≡ head_over F.shape hash (C.start store.old)
+        (digests_from hash F.shape 0 (take (C.start store.old) list))
         → IfOk result (λ tree. Stands F.shape D.bytes hash tree
         (digests_from hash F.shape 0 (take (C.start store.old) list)))) }
     ensures start { IfOk result (λ tree. tree.start ≡ C.start store.old) }

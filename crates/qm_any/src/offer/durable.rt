@@ -1,12 +1,13 @@
 //! What opens, settles and ends a database.
 
 use crate::db::Db;
-use crate::restore::{Config, init};
+use crate::open::init;
 use qm_base::{Location, Sha256};
 use qm_bits::Chunks;
 use qm_index::{Factory, FourCap};
 use qm_merkle::mmr;
 use qm_offer::Durable;
+use qm_open::Config;
 use qm_operations::Update;
 use qm_store::{Refusal, Store};
 use std::alloc::Global;

@@ -5,7 +5,7 @@ use Rattle.qm_model.proofs.Results.{told-any, told-one}
 use Rattle.qm_model.specs.Forms.{spelling}
 use Rattle.qm_model.specs.Refusals.{floor_before, last_refusal}
 use Rattle.qm_store.proofs.Reading.{read-none}
-use Rattle.qm_open.proofs.Selecting.{floor-of}
+use Rattle.qm_build.proofs.Floors.{floor-of}
 use Rattle.qm_build.proofs.Telling.{floor-read, last-there, last-due, ok-err, at-or-past}
 use Rattle.qm_build.proofs.proof.floor_at_end.Goals as goal
 

@@ -21,7 +21,7 @@ returns g c = record {
       let start = c.bounds-start.ensures.starts ∙ kept.start in
       let within : n ≤ length list = omega (arith, long, c.requires.start) in
       let read = subst (λ o. IfSome o (λ held. map bytes c.in_ok-digests.digests.items ≡ digests_from hash shape c.bounds-start.result.0 (take (c.args.size - c.bounds-start.result.0) held.items))) kept.told c.in_ok-digests.ensures.digests in
-      both (members.told c.args.store.now) read (c.in_ok-tree.ensures.stands hash list within)
+      both (members.told c.args.store.now) read (c.in_ok-tree.ensures.stands hash g.met.H.Hasher.sized list within)
       (λ held digests tree same told.
       subst (Stands shape bytes hash c.add_leaves.new.tree)
       (ap (λ ds. before ++ map bytes ds) c.deref.ensures.value

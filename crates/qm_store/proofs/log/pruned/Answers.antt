@@ -14,7 +14,7 @@ returns-in_err-head g c =
     let failed = c.from_residual.ensures.0 in
     let exit = err_from_is_err_and result c.from_residual.ensures.1 in
     record {
-      stands = λ hash list within. any-told (g.C.Store.told c.args.store.now) (λ held is. IfOk-from_err result _ failed);
+      stands = λ hash hashed list within. any-told (g.C.Store.told c.args.store.now) (λ held is. IfOk-from_err result _ failed);
       start = IfOk-from_err result _ failed;
       leaves = IfOk-from_err result _ failed;
       long = IfOk-from_err result _ failed;
@@ -30,7 +30,7 @@ returns-in_err-bare_tree g c =
     let failed = c.from_residual-in_err-bare_tree.ensures.0 in
     let exit = err_from_is_err_and result c.from_residual-in_err-bare_tree.ensures.1 in
     record {
-      stands = λ hash list within. any-told (g.C.Store.told c.args.store.now) (λ held is. IfOk-from_err result _ failed);
+      stands = λ hash hashed list within. any-told (g.C.Store.told c.args.store.now) (λ held is. IfOk-from_err result _ failed);
       start = IfOk-from_err result _ failed;
       leaves = IfOk-from_err result _ failed;
       long = IfOk-from_err result _ failed;
@@ -46,7 +46,7 @@ untrue test tells failed holds = let passed : test ≡ true = tells.1 holds in a
 
 pub returns-then-not-is_long : goal.returns-then-not-is_long
 returns-then-not-is_long g c = record {
-  stands = λ hash list within. any-told (g.C.Store.told c.args.store.now) (λ held is. tt);
+  stands = λ hash hashed list within. any-told (g.C.Store.told c.args.store.now) (λ held is. tt);
   start = tt;
   leaves = tt;
   long = tt;
@@ -79,10 +79,10 @@ returns g c =
     let count = c.peak_count-count.ensures ∙ ap (λ m. length (peaks shape m)) start in
     let made = c.in_ok-bare_tree.ensures in
     record {
-      stands = λ hash list within.
+      stands = λ hash hashed list within.
           IfSome_then (members.told c.args.store.now) c.in_ok-head.ensures.value
           (λ held is told.
-          stands-pruned bytes shape g.F.Family.births g.met.F.Family.numbered g.met.F.Family.peaked hash g.D.Digest.SIZE g.met.D.Digest.sized tree n list held.head told
+          stands-pruned bytes shape g.F.Family.births g.met.F.Family.numbered g.met.F.Family.peaked hash g.D.Digest.SIZE g.met.D.Digest.sized hashed tree n list held.head told
           (omega (arith, c.bounds-start.ensures.starts, c.bounds-start.ensures.order, c.bounds-start.ensures.limit)) within (made.start.0 ∙ start) (made.start.1 ∙ start) (made.pins.0 ∙ count)
           (made.pins.1 ∙ c.deref.ensures.value ∙ is));
       head = tt;

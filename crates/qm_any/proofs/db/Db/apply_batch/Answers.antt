@@ -7,7 +7,7 @@ use Rattle.qm_chain.specs.Bounds.{is_at}
 use Rattle.qm_step.specs.Views.{changes_view}
 use Rattle.qm_any.specs.Layouts.{layout_of}
 use Rattle.qm_model.specs.StoreModel.{beside_items}
-use Rattle.qm_build.proofs.Checking.{on-ok}
+use Rattle.qm_open.proofs.Checking.{on-ok}
 use Rattle.qm_store.proofs.Told.{appended-beside, part-beside, unchanged-appended-part}
 use Rattle.qm_any.proofs.Applying.{after-both, never-stale, stale-told, stale-or, stale-causes, stale-cause}
 use Rattle.qm_store.specs.Given.{Appended, AppendedPart, store_given}

@@ -1,6 +1,6 @@
 use Rattle.std.proofs.Common.{◌≡◌, arith, ap, ◌⊎◌, inl, length, subst, sym}
 use Rattle.std.proofs.lemmas.Result.{IfOk-from_err, err_from_is_err_and}
-use Rattle.qm_build.proofs.Checking.{on-ok}
+use Rattle.qm_open.proofs.Checking.{on-ok}
 use Rattle.qm_model.proofs.Results.{ok-then, err-then}
 use Rattle.qm_model.specs.StoreModel.{settled}
 use Rattle.qm_step.specs.Lent.{NoneBelow}
