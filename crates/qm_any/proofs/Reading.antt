@@ -1,6 +1,6 @@
 -- What reads leave of a database, and what they find.
 use Rattle.std.proofs.Common.{◌≡◌, ◌≤◌, ◌∙◌, arith, ap, sym, subst, refl, ℕ, List, [], Option, None, Some}
-use Rattle.std.specs.Prelude.{IsSome, Result, IfErr, option_map, option_and_then}
+use Rattle.std.specs.Prelude.{IsSome, Result, option_map, option_and_then}
 use Rattle.std.proofs.lemmas.List.Elements.{All-weaker}
 use Rattle.qm_model.specs.Operations.{Bytes, Operation}
 use Rattle.qm_model.specs.Live.{Live, floor, live, live_of, value_of}
@@ -12,14 +12,13 @@ use Rattle.qm_store.specs.declared.Store as store
 use Rattle.qm_step.specs.Changes.{update_of, located}
 use Rattle.qm_step.specs.Layers.{Layer, LeadOver}
 use Rattle.qm_store.specs.Log.{Log}
-use Rattle.qm_store.specs.Reads.{IsRead, IsReadError, log_reads}
-use Rattle.qm_step.specs.Lent.{NoneBelow}
+use Rattle.qm_store.specs.Reads.{IsReadError, log_reads}
+use Rattle.qm_step.specs.Lent.{NoneBelow, ReadsLent}
 use Rattle.qm_store.proofs.Reading.{read-none, read-then, error-then}
 use Rattle.qm_step.proofs.Reading.{lent-then}
 use Rattle.qm_any.specs.Layouts.{Hashing, Layout}
 use Rattle.qm_any.specs.Databases.{Database, IsDatabase, IsLeft}
-use Rattle.qm_any.specs.Lent.{IsLent}
-use Rattle.qm_any.specs.Reading.{Reads, IsOfKeptItem}
+use Rattle.qm_any.specs.Reading.{Reads}
 
 module _ {C D : Type 0} (members : store.Ghosts C) (hashing : Hashing D) where
   -- no read leaves a database as it was
@@ -72,14 +71,12 @@ good-none start list good from = All-weaker (λ (e : Live). floor list ≤ e.loc
 
 -- a read of what a database lends, its index and its log, is one of the database
 pub lent-reads : {A C D : Type 0} (members : store.Ghosts C) (layout : Layout D) (old lent : Database C D) (log : Log C D) (result : Result A Error) → lent ≡ old
-    → (let by = layout.hashing in IsRead members by.shape by.bytes by.hash lent.log log)
-    → IfErr result (IsReadError members lent.log log)
-    → ((list : List Operation) → (let by = layout.hashing in IsLent members by.shape by.bytes by.hash by.form layout.index_key lent.entries lent.log list) → NoneBelow lent.log.tree.start list → IfErr result IsOfKeptItem)
+    → (let by = layout.hashing in ReadsLent (log_reads members by.shape by.bytes by.hash) by.form layout.index_key lent.entries lent.log log result)
     → Reads members layout old (record lent { log = log }) result
-lent-reads members layout old lent log result same read error whole =
+lent-reads members layout old lent log result same did =
     subst (λ (db : Database _ _). Reads members layout db (record lent { log = log }) result) same
     (record {
-      error = error;
-      whole = λ list is none. whole list is.lent none;
-      left = record { rest = refl; read = read };
+      error = did.error;
+      whole = λ list is none. did.whole (record { list = list; lent = is.lent; none = none });
+      left = record { rest = refl; read = did.left };
     })

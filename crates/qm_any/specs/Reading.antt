@@ -1,10 +1,10 @@
 -- What a call says that reads a database, alone or through a batch.
-use Rattle.std.specs.Prelude.{◌≡◌, ◌≢◌, ◌⊎◌, ℕ, Bool, true, false, List, Result, IfErr, OnOk}
+use Rattle.std.specs.Prelude.{◌≡◌, ◌⊎◌, Bool, true, false, List, Result, IfErr, OnOk}
 use Rattle.qm_model.specs.Batches.{Chain, IsKnown}
 use Rattle.qm_model.specs.Operations.{Operation}
 use Rattle.qm_base.specs.declared.error.Error.{Error}
 use Rattle.qm_base.specs.declared.error.Error.TheVariants as errors
-use Rattle.qm_base.specs.declared.error.JournalError.TheVariants as journal
+pub use Rattle.qm_base.specs.Reads.{IsOfKeptItem}
 use Rattle.qm_chain.specs.Bounds.{Bounds, knows}
 use Rattle.qm_step.specs.Lent.{NoneBelow}
 use Rattle.qm_store.specs.declared.Store as store
@@ -12,10 +12,6 @@ use Rattle.qm_store.specs.Log.{Log}
 use Rattle.qm_store.specs.Reads.{IsReadError}
 use Rattle.qm_any.specs.Layouts.{Layout}
 use Rattle.qm_any.specs.Databases.{Database, Begun, Made, IsBegun, IsDatabase, IsLeft, IsMade}
-
--- the error is that of no item that is gone
-abbrev pub IsOfKeptItem : Error → Type 0
-IsOfKeptItem e = (n : ℕ) → e ≢ errors.Journal (journal.ItemPruned n)
 
 -- why a read through a batch failed, which is known or not: it is stale, or memory was short, or the log's read failed
 abbrev pub IsThroughError : {C D : Type 0} → store.Ghosts C → Bool → Log C D → Log C D → Error → Type 0

@@ -1,17 +1,16 @@
 //! Scans of an ordered database: the keys of a range with their values, in key order.
 
-ghost use Rattle.std.specs.Prelude.{◌≡◌, ◌≢◌, true, ℕ, List, IfSome, IfErr};
+ghost use Rattle.std.specs.Prelude.{◌≡◌, true, List};
+ghost use Rattle.std.specs.Option.{option_transpose};
 ghost use Rattle.qm_model.specs.Operations.{Operation};
 ghost use Rattle.qm_model.specs.Ranges.{keys_in, pairs_in};
-ghost use Rattle.qm_store.specs.Reads.{IsReadError};
-ghost use Rattle.qm_step.specs.Lent.{NoneBelow};
 ghost use Rattle.qm_base.specs.Views.{limit_of, pair_view};
 ghost use Rattle.qm_batch.specs.Scans.{IsStep, left_of};
-ghost use Rattle.qm_any.specs.Databases.{IsLeft};
+ghost use Rattle.qm_any.specs.Reading.{Reads};
 ghost use Rattle.qm_any.specs.Scanned.{keys_left, lent_to, lent_to_keys, pairs_left};
 
 use crate::db::{Db, LaidOut};
-use qm_base::{Error, Hasher, JournalError, Location};
+use qm_base::{Error, Hasher, Location};
 use qm_batch::Scan;
 use qm_bits::Chunks;
 use qm_merkle::Family;
@@ -111,15 +110,8 @@ impl<
             → ⟦<Db<F, C, I, H, U, N> as LaidOut>⟧.stands self.old list
             → IsStep (pair_view U.Key.bytes U.Value.bytes) (left_of I.index_key scan.old list)
             (left_of I.index_key scan.new list) result }
-        ensures error { IfSome result (λ r.
-            IfErr r (IsReadError C.Store self.old.log self.new.log)) }
-        ensures whole { (list : List Operation)
-            → ⟦<Db<F, C, I, H, U, N> as LaidOut>⟧.stands self.old list
-            → NoneBelow self.old.log.tree.start list
-            → IfSome result (λ r.
-            IfErr r (λ e. (n : ℕ) → e ≢ Error.Journal (JournalError.ItemPruned n))) }
-        ensures left { IsLeft C.Store ⟦<Db<F, C, I, H, U, N> as LaidOut>⟧.layout.hashing self.old
-            self.new }
+        ensures reads { Reads C.Store ⟦<Db<F, C, I, H, U, N> as LaidOut>⟧.layout self.old
+            self.new (option_transpose result) }
     {
         scan.next(alloc, &self.index, &mut self.log)
     }
@@ -142,15 +134,8 @@ impl<
             → ⟦<Db<F, C, I, H, U, N> as LaidOut>⟧.stands (lent_to self.old).now list
             → IsStep (pair_view U.Key.bytes U.Value.bytes) (pairs_left I.index_key self.old list)
             (pairs_left I.index_key self.new list) result }
-        ensures error { IfSome result (λ r.
-            IfErr r (IsReadError C.Store (lent_to self.old).now.log (lent_to self.new).now.log)) }
-        ensures whole { (list : List Operation)
-            → ⟦<Db<F, C, I, H, U, N> as LaidOut>⟧.stands (lent_to self.old).now list
-            → NoneBelow (lent_to self.old).now.log.tree.start list
-            → IfSome result (λ r.
-            IfErr r (λ e. (n : ℕ) → e ≢ Error.Journal (JournalError.ItemPruned n))) }
-        ensures left { IsLeft C.Store ⟦<Db<F, C, I, H, U, N> as LaidOut>⟧.layout.hashing
-            (lent_to self.old).now (lent_to self.new).now }
+        ensures reads { Reads C.Store ⟦<Db<F, C, I, H, U, N> as LaidOut>⟧.layout
+            (lent_to self.old).now (lent_to self.new).now (option_transpose result) }
         ensures same { (lent_to self.new).ghost_name ≡ (lent_to self.old).ghost_name }
     {
         self.db.scan_next(self.alloc, &mut self.scan)
@@ -172,15 +157,8 @@ impl<
             → ⟦<Db<F, C, I, H, U, N> as LaidOut>⟧.stands (lent_to_keys self.old).now list
             → IsStep U.Key.bytes (keys_left I.index_key self.old list)
             (keys_left I.index_key self.new list) result }
-        ensures error { IfSome result (λ r. IfErr r
-            (IsReadError C.Store (lent_to_keys self.old).now.log (lent_to_keys self.new).now.log)) }
-        ensures whole { (list : List Operation)
-            → ⟦<Db<F, C, I, H, U, N> as LaidOut>⟧.stands (lent_to_keys self.old).now list
-            → NoneBelow (lent_to_keys self.old).now.log.tree.start list
-            → IfSome result (λ r.
-            IfErr r (λ e. (n : ℕ) → e ≢ Error.Journal (JournalError.ItemPruned n))) }
-        ensures left { IsLeft C.Store ⟦<Db<F, C, I, H, U, N> as LaidOut>⟧.layout.hashing
-            (lent_to_keys self.old).now (lent_to_keys self.new).now }
+        ensures reads { Reads C.Store ⟦<Db<F, C, I, H, U, N> as LaidOut>⟧.layout
+            (lent_to_keys self.old).now (lent_to_keys self.new).now (option_transpose result) }
         ensures same { (lent_to_keys self.new).ghost_name ≡ (lent_to_keys self.old).ghost_name }
     {
         match self.pairs.next() {

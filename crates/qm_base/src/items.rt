@@ -1,25 +1,22 @@
 //! Logs whose items are read one by one.
 
-ghost use Rattle.std.specs.Prelude.{◌≡◌, ◌≢◌, ◌≤◌, ℕ, List, option_map, slice_get, IfSome, IfOk, IfErr};
-ghost use Rattle.qm_base.specs.Reads.{Reads, IsRead, IsReadError};
+ghost use Rattle.std.specs.Prelude.{◌≡◌, ◌≤◌, ℕ, List, option_map, slice_get, IfSome, IfOk};
+ghost use Rattle.qm_base.specs.Reads.{ItemsTold, ReadsItems};
 
-use crate::error::{Error, JournalError};
+use crate::error::Error;
 
 /// A log whose items are read one by one. Whoever plans a batch or scans a list needs no more of a log: neither how its
 /// items are hashed nor where they are kept.
 pub trait Items {
     /// What is told of the log.
-    ghost reads: { Reads Self };
+    ghost reads: { ItemsTold Self };
 
     /// The item at a location, where there is one.
     fn read_item(&mut self, at: u64) -> Result<Option<Vec<u8>>, Error>
         ensures value { (items : List (List ℕ)) → reads.logged self.old items
             → IfSome (reads.told self.old) (λ _.
             IfOk result (λ item. option_map (λ v. v.items) item ≡ slice_get items at)) }
-        ensures read { IsRead reads self.old self.new }
-        ensures error { IfErr result (IsReadError reads self.old self.new) }
-        ensures pruned { reads.start self.old ≤ at
-            → IfErr result (λ e. (n : ℕ) → e ≢ Error.Journal (JournalError.ItemPruned n)) };
+        ensures reads { ReadsItems reads self.old self.new result (reads.start self.old ≤ at) };
 
     ghost unread: { (a : Self) → reads.keeps a a };
 

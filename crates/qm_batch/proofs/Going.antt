@@ -2,8 +2,6 @@
 use Rattle.std.proofs.Common.{◌≡◌, ◌∙◌, refl, sym, ap, ap₂, ℕ, List, [], ◌∷◌, ◌++◌, ◌&&◌, Bool, true, false, Option, Some, None}
 use Rattle.std.specs.Prelude.{Result, Ok, Err, IfOk, IfSome, filter_map, map, slice_get}
 use Rattle.qm_base.specs.Views.{pair_view}
-use Rattle.qm_base.specs.declared.error.Error.TheVariants as errors
-use Rattle.qm_base.specs.declared.error.JournalError.TheVariants as journal
 use Rattle.std.proofs.lemmas.Option.{same_Some}
 use Rattle.qm_model.specs.Operations.{Bytes, Operation}
 use Rattle.qm_model.specs.Live.{live_keys}
@@ -24,10 +22,6 @@ ok-two (Err e) p q give = tt
 -- behind a key is not where a range begins
 pub behind-begun : (key : Bytes) → behind key ≡ beginning → ⊥
 behind-begun key e = cc
-
--- want of memory is no missing item
-pub no-item : (n : ℕ) → errors.Memory ≡ errors.Journal (journal.ItemPruned n) → ⊥
-no-item n e = cc
 
 pub not-beginning : (ps : List Pair) (place : Place) → place ≡ behind_first ps → place ≡ beginning → ⊥
 not-beginning [] place is h = no (sym is ∙ h)

@@ -58,7 +58,7 @@ module _ {X Y : Type 0} (what : X → Y) (there : Bytes → Y) where
 -- what was read of a key is what its list has of it
 pub read-known : {F U K V : Type 0} (view : U → Operation) (key : K → Bytes) (base : List Operation) (reads : List (Read F U K V)) (i : ℕ) (r : Read F U K V) → AreReads view key reads base → i < length reads → r ≡ get_or reads i r →
     option_map (read_view view) r.found ≡ update_of base (key r.key)
-read-known {F} {U} {K} {V} view key base reads i r are within here = subst IsRead (sym here) (All-get_or IsRead reads i r within are)
+read-known {F} {U} {K} {V} view key base reads i r are within here = subst IsFound (sym here) (All-get_or IsFound reads i r within are)
   where
-    IsRead : Read F U K V → Type 0
-    IsRead r = option_map (read_view view) r.found ≡ update_of base (key r.key)
+    IsFound : Read F U K V → Type 0
+    IsFound r = option_map (read_view view) r.found ≡ update_of base (key r.key)

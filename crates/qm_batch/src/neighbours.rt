@@ -1,13 +1,12 @@
 //! Reads of an ordered base list: the live update before a key, around the ring, and the one whose span holds it.
 
-ghost use Rattle.std.specs.Prelude.{◌≡◌, ◌≢◌, true, ℕ, List, map, option_map, IfSome, IfOk, IfErr};
+ghost use Rattle.std.specs.Prelude.{◌≡◌, true, List, map, option_map, IfSome, IfOk, IfErr};
 ghost use Rattle.qm_model.specs.Live.{live_keys};
 ghost use Rattle.qm_model.specs.Operations as model;
 ghost use Rattle.qm_model.specs.Ordered.{IsRing};
 ghost use Rattle.qm_model.specs.Ranges.{key_above, key_below};
 ghost use Rattle.qm_step.specs.Layers.{LeadOver};
-ghost use Rattle.qm_base.specs.Reads.{IsRead, IsReadError};
-ghost use Rattle.qm_step.specs.Lent.{IsLent, NoneBelow};
+ghost use Rattle.qm_step.specs.Lent.{IsLent, ReadsLent};
 ghost use Rattle.qm_step.specs.Nearest.{is_nearest, nearer_of, own_or_nearer};
 ghost use Rattle.qm_step.specs.Rings.{previous_of, holder_of};
 ghost use Rattle.qm_step.specs.Views.{read_view};
@@ -18,7 +17,7 @@ mod lent;
 use self::left::{left_before, update_left};
 use self::lent::last_lent;
 use crate::read::{newest, update_from};
-use qm_base::{ByteString, Error, Items, JournalError, Location};
+use qm_base::{ByteString, Error, Items, Location};
 use qm_operations::Update;
 use qm_step::Layer;
 use qm_step::found::{key_under, next_above};
@@ -44,12 +43,8 @@ pub fn previous<F, I: qm_index::Unordered<Value = Location<F>>, L: Items, U: Ste
         → LeadOver (map (λ l. l.value) layers.now) lent base → IsRing lent → IsRing base
         → IfSome (L.reads.told log.old) (λ _. IfOk result (λ found.
         option_map (read_view U.view) found ≡ previous_of base (U.Key.bytes key.now))) }
-    ensures read { IsRead L.reads log.old log.new }
-    ensures error { IfErr result (IsReadError L.reads log.old log.new) }
-    ensures whole { (lent : List model.Operation)
-        → IsLent L.reads U.form I.index_key (I.entries index.now) log.old lent
-        → NoneBelow (L.reads.start log.old) lent
-        → IfErr result (λ e. (n : ℕ) → e ≢ Error.Journal (JournalError.ItemPruned n)) }
+    ensures reads { ReadsLent L.reads U.form I.index_key (I.entries index.now) log.old log.new
+        result }
 {
     let lent = last_lent(
         alloc,
@@ -76,12 +71,8 @@ pub fn holder<F, I: qm_index::Unordered<Value = Location<F>>, L: Items, U: Steps
         → LeadOver (map (λ l. l.value) layers.now) lent base → IsRing lent → IsRing base
         → IfSome (L.reads.told log.old) (λ _. IfOk result (λ found.
         option_map (read_view U.view) found ≡ holder_of base (U.Key.bytes key.now))) }
-    ensures read { IsRead L.reads log.old log.new }
-    ensures error { IfErr result (IsReadError L.reads log.old log.new) }
-    ensures whole { (lent : List model.Operation)
-        → IsLent L.reads U.form I.index_key (I.entries index.now) log.old lent
-        → NoneBelow (L.reads.start log.old) lent
-        → IfErr result (λ e. (n : ℕ) → e ≢ Error.Journal (JournalError.ItemPruned n)) }
+    ensures reads { ReadsLent L.reads U.form I.index_key (I.entries index.now) log.old log.new
+        result }
 {
     match newest(layers, key.as_bytes()) {
         Some((layer, entry)) => match update_from(alloc, layer, entry)? {
@@ -115,12 +106,8 @@ pub fn next_key<F, I: qm_index::Unordered<Value = Location<F>>, L: Items, U: Ste
         → LeadOver (map (λ l. l.value) layers.now) lent base → IsRing lent → IsRing base
         → IfSome (L.reads.told log.old) (λ _. IfOk result (λ found.
         option_map U.Key.bytes found ≡ key_above (live_keys base) (U.Key.bytes key.now))) }
-    ensures read { IsRead L.reads log.old log.new }
-    ensures error { IfErr result (IsReadError L.reads log.old log.new) }
-    ensures whole { (lent : List model.Operation)
-        → IsLent L.reads U.form I.index_key (I.entries index.now) log.old lent
-        → NoneBelow (L.reads.start log.old) lent
-        → IfErr result (λ e. (n : ℕ) → e ≢ Error.Journal (JournalError.ItemPruned n)) }
+    ensures reads { ReadsLent L.reads U.form I.index_key (I.entries index.now) log.old log.new
+        result }
 {
     let found = holder(alloc, index, log, layers, key)?;
     Ok(next_above(alloc, found, key.as_bytes())?)
@@ -140,12 +127,8 @@ pub fn previous_key<F, I: qm_index::Unordered<Value = Location<F>>, L: Items, U:
         → LeadOver (map (λ l. l.value) layers.now) lent base → IsRing lent → IsRing base
         → IfSome (L.reads.told log.old) (λ _. IfOk result (λ found.
         option_map U.Key.bytes found ≡ key_below (live_keys base) (U.Key.bytes key.now))) }
-    ensures read { IsRead L.reads log.old log.new }
-    ensures error { IfErr result (IsReadError L.reads log.old log.new) }
-    ensures whole { (lent : List model.Operation)
-        → IsLent L.reads U.form I.index_key (I.entries index.now) log.old lent
-        → NoneBelow (L.reads.start log.old) lent
-        → IfErr result (λ e. (n : ℕ) → e ≢ Error.Journal (JournalError.ItemPruned n)) }
+    ensures reads { ReadsLent L.reads U.form I.index_key (I.entries index.now) log.old log.new
+        result }
 {
     let found = previous(alloc, index, log, layers, key)?;
     Ok(key_under(found, key.as_bytes()))

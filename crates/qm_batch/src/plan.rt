@@ -2,7 +2,7 @@
 
 ghost use Rattle.std.specs.List.{IsDistinct};
 ghost use Rattle.std.specs.Vec.{vec_capacity};
-ghost use Rattle.std.specs.Prelude.{bytes_eq, ◌≡◌, ◌≢◌, ◌<◌, ◌≤◌, ◌^◌, ◌++◌, ◌+◌, ◌-◌, ◌==◌, ℕ, List, length, map, count_by, option_map, is_none, is_some, All, IfSome, IfOk, IfErr, OnOk, if◌then◌else◌};
+ghost use Rattle.std.specs.Prelude.{bytes_eq, ◌≡◌, ◌<◌, ◌≤◌, ◌^◌, ◌++◌, ◌+◌, ◌-◌, ◌==◌, List, length, map, count_by, option_map, is_none, is_some, All, IfSome, IfOk, IfErr, if◌then◌else◌};
 ghost use Rattle.qm_operations.specs.Parts as parts;
 ghost use Rattle.qm_operations.specs.Views.{operation_view};
 ghost use Rattle.qm_model.specs.Bits.{bits};
@@ -13,8 +13,8 @@ ghost use Rattle.qm_model.specs.Writes as writes;
 ghost use Rattle.qm_step.specs.Bases.{base_view, IsBase};
 ghost use Rattle.qm_step.specs.Going.{write_for, IsDecided};
 ghost use Rattle.qm_step.specs.Kinds.{kind_of, AreWritten, CountsMoves, HasRing};
-ghost use Rattle.qm_base.specs.Reads.{IsRead, IsReadError};
-ghost use Rattle.qm_step.specs.Lent.{IsLent, NoneBelow};
+ghost use Rattle.qm_base.specs.Reads.{ReadsItems};
+ghost use Rattle.qm_step.specs.Lent.{IsLent, IsWhole, ReadsLent};
 ghost use Rattle.qm_step.specs.PlanViews.{decided_views, touch_views};
 ghost use Rattle.qm_batch.specs.PlanPaths.{AreOwn};
 ghost use Rattle.qm_step.specs.Rings.{touch_in};
@@ -29,7 +29,7 @@ mod walk;
 use self::ordered::befores_of;
 use self::over::written_over;
 use self::walk::{Walked, walk_from};
-use qm_base::{Error, Items, JournalError, Location, Write};
+use qm_base::{Error, Items, Location, Write};
 use qm_bits::Candidates;
 use qm_chain::{Diff, Policy};
 use qm_operations::{Operation, Update};
@@ -153,12 +153,8 @@ fn own_of<F, I: qm_index::Unordered<Value = Location<F>>, L: Items, U: Steps<F, 
         own.live ≡ behind - count_by (λ d. is_none d.value) walked.decided.items) }
     ensures floor { IfOk result (λ own. own.floor ≡ walked.floor) }
     ensures count { IfOk result (λ own. length made.items ≤ length own.touches.items) }
-    ensures read { IsRead L.reads log.old log.new }
-    ensures error { IfErr result (IsReadError L.reads log.old log.new) }
-    ensures whole { (lent : List model.Operation)
-        → IsLent L.reads U.form I.index_key (I.entries index.now) log.old lent
-        → NoneBelow (L.reads.start log.old) lent
-        → IfErr result (λ e. (n : ℕ) → e ≢ Error.Journal (JournalError.ItemPruned n)) }
+    ensures reads { ReadsLent L.reads U.form I.index_key (I.entries index.now) log.old log.new
+        result }
 {
     let Walked { decided, floor } = walked;
     let live = behind.saturating_sub(evicted(&decided) as u64);
@@ -200,12 +196,9 @@ fn own_along<
         policy.old policy.new (touch_views U.view U.Key.bytes U.Value.bytes own.touches.items)
         own.live own.floor list ws)) }
     ensures count { IfOk result (λ own. own.live ≤ base.now.size + length own.touches.items) }
-    ensures read { IsRead L.reads log.old log.new }
-    ensures error { IfErr result (IsReadError L.reads log.old log.new) }
-    ensures whole { (lent : List model.Operation)
-        → IsLent L.reads U.form I.index_key (I.entries index.now) log.old lent
-        → NoneBelow (L.reads.start log.old) lent → L.reads.start log.old ≤ base.now.floor
-        → IfErr result (λ e. (n : ℕ) → e ≢ Error.Journal (JournalError.ItemPruned n)) }
+    ensures reads { ReadsItems L.reads log.old log.new result
+        (IsWhole L.reads U.form I.index_key (I.entries index.now) log.old
+        × (L.reads.start log.old ≤ base.now.floor)) }
 {
     let behind = live_behind(&made, base.live);
     let limits = policy.limits(made_inactive(&made, base.live, behind));
@@ -241,12 +234,9 @@ fn own_operations<
         policy.old policy.new (touch_views U.view U.Key.bytes U.Value.bytes own.touches.items)
         own.live own.floor list (wanted_view U.Key.bytes U.Value.bytes wanted.now))) }
     ensures count { IfOk result (λ own. own.live ≤ base.now.size + length own.touches.items) }
-    ensures read { IsRead L.reads log.old log.new }
-    ensures error { IfErr result (IsReadError L.reads log.old log.new) }
-    ensures whole { (lent : List model.Operation)
-        → IsLent L.reads U.form I.index_key (I.entries index.now) log.old lent
-        → NoneBelow (L.reads.start log.old) lent → L.reads.start log.old ≤ base.now.floor
-        → IfErr result (λ e. (n : ℕ) → e ≢ Error.Journal (JournalError.ItemPruned n)) }
+    ensures reads { ReadsItems L.reads log.old log.new result
+        (IsWhole L.reads U.form I.index_key (I.entries index.now) log.old
+        × (L.reads.start log.old ≤ base.now.floor)) }
 {
     let made = {
         let last = last_writes(alloc, wanted)?;
@@ -349,12 +339,9 @@ pub fn plain<
         ≡ policy_after (kind_of U.form) P.rules list
         (map (write_view U.Key.bytes U.Value.bytes) writes.now) policy.old)) }
     ensures live { IfOk result (λ plan. plan.live ≤ base.now.size + length plan.operations) }
-    ensures read { IsRead L.reads log.old log.new }
-    ensures error { IfErr result (IsReadError L.reads log.old log.new) }
-    ensures whole { (lent : List model.Operation)
-        → IsLent L.reads U.form I.index_key (I.entries index.now) log.old lent
-        → NoneBelow (L.reads.start log.old) lent → L.reads.start log.old ≤ base.now.floor
-        → IfErr result (λ e. (n : ℕ) → e ≢ Error.Journal (JournalError.ItemPruned n)) }
+    ensures reads { ReadsItems L.reads log.old log.new result
+        (IsWhole L.reads U.form I.index_key (I.entries index.now) log.old
+        × (L.reads.start log.old ≤ base.now.floor)) }
 {
     let wanted = Wanted {
         writes,
@@ -407,12 +394,9 @@ pub fn staged<
         ≡ policy_after (kind_of U.form) P.rules list
         (wanted_view U.Key.bytes U.Value.bytes wanted.entry) policy.old)) }
     ensures live { IfOk result (λ plan. plan.live ≤ base.now.size + length plan.operations) }
-    ensures read { IsRead L.reads log.old log.new }
-    ensures error { IfErr result (IsReadError L.reads log.old log.new) }
-    ensures whole { (lent : List model.Operation)
-        → IsLent L.reads U.form I.index_key (I.entries index.now) log.old lent
-        → NoneBelow (L.reads.start log.old) lent → L.reads.start log.old ≤ base.now.floor
-        → IfErr result (λ e. (n : ℕ) → e ≢ Error.Journal (JournalError.ItemPruned n)) }
+    ensures reads { ReadsItems L.reads log.old log.new result
+        (IsWhole L.reads U.form I.index_key (I.entries index.now) log.old
+        × (L.reads.start log.old ≤ base.now.floor)) }
 {
     match own_operations(alloc, index, candidates, log, base, &wanted, policy) {
         Ok(own) => planned(alloc, base.size, own, metadata),

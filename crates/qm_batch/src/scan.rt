@@ -1,20 +1,21 @@
 //! Scans of ranges of an ordered list in key order, which read a bucket where they have nothing left that is read.
 
-ghost use Rattle.std.specs.Prelude.{◌≡◌, ◌≢◌, ◌≤◌, true, ℕ, List, [], fold, map, option_map, All, IfSome, IfOk, IfErr, OnOk};
+ghost use Rattle.std.specs.Prelude.{◌≡◌, ◌≢◌, ◌≤◌, true, List, [], fold, map, option_map, All, IfSome, IfOk, OnOk};
 ghost use Rattle.qm_model.specs.Forms.{IsOf, spelling};
 ghost use Rattle.qm_model.specs.Operations.{Operation};
 ghost use Rattle.qm_model.specs.Ranges.{Limit, unlimited};
-ghost use Rattle.qm_base.specs.Reads.{IsRead, IsReadError};
-ghost use Rattle.qm_step.specs.Lent.{IsLent, NoneBelow};
+ghost use Rattle.qm_base.specs.Reads.{ReadsItems};
+ghost use Rattle.qm_step.specs.Lent.{IsLent, ReadsLent};
 ghost use Rattle.qm_step.specs.Nearest.{limit_view};
 ghost use Rattle.qm_base.specs.Views.{limit_of, pair_view};
+ghost use Rattle.std.specs.Option.{option_transpose};
 ghost use Rattle.qm_batch.specs.Gathered.{put_at};
 ghost use Rattle.qm_batch.specs.Scans.{AreNext, BeginsAt, IsStep, IsTaken, beginning, behind, nowhere, behind_first, left_of, place_view, unwrapped};
 
 mod gather;
 
 use self::gather::{bytes_of, pairs_at};
-use qm_base::{ByteString, Error, Items, JournalError, Location};
+use qm_base::{ByteString, Error, Items, Location};
 use qm_operations::Update;
 use qm_step::kind::Steps;
 use std::alloc::{AllocError, Global};
@@ -92,13 +93,8 @@ impl<U: Update> Scan<U> {
             → IsLent L.reads U.form I.index_key (I.entries index.now) log.old list
             → IfSome (L.reads.told log.old) (λ _. IsStep (pair_view U.Key.bytes U.Value.bytes)
             (left_of I.index_key self.old list) (left_of I.index_key self.new list) result) }
-        ensures read { IsRead L.reads log.old log.new }
-        ensures error { IfSome result (λ r. IfErr r (IsReadError L.reads log.old log.new)) }
-        ensures whole { (list : List Operation)
-            → IsLent L.reads U.form I.index_key (I.entries index.now) log.old list
-            → NoneBelow (L.reads.start log.old) list
-            → IfSome result (λ r.
-            IfErr r (λ e. (n : ℕ) → e ≢ Error.Journal (JournalError.ItemPruned n))) }
+        ensures reads { ReadsLent L.reads U.form I.index_key (I.entries index.now) log.old log.new
+            (option_transpose result) }
     {
         if let Some(pair) = self.take() {
             return Some(Ok(pair));
@@ -128,13 +124,8 @@ impl<U: Update> Scan<U> {
             → IsLent L.reads U.form I.index_key (I.entries index.now) log.old list
             → IfSome (L.reads.told log.old) (λ _. IsStep (pair_view U.Key.bytes U.Value.bytes)
             (left_of I.index_key self.old list) (left_of I.index_key self.new list) result) }
-        ensures read { IsRead L.reads log.old log.new }
-        ensures error { IfSome result (λ r. IfErr r (IsReadError L.reads log.old log.new)) }
-        ensures whole { (list : List Operation)
-            → IsLent L.reads U.form I.index_key (I.entries index.now) log.old list
-            → NoneBelow (L.reads.start log.old) list
-            → IfSome result (λ r.
-            IfErr r (λ e. (n : ℕ) → e ≢ Error.Journal (JournalError.ItemPruned n))) }
+        ensures reads { ReadsLent L.reads U.form I.index_key (I.entries index.now) log.old log.new
+            (option_transpose result) }
     {
         match self.read_on(alloc, index, log) {
             Ok(()) => match self.take() {
@@ -173,12 +164,8 @@ impl<U: Update> Scan<U> {
             OnOk result (self.old.place ≢ beginning → self.new.ready ≡ []
             → left_of I.index_key self.new list ≡ [])) }
         ensures begun { OnOk result (self.new.place ≢ beginning) }
-        ensures read { IsRead L.reads log.old log.new }
-        ensures error { IfErr result (IsReadError L.reads log.old log.new) }
-        ensures whole { (list : List Operation)
-            → IsLent L.reads U.form I.index_key (I.entries index.now) log.old list
-            → NoneBelow (L.reads.start log.old) list
-            → IfErr result (λ e. (n : ℕ) → e ≢ Error.Journal (JournalError.ItemPruned n)) }
+        ensures reads { ReadsLent L.reads U.form I.index_key (I.entries index.now) log.old log.new
+            result }
     {
         let found: Found<U> = read_at(alloc, index, log, &self.place, &self.low, &self.high)?;
         self.ready = VecDeque::from_vec(found.pairs);
@@ -208,12 +195,8 @@ fn read_at<F, I: qm_index::Unordered<Value = Location<F>>, L: Items, U: Steps<F,
         → map (pair_view U.Key.bytes U.Value.bytes) found.pairs.items ≡ []
         → place_view U.Key.bytes found.place ≡ nowhere) }
     ensures begun { IfOk result (λ found. place_view U.Key.bytes found.place ≢ beginning) }
-    ensures read { IsRead L.reads log.old log.new }
-    ensures error { IfErr result (IsReadError L.reads log.old log.new) }
-    ensures whole { (list : List Operation)
-        → IsLent L.reads U.form I.index_key (I.entries index.now) log.old list
-        → NoneBelow (L.reads.start log.old) list
-        → IfErr result (λ e. (n : ℕ) → e ≢ Error.Journal (JournalError.ItemPruned n)) }
+    ensures reads { ReadsLent L.reads U.form I.index_key (I.entries index.now) log.old log.new
+        result }
 {
     match place {
         Place::Beginning => read_beginning(alloc, index, log, low, high),
@@ -238,12 +221,8 @@ fn read_beginning<F, I: qm_index::Unordered<Value = Location<F>>, L: Items, U: S
         beginning (map (pair_view U.Key.bytes U.Value.bytes) found.pairs.items)
         (place_view U.Key.bytes found.place))) }
     ensures begun { IfOk result (λ found. place_view U.Key.bytes found.place ≢ beginning) }
-    ensures read { IsRead L.reads log.old log.new }
-    ensures error { IfErr result (IsReadError L.reads log.old log.new) }
-    ensures whole { (list : List Operation)
-        → IsLent L.reads U.form I.index_key (I.entries index.now) log.old list
-        → NoneBelow (L.reads.start log.old) list
-        → IfErr result (λ e. (n : ℕ) → e ≢ Error.Journal (JournalError.ItemPruned n)) }
+    ensures reads { ReadsLent L.reads U.form I.index_key (I.entries index.now) log.old log.new
+        result }
 {
     match low {
         Bound::Included(key) | Bound::Excluded(key) => {
@@ -271,12 +250,8 @@ fn read_own<F, I: qm_index::Unordered<Value = Location<F>>, L: Items, U: Steps<F
         list beginning (map (pair_view U.Key.bytes U.Value.bytes) found.pairs.items)
         (place_view U.Key.bytes found.place))) }
     ensures begun { IfOk result (λ found. place_view U.Key.bytes found.place ≢ beginning) }
-    ensures read { IsRead L.reads log.old log.new }
-    ensures error { IfErr result (IsReadError L.reads log.old log.new) }
-    ensures whole { (list : List Operation)
-        → IsLent L.reads U.form I.index_key (I.entries index.now) log.old list
-        → NoneBelow (L.reads.start log.old) list
-        → IfErr result (λ e. (n : ℕ) → e ≢ Error.Journal (JournalError.ItemPruned n)) }
+    ensures reads { ReadsLent L.reads U.form I.index_key (I.entries index.now) log.old log.new
+        result }
 {
     let pairs = pairs_at::<F, L, U>(alloc, log, index.bucket(key.as_bytes()), low, high)?;
     let key = key.twin(alloc)?;
@@ -301,12 +276,8 @@ fn read_first<F, I: qm_index::Unordered<Value = Location<F>>, L: Items, U: Steps
         (map (pair_view U.Key.bytes U.Value.bytes) found.pairs.items)
         (place_view U.Key.bytes found.place))) }
     ensures begun { IfOk result (λ found. place_view U.Key.bytes found.place ≢ beginning) }
-    ensures read { IsRead L.reads log.old log.new }
-    ensures error { IfErr result (IsReadError L.reads log.old log.new) }
-    ensures whole { (list : List Operation)
-        → IsLent L.reads U.form I.index_key (I.entries index.now) log.old list
-        → NoneBelow (L.reads.start log.old) list
-        → IfErr result (λ e. (n : ℕ) → e ≢ Error.Journal (JournalError.ItemPruned n)) }
+    ensures reads { ReadsLent L.reads U.form I.index_key (I.entries index.now) log.old log.new
+        result }
 {
     match U::first_bucket(index) {
         Some(bucket) => read_bucket(alloc, log, bucket, high),
@@ -333,12 +304,8 @@ fn read_next<F, I: qm_index::Unordered<Value = Location<F>>, L: Items, U: Steps<
         map (pair_view U.Key.bytes U.Value.bytes) found.pairs.items ≡ []
         → place_view U.Key.bytes found.place ≡ nowhere) }
     ensures begun { IfOk result (λ found. place_view U.Key.bytes found.place ≢ beginning) }
-    ensures read { IsRead L.reads log.old log.new }
-    ensures error { IfErr result (IsReadError L.reads log.old log.new) }
-    ensures whole { (list : List Operation)
-        → IsLent L.reads U.form I.index_key (I.entries index.now) log.old list
-        → NoneBelow (L.reads.start log.old) list
-        → IfErr result (λ e. (n : ℕ) → e ≢ Error.Journal (JournalError.ItemPruned n)) }
+    ensures reads { ReadsLent L.reads U.form I.index_key (I.entries index.now) log.old log.new
+        result }
 {
     match unwrapped(U::bucket_behind(index, key.as_bytes())) {
         Some(bucket) => read_bucket(alloc, log, bucket, bytes_of(high)),
@@ -372,10 +339,8 @@ fn read_bucket<F, L: Items, U: Update>(
         ≡ fold (put_at unlimited (limit_view high.entry) list) [] locations.now)) }
     ensures place { IfOk result (λ found. place_view U.Key.bytes found.place
         ≡ behind_first (map (pair_view U.Key.bytes U.Value.bytes) found.pairs.items)) }
-    ensures read { IsRead L.reads log.old log.new }
-    ensures error { IfErr result (IsReadError L.reads log.old log.new) }
-    ensures pruned { All (λ at. L.reads.start log.old ≤ at) locations.now
-        → IfErr result (λ e. (n : ℕ) → e ≢ Error.Journal (JournalError.ItemPruned n)) }
+    ensures reads { ReadsItems L.reads log.old log.new result
+        (All (λ at. L.reads.start log.old ≤ at) locations.now) }
 {
     let pairs = pairs_at::<F, L, U>(alloc, log, locations, Bound::Unbounded, high)?;
     let place = behind(alloc, &pairs)?;

@@ -13,16 +13,16 @@ use Rattle.qm_base.specs.declared.error.JournalError.TheVariants as journal
 use Rattle.qm_store.specs.declared.Store as store
 use Rattle.qm_store.specs.Log.{Log}
 use Rattle.qm_store.proofs.Stores.{kept-then}
-use Rattle.qm_build.specs.Reads.{HasOperations, IsRead, IsReadFault, IsReadError}
+use Rattle.qm_build.specs.Reads.{HasOperations, KeepsLog, IsReadFault, IsRebuildError}
 
 rose-later : (a b c : ℕ) → a ≤ b → Rose b c → Rose a c
 rose-later a b c later rose = omega (arith, later, rose)
 
 module _ {C D : Type 0} (members : store.Ghosts C) (shape : Shape) (bytes : D → Bytes) (hash : Bytes → Bytes) where
-  pub read-none : (a : Log C D) → IsRead members shape bytes hash a a
+  pub read-none : (a : Log C D) → KeepsLog members shape bytes hash a a
   read-none a = record { stands = λ list is. is; tree = refl; kept = record { start = refl; end = refl; told = refl }; later = omega arith }
 
-  pub read-then : (a b c : Log C D) → IsRead members shape bytes hash a b → IsRead members shape bytes hash b c → IsRead members shape bytes hash a c
+  pub read-then : (a b c : Log C D) → KeepsLog members shape bytes hash a b → KeepsLog members shape bytes hash b c → KeepsLog members shape bytes hash a c
   read-then a b c before after =
       let first = before.later in
       let second = after.later in
@@ -34,16 +34,16 @@ module _ {C D : Type 0} (members : store.Ghosts C) (shape : Shape) (bytes : D �
       }
 
   -- a failure after reads
-  pub fault-then : (a b c : Log C D) (e : Error) → IsRead members shape bytes hash a b → IsReadFault members b c e → IsReadFault members a c e
+  pub fault-then : (a b c : Log C D) (e : Error) → KeepsLog members shape bytes hash a b → IsReadFault members b c e → IsReadFault members a c e
   fault-then a b c e before (inl memory) = inl memory
   fault-then a b c e before (inr (fault, rose)) = inr (fault, rose-later (members.faults a.store) (members.faults b.store) (members.faults c.store) before.later rose)
 
-  pub error-then : (a b c : Log C D) (e : Error) → IsRead members shape bytes hash a b → IsReadError members b c e → IsReadError members a c e
+  pub error-then : (a b c : Log C D) (e : Error) → KeepsLog members shape bytes hash a b → IsRebuildError members b c e → IsRebuildError members a c e
   error-then a b c e before (inl fault) = inl (fault-then a b c e before fault)
   error-then a b c e before (inr decodes) = inr decodes
 
   -- reads leave the operations
-  pub operations-then : (form : Form) (a b : Log C D) (ops : List Operation) → IsRead members shape bytes hash a b → HasOperations members shape bytes hash form a ops → HasOperations members shape bytes hash form b ops
+  pub operations-then : (form : Form) (a b : Log C D) (ops : List Operation) → KeepsLog members shape bytes hash a b → HasOperations members shape bytes hash form a ops → HasOperations members shape bytes hash form b ops
   operations-then form a b ops read has = record { logged = read.stands _ has.logged; of = has.of }
 
 -- what is told of a store that keeps what it has
@@ -59,17 +59,17 @@ spelled-there form (op ∷ rest) zero bs all is =
 spelled-there form (op ∷ rest) (suc at) bs all is = spelled-there form rest at bs (All-tail (IsOf form) op rest all) is
 
 -- an error tells of the store only where its count of faults rose
-pub caused : {C D : Type 0} (members : store.Ghosts C) (a b c : Log C D) (e : Error) → members.faults a.store ≤ members.faults b.store → members.faults b.store ≤ members.faults c.store → IsReadError members b c e
+pub caused : {C D : Type 0} (members : store.Ghosts C) (a b c : Log C D) (e : Error) → members.faults a.store ≤ members.faults b.store → members.faults b.store ≤ members.faults c.store → IsRebuildError members b c e
     → IsCause (members.faults a.store) (members.faults c.store) (e ≡ errors.Journal journal.Store)
 caused members a b c e before after failed = record { later = omega (arith, before, after); failed = by failed }
   where
-    by : IsReadError members b c e → e ≡ errors.Journal journal.Store → Rose (members.faults a.store) (members.faults c.store)
+    by : IsRebuildError members b c e → e ≡ errors.Journal journal.Store → Rose (members.faults a.store) (members.faults c.store)
     by (inl (inl memory)) is = cc
     by (inl (inr (fault, rose))) is = rose-later (members.faults a.store) (members.faults b.store) (members.faults c.store) before rose
     by (inr lost) is = cc
 
 -- the errors that reads fail with
-pub which-error : {C D : Type 0} (members : store.Ghosts C) (a b : Log C D) (e : Error) → IsReadError members a b e → (e ≡ errors.Memory) ⊎ ((e ≡ errors.Journal journal.Store) ⊎ (e ≡ errors.DataCorrupted ItemDoesNotDecode))
+pub which-error : {C D : Type 0} (members : store.Ghosts C) (a b : Log C D) (e : Error) → IsRebuildError members a b e → (e ≡ errors.Memory) ⊎ ((e ≡ errors.Journal journal.Store) ⊎ (e ≡ errors.DataCorrupted ItemDoesNotDecode))
 which-error members a b e (inl (inl memory)) = inl memory
 which-error members a b e (inl (inr (fault, rose))) = inr (inl fault)
 which-error members a b e (inr lost) = inr (inr lost)

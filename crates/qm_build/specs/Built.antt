@@ -13,7 +13,7 @@ use Rattle.qm_base.specs.declared.error.Error.TheVariants.{DataCorrupted}
 use Rattle.qm_store.specs.declared.Store as store
 use Rattle.qm_store.specs.Log.{Log}
 use Rattle.qm_build.specs.declared.build.Snapshot.{Snapshot}
-use Rattle.qm_build.specs.Reads.{items_within, HasOperations, IsRead, IsReadError}
+use Rattle.qm_build.specs.Reads.{items_within, HasOperations, KeepsLog, IsRebuildError}
 
 -- no live update of the list stands below this location
 abbrev pub NoneBelow : ℕ → List Operation → Type 0
@@ -33,5 +33,5 @@ pub record Rebuilds {C D : Type 0} (members : store.Ghosts C) (shape : Shape) (b
   pub long : IfOk result (λ s. (floor + length s.activity ≡ old.tree.leaves) × (s.live ≤ length s.activity))
   pub decoded : IfSome (members.told old.store) (λ s. OnOk result (list_any is_none (items_within form s floor old.tree.leaves) ≡ false))
   pub corrupt : IfSome (members.told old.store) (λ s. IfErr result (λ e. e ≡ DataCorrupted ItemDoesNotDecode → list_any is_none (items_within form s floor old.tree.leaves) ≡ true))
-  pub read : IsRead members shape bytes hash old new
-  pub error : IfErr result (IsReadError members old new)
+  pub read : KeepsLog members shape bytes hash old new
+  pub error : IfErr result (IsRebuildError members old new)

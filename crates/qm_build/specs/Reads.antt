@@ -32,7 +32,7 @@ pub record HasOperations {C D : Type 0} (members : store.Ghosts C) (shape : Shap
   pub of : All (IsOf form) ops
 
 -- reads left the log as it was: it stands for what it stood for, and its count of faults did not fall
-pub record IsRead {C D : Type 0} (members : store.Ghosts C) (shape : Shape) (bytes : D → Bytes) (hash : Bytes → Bytes) (old new : Log C D) : Type 0 where
+pub record KeepsLog {C D : Type 0} (members : store.Ghosts C) (shape : Shape) (bytes : D → Bytes) (hash : Bytes → Bytes) (old new : Log C D) : Type 0 where
   pub stands : (list : List Bytes) → IsLog members shape bytes hash old list → IsLog members shape bytes hash new list
   pub tree : new.tree ≡ old.tree
   pub kept : IsKept members old.store new.store
@@ -42,6 +42,6 @@ pub record IsRead {C D : Type 0} (members : store.Ghosts C) (shape : Shape) (byt
 abbrev pub IsReadFault : {C D : Type 0} → store.Ghosts C → Log C D → Log C D → Error → Type 0
 IsReadFault members old new e = (e ≡ errors.Memory) ⊎ ((e ≡ errors.Journal journal.Store) × Rose (members.faults old.store) (members.faults new.store))
 
--- the same, or an item that spells no operation
-abbrev pub IsReadError : {C D : Type 0} → store.Ghosts C → Log C D → Log C D → Error → Type 0
-IsReadError members old new e = IsReadFault members old new e ⊎ (e ≡ errors.DataCorrupted ItemDoesNotDecode)
+-- why the rebuild of an index failed: a read, or an item that spells no operation
+abbrev pub IsRebuildError : {C D : Type 0} → store.Ghosts C → Log C D → Log C D → Error → Type 0
+IsRebuildError members old new e = IsReadFault members old new e ⊎ (e ≡ errors.DataCorrupted ItemDoesNotDecode)

@@ -7,7 +7,7 @@ ghost use Rattle.qm_operations.specs.Views.{operation_view};
 ghost use Rattle.qm_build.specs.Building.{ArePlaced, AreWithin, between};
 ghost use Rattle.qm_build.specs.Built.{Rebuilds};
 ghost use Rattle.qm_build.specs.Cached.{Holds, AreKeys};
-ghost use Rattle.qm_build.specs.Reads.{HasOperations, IsRead, IsReadFault};
+ghost use Rattle.qm_build.specs.Reads.{HasOperations, KeepsLog, IsReadFault};
 
 use crate::cache::Cache;
 use crate::moves::{move_key, note};
@@ -93,7 +93,7 @@ fn put<F: Family, I: qm_index::Unordered<Value = Location<F>>, C: Store, H: Hash
     ensures long { OnOk result (length snapshot.new.activity ≡ length snapshot.old.activity + 1) }
     ensures within { OnOk result (AreWithin floor (at + 1) (I.entries index.new)) }
     ensures counted { OnOk result (snapshot.new.live ≤ length snapshot.new.activity) }
-    ensures read { IsRead C.Store F.shape H.Digest.bytes H.hash log.old log.new }
+    ensures read { KeepsLog C.Store F.shape H.Digest.bytes H.hash log.old log.new }
     ensures error { IfErr result (IsReadFault C.Store log.old log.new) }
 {
     let is_update = operation.is_update();

@@ -8,7 +8,7 @@ ghost use Rattle.qm_model.specs.Opening.{same_key, is_ring};
 ghost use Rattle.qm_model.specs.Operations as model;
 ghost use Rattle.qm_operations.specs.Views.{operation_view};
 ghost use Rattle.qm_build.specs.Linked.{AreLinks};
-ghost use Rattle.qm_build.specs.Reads.{items_within, IsRead, IsReadError};
+ghost use Rattle.qm_build.specs.Reads.{items_within, KeepsLog, IsRebuildError};
 
 use crate::read::read_operation;
 use qm_base::{ByteString, Corrupt, Error, Hasher};
@@ -131,8 +131,8 @@ pub fn forms_ring<F: Family, C: Store, H: Hasher, U: Update>(
     ensures corrupt { IfSome (C.told log.old.store) (λ s.
         IfErr result (λ e. e ≡ Error.DataCorrupted Corrupt.ItemDoesNotDecode
         → list_any is_none (items_within U.form s from log.old.tree.leaves) ≡ true)) }
-    ensures read { IsRead C.Store F.shape H.Digest.bytes H.hash log.old log.new }
-    ensures error { IfErr result (IsReadError C.Store log.old log.new) }
+    ensures read { KeepsLog C.Store F.shape H.Digest.bytes H.hash log.old log.new }
+    ensures error { IfErr result (IsRebuildError C.Store log.old log.new) }
 {
     let (_, size) = log.bounds();
     let mut links = BTreeMap::new(alloc);

@@ -10,7 +10,7 @@ ghost use Rattle.qm_operations.specs.Views.{operation_view};
 ghost use Rattle.qm_index.specs.Buckets.{bucket_at};
 ghost use Rattle.qm_build.specs.Building.{key_at, IsFound};
 ghost use Rattle.qm_build.specs.Cached.{AreKeys};
-ghost use Rattle.qm_build.specs.Reads.{operation_at, HasOperations, IsRead, IsReadError, IsReadFault, IsUndecoded};
+ghost use Rattle.qm_build.specs.Reads.{operation_at, HasOperations, KeepsLog, IsRebuildError, IsReadFault, IsUndecoded};
 
 use crate::cache::Cache;
 use qm_base::{ByteString, Corrupt, Error, Hasher, Location};
@@ -39,8 +39,8 @@ pub(crate) fn read_operation<F: Family, C: Store, H: Hasher, U: Update>(
         operation_at U.form s at ≡ Some (operation_view U.view U.Key.bytes U.Value.bytes op))) }
     ensures corrupt { IfSome (C.told log.old.store) (λ s. IfErr result (λ e.
         e ≡ Error.DataCorrupted Corrupt.ItemDoesNotDecode → IsUndecoded U.form s at)) }
-    ensures read { IsRead C.Store F.shape H.Digest.bytes H.hash log.old log.new }
-    ensures error { IfErr result (IsReadError C.Store log.old log.new) }
+    ensures read { KeepsLog C.Store F.shape H.Digest.bytes H.hash log.old log.new }
+    ensures error { IfErr result (IsRebuildError C.Store log.old log.new) }
 {
     let item = log.read(at)?;
     operation_in(alloc, &item)
@@ -59,8 +59,8 @@ pub fn last_metadata<F: Family, C: Store, H: Hasher, U: Update>(
     ensures corrupt { IfSome (C.told log.old.store) (λ s.
         IfErr result (λ e. e ≡ Error.DataCorrupted Corrupt.ItemDoesNotDecode
         → IsUndecoded U.form s (log.old.tree.leaves - 1))) }
-    ensures read { IsRead C.Store F.shape H.Digest.bytes H.hash log.old log.new }
-    ensures error { IfErr result (IsReadError C.Store log.old log.new) }
+    ensures read { KeepsLog C.Store F.shape H.Digest.bytes H.hash log.old log.new }
+    ensures error { IfErr result (IsRebuildError C.Store log.old log.new) }
 {
     let (_, size) = log.bounds();
     let operation: Operation<F, U> = read_operation(alloc, log, size - 1)?;
@@ -104,7 +104,7 @@ fn has_key<F: Family, C: Store, H: Hasher, U: Update>(
         → HasOperations C.Store F.shape H.Digest.bytes H.hash U.form log.old ops
         → IfSome (C.told log.old.store) (λ _.
         IfOk result (λ yes. (yes ≡ true) ↔ (key_at ops at ≡ Some key.now))) }
-    ensures read { IsRead C.Store F.shape H.Digest.bytes H.hash log.old log.new }
+    ensures read { KeepsLog C.Store F.shape H.Digest.bytes H.hash log.old log.new }
     ensures error { IfErr result (IsReadFault C.Store log.old log.new) }
 {
     let item = log.read(at)?;
@@ -136,7 +136,7 @@ fn is_of_key<F: Family, C: Store, H: Hasher, U: Update>(
         → AreKeys U.Key.bytes ops cache.now
         → IfSome (C.told log.old.store) (λ _.
         IfOk result (λ yes. (yes ≡ true) ↔ (key_at ops at ≡ Some key.now))) }
-    ensures read { IsRead C.Store F.shape H.Digest.bytes H.hash log.old log.new }
+    ensures read { KeepsLog C.Store F.shape H.Digest.bytes H.hash log.old log.new }
     ensures error { IfErr result (IsReadFault C.Store log.old log.new) }
 {
     match cache.get(at) {
@@ -176,7 +176,7 @@ pub(crate) fn find<
         → IfSome (C.told log.old.store) (λ _. IfOk result (λ found.
         IsFound ops key.now (bucket_at (I.entries index.now) (I.index_key key.now))
         (option_map (λ f. f.location) found))) }
-    ensures read { IsRead C.Store F.shape H.Digest.bytes H.hash log.old log.new }
+    ensures read { KeepsLog C.Store F.shape H.Digest.bytes H.hash log.old log.new }
     ensures error { IfErr result (IsReadFault C.Store log.old log.new) }
 {
     let bucket = index.bucket(key);

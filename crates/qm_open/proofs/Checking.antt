@@ -15,7 +15,7 @@ use Rattle.qm_base.specs.declared.error.JournalError.TheVariants as journal
 use Rattle.qm_base.specs.declared.error.Corrupt.TheVariants as corrupt
 use Rattle.qm_store.specs.Refusals.{IsDue}
 use Rattle.qm_open.specs.Selecting.{any_layout, any_found, content_refusal}
-use Rattle.qm_build.specs.Reads.{items_within, IsRead, IsReadError}
+use Rattle.qm_build.specs.Reads.{items_within, KeepsLog, IsRebuildError}
 use Rattle.qm_model.specs.Operations.{Bytes, Operation}
 use Rattle.qm_build.proofs.Reading.{operations-then, caused}
 use Rattle.qm_bits.specs.Bitmaps.{Bitmap}
@@ -67,7 +67,7 @@ module _ (form : Form) (shape : Shape) (size : ℕ) (s : Stored) (start : ℕ) (
   -- and so is one of the look at the links behind it
   pub links-due : {C D : Type 0} (members : store.Ghosts C) (old new : Log C D) (e : Error) → length s.head ≡ length (peaks shape start) * size → list_any is_none (items_within form s at.floor at.size) ≡ false
       → (e ≡ errors.DataCorrupted corrupt.LinksFormNoRing → apart ≡ true) → (e ≡ errors.DataCorrupted corrupt.ItemDoesNotDecode → list_any is_none (items_within form s at.floor at.size) ≡ true)
-      → IsReadError members old new e ⊎ (e ≡ errors.DataCorrupted corrupt.LinksFormNoRing) → IsDue e content
+      → IsRebuildError members old new e ⊎ (e ≡ errors.DataCorrupted corrupt.LinksFormNoRing) → IsDue e content
   links-due members old new e long whole none lost (inl (inl (inl memory))) = subst (λ e. IsDue e content) (sym memory) tt
   links-due members old new e long whole none lost (inl (inl (inr (fault, rose)))) = subst (λ e. IsDue e content) (sym fault) tt
   links-due members old new e long whole none lost (inl (inr item)) = let no : true ≡ false = sym (lost item) ∙ whole in absurd cc
@@ -75,7 +75,7 @@ module _ (form : Form) (shape : Shape) (size : ℕ) (s : Stored) (start : ℕ) (
 
 -- what was opened is still what it was, behind reads
 pub opened-read : {C D : Type 0} (members : store.Ghosts C) (shape : Shape) (bytes : D → Bytes) (hash : Bytes → Bytes) (form : Form) (index_key : Bytes → ℕ) (n : ℕ) (old new : Log C D) (entries : List (ℕ × List ℕ)) (live_keys : ℕ) (activity : Bitmap) (root : Bytes)
-    (meta : Option Bytes) (list : List Operation) → IsRead members shape bytes hash old new → IsOpened members shape bytes hash form index_key n old entries live_keys activity root meta list
+    (meta : Option Bytes) (list : List Operation) → KeepsLog members shape bytes hash old new → IsOpened members shape bytes hash form index_key n old entries live_keys activity root meta list
     → IsOpened members shape bytes hash form index_key n new entries live_keys activity root meta list
 opened-read members shape bytes hash form index_key n old new entries live_keys activity root meta list read is = record {
   has = operations-then members shape bytes hash form old new list read is.has;
@@ -88,7 +88,7 @@ opened-read members shape bytes hash form index_key n old new entries live_keys 
 
 -- an error of the look at the links tells of the store only where its count of faults rose
 pub links-caused : {C D : Type 0} (members : store.Ghosts C) (first : C) (old new : Log C D) (e : Error) → members.faults first ≤ members.faults old.store → members.faults old.store ≤ members.faults new.store
-    → IsReadError members old new e ⊎ (e ≡ errors.DataCorrupted corrupt.LinksFormNoRing) → IsCause (members.faults first) (members.faults new.store) (e ≡ errors.Journal journal.Store)
+    → IsRebuildError members old new e ⊎ (e ≡ errors.DataCorrupted corrupt.LinksFormNoRing) → IsCause (members.faults first) (members.faults new.store) (e ≡ errors.Journal journal.Store)
 links-caused members first old new e before after (inl failed) = caused members (record { store = first; tree = old.tree }) old new e before after failed
 links-caused members first old new e before after (inr links) = record { later = omega (arith, before, after); failed = λ fault. absurd cc }
 

@@ -6,7 +6,7 @@ ghost use Rattle.qm_model.specs.Live as lives;
 ghost use Rattle.qm_model.specs.Operations.{Operation};
 ghost use Rattle.qm_model.specs.Schemes.{any_scheme};
 ghost use Rattle.qm_model.specs.Taken.{HasList};
-ghost use Rattle.qm_build.specs.Reads.{items_within, IsRead, IsReadError};
+ghost use Rattle.qm_build.specs.Reads.{items_within, KeepsLog, IsRebuildError};
 ghost use Rattle.qm_open.specs.Apart.{links_apart};
 ghost use Rattle.qm_open.specs.Opened.{IsJudged, IsMadeOf, IsOpened};
 ghost use Rattle.qm_open.specs.Selecting.{refusal_at, selected_view};
@@ -39,9 +39,9 @@ fn check_links<F: Family, C: Store, H: Hasher, U: Update>(
     ensures undecoded { IfErr result (λ e. e ≡ Error.DataCorrupted Corrupt.ItemDoesNotDecode
         → IfSome (C.told log.old.store) (λ s.
         list_any is_none (items_within U.form s from log.old.tree.leaves) ≡ true)) }
-    ensures read { IsRead C.Store F.shape H.Digest.bytes H.hash log.old log.new }
+    ensures read { KeepsLog C.Store F.shape H.Digest.bytes H.hash log.old log.new }
     ensures error { IfErr result (λ e.
-        IsReadError C.Store log.old log.new e ⊎ (e ≡ Error.DataCorrupted Corrupt.LinksFormNoRing)) }
+        IsRebuildError C.Store log.old log.new e ⊎ (e ≡ Error.DataCorrupted Corrupt.LinksFormNoRing)) }
 {
     if !U::is_ordered() {
         return Ok(());

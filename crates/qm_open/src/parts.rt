@@ -8,7 +8,7 @@ ghost use Rattle.qm_model.specs.Step.{IsGood};
 ghost use Rattle.std.specs.List.{list_any};
 ghost use Rattle.qm_bits.specs.Bitmaps.{all_bits, bit_count};
 ghost use Rattle.qm_open.specs.Opened.{IsOpened};
-ghost use Rattle.qm_build.specs.Reads.{items_within, HasOperations, IsRead, IsReadError};
+ghost use Rattle.qm_build.specs.Reads.{items_within, HasOperations, KeepsLog, IsRebuildError};
 
 use qm_base::{Corrupt, Digest, Error, Hasher, Location};
 use qm_bits::{BitMap, Chunks, Prunable};
@@ -103,8 +103,8 @@ pub(crate) fn beside<
     ensures undecoded { IfErr result (λ e. e ≡ Error.DataCorrupted Corrupt.ItemDoesNotDecode
         → IfSome (C.told log.old.store) (λ s.
         list_any is_none (items_within U.form s floor log.old.tree.leaves) ≡ true)) }
-    ensures read { IsRead C.Store F.shape H.Digest.bytes H.hash log.old log.new }
-    ensures error { IfErr result (IsReadError C.Store log.old log.new) }
+    ensures read { KeepsLog C.Store F.shape H.Digest.bytes H.hash log.old log.new }
+    ensures error { IfErr result (IsRebuildError C.Store log.old log.new) }
 {
     // The log has at most 2^62 items.
     log.bounds();

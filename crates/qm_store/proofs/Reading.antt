@@ -4,7 +4,7 @@ use Rattle.std.specs.Prelude.{IsErrOf}
 use Rattle.qm_model.specs.Causes.{IsCause}
 use Rattle.qm_model.specs.Operations.{Bytes}
 use Rattle.qm_model.specs.Trees.{Shape}
-use Rattle.qm_base.specs.Reads.{Reads}
+use Rattle.qm_base.specs.Reads.{ItemsTold, IsOfKeptItem}
 use Rattle.qm_base.specs.declared.error.Error.{Error}
 use Rattle.qm_base.specs.declared.error.Error.TheVariants as errors
 use Rattle.qm_base.specs.declared.error.JournalError.TheVariants as journal
@@ -24,7 +24,7 @@ module _ {C D : Type 0} (members : store.Ghosts C) (shape : Shape) (bytes : D �
       let second = after.later in
       record { tree = after.tree ∙ before.tree; kept = kept-then members a.store b.store c.store before.kept after.kept; later = omega (arith, first, second) }
 
-  abbrev reads : Reads (Log C D)
+  abbrev reads : ItemsTold (Log C D)
   reads = log_reads members shape bytes hash
 
   pub read-none : (a : Log C D) → IsRead members shape bytes hash a a
@@ -40,7 +40,7 @@ module _ {C D : Type 0} (members : store.Ghosts C) (shape : Shape) (bytes : D �
 -- why the read of an item failed, which does not lie below the start where the log begins before it
 pub failed-read : {C D T : Type 0} (members : store.Ghosts C) (old new : Log C D) (at : ℕ) (done : Result T Error) (e : Error) → done ≡ Err e →
     (e ≡ errors.Memory) ⊎ ((e ≡ errors.Journal journal.Store) ⊎ (e ≡ errors.Journal (journal.ItemPruned at))) → (done ≡ Err (errors.Journal (journal.ItemPruned at))) ↔ (at < old.tree.start) →
-    IsCause (members.faults old.store) (members.faults new.store) (IsErrOf done (errors.Journal journal.Store)) → IsReadError members old new e × (old.tree.start ≤ at → (n : ℕ) → e ≢ errors.Journal (journal.ItemPruned n))
+    IsCause (members.faults old.store) (members.faults new.store) (IsErrOf done (errors.Journal journal.Store)) → IsReadError members old new e × (old.tree.start ≤ at → IsOfKeptItem e)
 failed-read members old new at done e was (inl memory) pruned cause = (inl memory, λ from n gone. absurd cc)
 failed-read members old new at done e was (inr (inl fault)) pruned cause = (inr (inl (fault, cause.failed (was ∙ ap Err fault))), λ from n gone. absurd cc)
 failed-read members old new at done e was (inr (inr gone)) pruned cause =

@@ -17,7 +17,7 @@ pub record IsKeptLog {C D : Type 0} (members : store.Ghosts C) (old new : Log C 
   pub later : members.faults old.store ≤ members.faults new.store
 
 -- what is told of it
-abbrev pub log_reads : {C D : Type 0} → store.Ghosts C → Shape → (D → Bytes) → (Bytes → Bytes) → base.Reads (Log C D)
+abbrev pub log_reads : {C D : Type 0} → store.Ghosts C → Shape → (D → Bytes) → (Bytes → Bytes) → base.ItemsTold (Log C D)
 log_reads members shape bytes hash = record {
   logged = IsLog members shape bytes hash;
   start = λ log. (log.tree).start;
@@ -26,8 +26,9 @@ log_reads members shape bytes hash = record {
   failed = λ old new. Rose (members.faults old.store) (members.faults new.store);
 }
 
+-- reads left it as it was
 abbrev pub IsRead : {C D : Type 0} → store.Ghosts C → Shape → (D → Bytes) → (Bytes → Bytes) → Log C D → Log C D → Type 0
-IsRead members shape bytes hash = base.IsRead (log_reads members shape bytes hash)
+IsRead members shape bytes hash = base.KeepsItems (log_reads members shape bytes hash)
 
 -- why a read failed: memory, a fault by which the store's count rose, or an item below the log's start
 abbrev pub IsReadError : {C D : Type 0} → store.Ghosts C → Log C D → Log C D → Error → Type 0

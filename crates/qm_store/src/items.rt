@@ -1,9 +1,7 @@
 //! A log, read item by item.
 
-ghost use Rattle.std.specs.Prelude.{◌≡◌, ◌≢◌, ◌≤◌, ℕ, List, option_map, slice_get, IfSome, IfOk, IfErr};
-
 use crate::{AuthLog, Store};
-use qm_base::{Error, Hasher, Items, JournalError};
+use qm_base::{Error, Hasher, Items};
 use qm_merkle::Family;
 
 impl<F: Family, C: Store, H: Hasher> Items for AuthLog<F, C, H> {

@@ -1,15 +1,12 @@
 // What the ranges of an ordered database have, in one list.
-ghost use Rattle.std.specs.Prelude.{◌≡◌, ◌≢◌, ◌≤◌, ℕ, true, List, IfOk, IfErr, length, map};
-ghost use Rattle.qm_model.specs.Operations.{Operation};
+ghost use Rattle.std.specs.Prelude.{◌≡◌, ◌≤◌, true, IfOk, length, map};
 ghost use Rattle.qm_model.specs.Ranges.{keys_in, pairs_in};
-ghost use Rattle.qm_any.specs.Databases.{IsDatabase, IsLeft};
-ghost use Rattle.qm_store.specs.Reads.{IsReadError};
-ghost use Rattle.qm_step.specs.Lent.{NoneBelow};
+ghost use Rattle.qm_any.specs.Reading.{AtList, Reads};
 ghost use Rattle.qm_base.specs.Views.{limit_of, pair_view};
 ghost use Rattle.qm_batch.specs.Scans.{left_of};
 
 use crate::db::{Db, LaidOut};
-use qm_base::{ByteString, Error, Hasher, JournalError, Location};
+use qm_base::{ByteString, Error, Hasher, Location};
 use qm_batch::Scan;
 use qm_bits::Chunks;
 use qm_merkle::Family;
@@ -51,17 +48,11 @@ fn collected<
     most: u64,
 ) -> Result<Vec<(U::Key, U::Value)>, Error>
     requires { U.form.ordered ≡ true }
-    ensures pairs { (list : List Operation)
-        → IsDatabase C.Store ⟦<Db<F, C, I, H, U, N> as LaidOut>⟧.layout db.old list
-        → length (left_of I.index_key scan.old list) ≤ most
-        → IfOk result (λ pairs.
-        map (pair_view U.Key.bytes U.Value.bytes) pairs.items ≡ left_of I.index_key scan.old list) }
-    ensures error { IfErr result (IsReadError C.Store db.old.log db.new.log) }
-    ensures whole { (list : List Operation)
-        → IsDatabase C.Store ⟦<Db<F, C, I, H, U, N> as LaidOut>⟧.layout db.old list
-        → NoneBelow db.old.log.tree.start list
-        → IfErr result (λ e. (n : ℕ) → e ≢ Error.Journal (JournalError.ItemPruned n)) }
-    ensures left { IsLeft C.Store ⟦<Db<F, C, I, H, U, N> as LaidOut>⟧.layout.hashing db.old db.new }
+    ensures pairs { AtList C.Store ⟦<Db<F, C, I, H, U, N> as LaidOut>⟧.layout db.old (λ list.
+        length (left_of I.index_key scan.old list) ≤ most
+        → IfOk result (λ pairs. map (pair_view U.Key.bytes U.Value.bytes) pairs.items
+        ≡ left_of I.index_key scan.old list)) }
+    ensures reads { Reads C.Store ⟦<Db<F, C, I, H, U, N> as LaidOut>⟧.layout db.old db.new result }
 {
     let mut pairs = Vec::new(alloc);
     for _ in 0..most {
@@ -88,16 +79,10 @@ pub(crate) fn pairs_of<
     high: &Bound<U::Key>,
 ) -> Result<Vec<(U::Key, U::Value)>, Error>
     requires { U.form.ordered ≡ true }
-    ensures pairs { (list : List Operation)
-        → IsDatabase C.Store ⟦<Db<F, C, I, H, U, N> as LaidOut>⟧.layout db.old list
-        → IfOk result (λ pairs. map (pair_view U.Key.bytes U.Value.bytes) pairs.items
-        ≡ pairs_in (limit_of U.Key.bytes low.now) (limit_of U.Key.bytes high.now) list) }
-    ensures error { IfErr result (IsReadError C.Store db.old.log db.new.log) }
-    ensures whole { (list : List Operation)
-        → IsDatabase C.Store ⟦<Db<F, C, I, H, U, N> as LaidOut>⟧.layout db.old list
-        → NoneBelow db.old.log.tree.start list
-        → IfErr result (λ e. (n : ℕ) → e ≢ Error.Journal (JournalError.ItemPruned n)) }
-    ensures left { IsLeft C.Store ⟦<Db<F, C, I, H, U, N> as LaidOut>⟧.layout.hashing db.old db.new }
+    ensures pairs { AtList C.Store ⟦<Db<F, C, I, H, U, N> as LaidOut>⟧.layout db.old (λ list.
+        IfOk result (λ pairs. map (pair_view U.Key.bytes U.Value.bytes) pairs.items
+        ≡ pairs_in (limit_of U.Key.bytes low.now) (limit_of U.Key.bytes high.now) list)) }
+    ensures reads { Reads C.Store ⟦<Db<F, C, I, H, U, N> as LaidOut>⟧.layout db.old db.new result }
 {
     let live = db.active_keys();
     let low = twin_bound(alloc, low)?;
@@ -136,16 +121,10 @@ pub(crate) fn keys_of<
     high: &Bound<U::Key>,
 ) -> Result<Vec<U::Key>, Error>
     requires { U.form.ordered ≡ true }
-    ensures keys { (list : List Operation)
-        → IsDatabase C.Store ⟦<Db<F, C, I, H, U, N> as LaidOut>⟧.layout db.old list
-        → IfOk result (λ keys. map U.Key.bytes keys.items
-        ≡ keys_in (limit_of U.Key.bytes low.now) (limit_of U.Key.bytes high.now) list) }
-    ensures error { IfErr result (IsReadError C.Store db.old.log db.new.log) }
-    ensures whole { (list : List Operation)
-        → IsDatabase C.Store ⟦<Db<F, C, I, H, U, N> as LaidOut>⟧.layout db.old list
-        → NoneBelow db.old.log.tree.start list
-        → IfErr result (λ e. (n : ℕ) → e ≢ Error.Journal (JournalError.ItemPruned n)) }
-    ensures left { IsLeft C.Store ⟦<Db<F, C, I, H, U, N> as LaidOut>⟧.layout.hashing db.old db.new }
+    ensures keys { AtList C.Store ⟦<Db<F, C, I, H, U, N> as LaidOut>⟧.layout db.old (λ list.
+        IfOk result (λ keys. map U.Key.bytes keys.items
+        ≡ keys_in (limit_of U.Key.bytes low.now) (limit_of U.Key.bytes high.now) list)) }
+    ensures reads { Reads C.Store ⟦<Db<F, C, I, H, U, N> as LaidOut>⟧.layout db.old db.new result }
 {
     let pairs = pairs_of(alloc, db, low, high)?;
     Ok(firsts(alloc, pairs)?)

@@ -1,17 +1,17 @@
 //! The live update before a key in the list that index and log are lent for.
 
-ghost use Rattle.std.specs.Prelude.{◌≡◌, ◌≢◌, ◌≤◌, true, ℕ, List, fold, map, option_map, All, IfSome, IfOk, IfErr};
+ghost use Rattle.std.specs.Prelude.{◌≡◌, ◌≤◌, true, List, fold, map, option_map, All, IfSome, IfOk, IfErr};
 ghost use Rattle.std.specs.Option.{option_or};
 ghost use Rattle.qm_index.specs.Buckets.{IsIndex};
 ghost use Rattle.qm_model.specs.Forms.{IsOf, IsSpelling, spelling};
 ghost use Rattle.qm_model.specs.Operations as model;
 ghost use Rattle.qm_step.specs.Changes.{said_by, update_at};
-ghost use Rattle.qm_base.specs.Reads.{IsRead, IsReadError};
-ghost use Rattle.qm_step.specs.Lent.{IsLent, NoneBelow};
+ghost use Rattle.qm_base.specs.Reads.{ReadsItems};
+ghost use Rattle.qm_step.specs.Lent.{IsLent, ReadsLent};
 ghost use Rattle.qm_step.specs.Nearest.{lent_before, later_at, limit_view, only_within, said_key};
 ghost use Rattle.qm_step.specs.Views.{read_view};
 
-use qm_base::{ByteString, Error, Items, JournalError, Location};
+use qm_base::{ByteString, Error, Items, Location};
 use qm_operations::{Operation, Update};
 use qm_step::found::update_in;
 use qm_step::kind::Steps;
@@ -34,13 +34,9 @@ pub(crate) fn last_lent<F, I: qm_index::Unordered<Value = Location<F>>, L: Items
         → IfSome (L.reads.told log.old) (λ _.
         IfOk result (λ found. option_map (read_view U.view) found
         ≡ lent_before I.index_key (I.entries index.now) lent key.now (limit_view limit.entry))) }
-    ensures read { IsRead L.reads log.old log.new }
-    ensures error { IfErr result (IsReadError L.reads log.old log.new) }
-    ensures whole { (lent : List model.Operation)
-        → IsLent L.reads U.form I.index_key (I.entries index.now) log.old lent
-        → NoneBelow (L.reads.start log.old) lent
-        → IfErr result (λ e. (n : ℕ) → e ≢ Error.Journal (JournalError.ItemPruned n)) }
     ensures index { IsIndex (I.entries index.now) }
+    ensures reads { ReadsLent L.reads U.form I.index_key (I.entries index.now) log.old log.new
+        result }
 {
     if let Some(found) = last_at(alloc, log, index.bucket(key), limit)? {
         return Ok(Some(found));
@@ -63,10 +59,8 @@ fn last_at<F, L: Items, U: Update>(
         → IfSome (L.reads.told log.old) (λ _.
         IfOk result (λ found. option_map (read_view U.view) found
         ≡ fold (later_at (limit_view limit.entry) list) None locations.now)) }
-    ensures read { IsRead L.reads log.old log.new }
-    ensures error { IfErr result (IsReadError L.reads log.old log.new) }
-    ensures pruned { All (λ at. L.reads.start log.old ≤ at) locations.now
-        → IfErr result (λ e. (n : ℕ) → e ≢ Error.Journal (JournalError.ItemPruned n)) }
+    ensures reads { ReadsItems L.reads log.old log.new result
+        (All (λ at. L.reads.start log.old ≤ at) locations.now) }
 {
     let mut last: Option<(Location<F>, U)> = None;
     for location in locations {
@@ -118,10 +112,7 @@ fn read_within<L: Items, U: Update>(
         → IfSome (L.reads.told log.old) (λ _. IfOk result (λ update. option_map U.view update
         ≡ only_within (option_map (λ k. k.now) above.entry) (limit_view limit.entry)
         (update_at list at))) }
-    ensures read { IsRead L.reads log.old log.new }
-    ensures error { IfErr result (IsReadError L.reads log.old log.new) }
-    ensures pruned { L.reads.start log.old ≤ at
-        → IfErr result (λ e. (n : ℕ) → e ≢ Error.Journal (JournalError.ItemPruned n)) }
+    ensures reads { ReadsItems L.reads log.old log.new result (L.reads.start log.old ≤ at) }
 {
     match log.read_item(at)? {
         Some(item) => update_within(alloc, &item, above, limit),

@@ -1,18 +1,17 @@
 //! The operations of a step of either kind of database, found over its base list.
 
-ghost use Rattle.std.specs.Prelude.{◌≡◌, ◌≢◌, ℕ, List, map, IfSome, IfOk, IfErr};
+ghost use Rattle.std.specs.Prelude.{◌≡◌, List, map, IfSome, IfOk};
 ghost use Rattle.qm_model.specs.Operations as model;
 ghost use Rattle.qm_model.specs.Writes as writes;
 ghost use Rattle.qm_step.specs.Kinds.{kind_of, AreWritten, HasRing};
 ghost use Rattle.qm_step.specs.Layers.{LeadOver};
-ghost use Rattle.qm_base.specs.Reads.{IsRead, IsReadError};
-ghost use Rattle.qm_step.specs.Lent.{IsLent, NoneBelow};
+ghost use Rattle.qm_step.specs.Lent.{IsLent, ReadsLent};
 ghost use Rattle.qm_step.specs.PlanViews.{keyed, last_view, touch_views};
 ghost use Rattle.qm_step.specs.Views.{AreReads};
 
 use super::ordered::neighbours_of;
 use super::sites::{find_sites, known_of};
-use qm_base::{Error, Items, JournalError, Location};
+use qm_base::{Error, Items, Location};
 use qm_step::kind::Steps;
 use qm_step::touch::Touch;
 use qm_step::writes::Last;
@@ -42,12 +41,8 @@ pub(crate) fn written_over<
         ≡ map keyed (writes.last_writes ws)
         → IfSome (L.reads.told log.old) (λ _. IfOk result (λ touches. AreWritten (kind_of U.form)
         base ws (touch_views U.view U.Key.bytes U.Value.bytes touches.items))) }
-    ensures read { IsRead L.reads log.old log.new }
-    ensures error { IfErr result (IsReadError L.reads log.old log.new) }
-    ensures whole { (lent : List model.Operation)
-        → IsLent L.reads U.form I.index_key (I.entries index.now) log.old lent
-        → NoneBelow (L.reads.start log.old) lent
-        → IfErr result (λ e. (n : ℕ) → e ≢ Error.Journal (JournalError.ItemPruned n)) }
+    ensures reads { ReadsLent L.reads U.form I.index_key (I.entries index.now) log.old log.new
+        result }
 {
     let sites = {
         let known = known_of(alloc, reads)?;

@@ -1,17 +1,16 @@
 //! Where written keys stand in a base list.
 
-ghost use Rattle.std.specs.Prelude.{◌≡◌, ◌≢◌, ℕ, List, map, option_map, IfSome, IfOk, IfErr};
+ghost use Rattle.std.specs.Prelude.{◌≡◌, List, map, option_map, IfSome, IfOk};
 ghost use Rattle.qm_model.specs.Operations as operations;
 ghost use Rattle.qm_step.specs.Changes.{link_in};
 ghost use Rattle.qm_step.specs.Layers.{LeadOver};
-ghost use Rattle.qm_base.specs.Reads.{IsRead, IsReadError};
-ghost use Rattle.qm_step.specs.Lent.{IsLent, NoneBelow};
+ghost use Rattle.qm_step.specs.Lent.{IsLent, ReadsLent};
 ghost use Rattle.qm_step.specs.PlanViews.{last_write_view, linked_view, AreKnown};
 ghost use Rattle.qm_step.specs.Rings.{linked_in};
 ghost use Rattle.qm_step.specs.Views.{stands_view, AreReads};
 
 use crate::read::locate;
-use qm_base::{ByteString, Error, Items, JournalError, Location};
+use qm_base::{ByteString, Error, Items, Location};
 use qm_operations::Update;
 use qm_step::found::{Stands, stands_of};
 use qm_step::site::Site;
@@ -55,12 +54,8 @@ fn place_of<F, I: qm_index::Unordered<Value = Location<F>>, L: Items, U: Update>
         → AreKnown U.view base known.now.entries
         → IfSome (L.reads.told log.old) (λ _. IfOk result (λ stands.
         option_map (stands_view U.Key.bytes) stands ≡ link_in base (U.Key.bytes key.now))) }
-    ensures read { IsRead L.reads log.old log.new }
-    ensures error { IfErr result (IsReadError L.reads log.old log.new) }
-    ensures whole { (lent : List operations.Operation)
-        → IsLent L.reads U.form I.index_key (I.entries index.now) log.old lent
-        → NoneBelow (L.reads.start log.old) lent
-        → IfErr result (λ e. (n : ℕ) → e ≢ Error.Journal (JournalError.ItemPruned n)) }
+    ensures reads { ReadsLent L.reads U.form I.index_key (I.entries index.now) log.old log.new
+        result }
 {
     match known.get(key.as_bytes()) {
         Some(read) => Ok(stands_of(alloc, &read.found)?),
@@ -85,12 +80,8 @@ pub(crate) fn find_sites<'a, F, I: qm_index::Unordered<Value = Location<F>>, L: 
         IfOk result (λ sites. map (linked_view U.Key.bytes U.Value.bytes) sites.items
         ≡ map (λ e. linked_in base (last_write_view U.Key.bytes U.Value.bytes e.1))
         last.now.entries)) }
-    ensures read { IsRead L.reads log.old log.new }
-    ensures error { IfErr result (IsReadError L.reads log.old log.new) }
-    ensures whole { (lent : List operations.Operation)
-        → IsLent L.reads U.form I.index_key (I.entries index.now) log.old lent
-        → NoneBelow (L.reads.start log.old) lent
-        → IfErr result (λ e. (n : ℕ) → e ≢ Error.Journal (JournalError.ItemPruned n)) }
+    ensures reads { ReadsLent L.reads U.form I.index_key (I.entries index.now) log.old log.new
+        result }
 {
     let mut sites = Vec::new(alloc);
     for write in last.values() {

@@ -1,6 +1,6 @@
 //! The walk from the floor, over a base list and the operations that are put behind it.
 
-ghost use Rattle.std.specs.Prelude.{◌≡◌, ◌≢◌, true, false, ◌≤◌, ◌<◌, ◌+◌, ◌-◌, ◌^◌, ◌++◌, ◌==◌, ℕ, min, nat_le, List, length, map, All, Option, option_map, slice_get, IfSome, IfOk, IfErr, MatchBool, MatchOption, OnOk, None, Some, option_to_list, is_some, if◌then◌else◌};
+ghost use Rattle.std.specs.Prelude.{◌≡◌, true, false, ◌≤◌, ◌<◌, ◌+◌, ◌-◌, ◌^◌, ◌++◌, ◌==◌, ℕ, min, nat_le, List, length, map, All, Option, option_map, slice_get, IfSome, IfOk, IfErr, MatchBool, MatchOption, OnOk, None, Some, option_to_list, is_some, if◌then◌else◌};
 ghost use Rattle.std.specs.List.{list_any};
 ghost use Rattle.qm_operations.specs.Parts.{update_key};
 ghost use Rattle.qm_operations.specs.Views.{operation_view};
@@ -15,7 +15,7 @@ ghost use Rattle.qm_step.specs.Changes.{said_by, stands_at, update_at};
 ghost use Rattle.qm_step.specs.Going.{decided_for, value_for, AreDead, AreDeadBetween, AreDecided, IsGoing, IsSpaced};
 ghost use Rattle.qm_step.specs.Layers.{LeadOver};
 ghost use Rattle.qm_index.specs.Indexed.{IsIndexed};
-ghost use Rattle.qm_base.specs.Reads.{IsRead, IsReadError};
+ghost use Rattle.qm_base.specs.Reads.{ReadsItems};
 ghost use Rattle.qm_step.specs.Lent.{IsLent};
 ghost use Rattle.qm_step.specs.PlanViews.{decided_views, touch_views};
 ghost use Rattle.qm_batch.specs.PlanPaths.{found_view, path_view, AreBehind, IsPath};
@@ -23,7 +23,7 @@ ghost use Rattle.qm_step.specs.Touches.{is_there, moved_touch, operations_of, Ar
 ghost use Rattle.qm_step.specs.Views.{change_view};
 
 use crate::read::{newest, twin_update};
-use qm_base::{ByteString, Error, Items, JournalError, Location};
+use qm_base::{ByteString, Error, Items, Location};
 use qm_bits::Candidates;
 use qm_chain::{Action, DiffEntry, Entry, Limits, Policy, Walk};
 use qm_operations::{Operation, Update};
@@ -181,10 +181,7 @@ fn unreplaced_at<F, I: qm_index::Unordered<Value = Location<F>>, L: Items, U: Up
         → IfSome (L.reads.told log.old) (λ _.
         IfOk result (λ found. IsMoveAt (option_map (λ u. moved_touch (at, U.view u)) found) base
         (base ++ operations_of made) at)) }
-    ensures read { IsRead L.reads log.old log.new }
-    ensures error { IfErr result (IsReadError L.reads log.old log.new) }
-    ensures pruned { L.reads.start log.old ≤ at
-        → IfErr result (λ e. (n : ℕ) → e ≢ Error.Journal (JournalError.ItemPruned n)) }
+    ensures reads { ReadsItems L.reads log.old log.new result (L.reads.start log.old ≤ at) }
 {
     if let Some(operation) = in_layers(layers, at) {
         return if is_moved(index, layers, replaced, key_of_update(operation), at) {
@@ -259,10 +256,7 @@ fn live_at<F, I: qm_index::Unordered<Value = Location<F>>, L: Items, U: Update>(
         → IsPath (path_view U.view U.Key.bytes U.Value.bytes path.now) lent base list
         → IfSome (L.reads.told log.old) (λ _.
         IfOk result (λ found. IsMoveAt (option_map (found_view U.view) found) base list at)) }
-    ensures read { IsRead L.reads log.old log.new }
-    ensures error { IfErr result (IsReadError L.reads log.old log.new) }
-    ensures pruned { L.reads.start log.old ≤ at
-        → IfErr result (λ e. (n : ℕ) → e ≢ Error.Journal (JournalError.ItemPruned n)) }
+    ensures reads { ReadsItems L.reads log.old log.new result (L.reads.start log.old ≤ at) }
 {
     if path.base.size <= at {
         return made_at(alloc, path.made, at - path.base.size);
@@ -404,10 +398,7 @@ fn visit<
     ensures low { IfOk result (λ _. going.old.walk.floor ≤ going.new.walk.floor) }
     ensures high { IfOk result (λ _. going.new.walk.floor ≤ at + 1) }
     ensures end { IfOk result (λ _. going.new.walk.end ≡ going.old.walk.end) }
-    ensures read { IsRead L.reads log.old log.new }
-    ensures error { IfErr result (IsReadError L.reads log.old log.new) }
-    ensures pruned { L.reads.start log.old ≤ at
-        → IfErr result (λ e. (n : ℕ) → e ≢ Error.Journal (JournalError.ItemPruned n)) }
+    ensures reads { ReadsItems L.reads log.old log.new result (L.reads.start log.old ≤ at) }
 {
     prove!(at < going.walk.end.get());
     if !comes_to(&mut going.walk, at) {
@@ -454,10 +445,8 @@ fn visit_all<
     ensures high { IfOk result (λ _.
         (to : ℕ) → IsSpaced going.old.walk.floor round.now to → going.new.walk.floor ≤ to) }
     ensures end { IfOk result (λ _. going.new.walk.end ≡ going.old.walk.end) }
-    ensures read { IsRead L.reads log.old log.new }
-    ensures error { IfErr result (IsReadError L.reads log.old log.new) }
-    ensures pruned { L.reads.start log.old ≤ going.old.walk.floor
-        → IfErr result (λ e. (n : ℕ) → e ≢ Error.Journal (JournalError.ItemPruned n)) }
+    ensures reads { ReadsItems L.reads log.old log.new result
+        (L.reads.start log.old ≤ going.old.walk.floor) }
 {
     for at in round {
         let goes = visit(alloc, path, log, policy, going, at.get())?;
@@ -512,10 +501,8 @@ fn walk_round<
     ensures next { IfOk result (λ next. IfSome next (λ next.
         (from < next) × (going.new.walk.floor ≤ next) × (next ≤ going.new.walk.end))) }
     ensures end { IfOk result (λ _. going.new.walk.end ≡ going.old.walk.end) }
-    ensures read { IsRead L.reads log.old log.new }
-    ensures error { IfErr result (IsReadError L.reads log.old log.new) }
-    ensures pruned { L.reads.start log.old ≤ going.old.walk.floor
-        → IfErr result (λ e. (n : ℕ) → e ≢ Error.Journal (JournalError.ItemPruned n)) }
+    ensures reads { ReadsItems L.reads log.old log.new result
+        (L.reads.start log.old ≤ going.old.walk.floor) }
 {
     let end = Location::new(going.walk.end.get());
     let mut round = Vec::new(alloc);
@@ -563,10 +550,8 @@ fn walk_on<
         → IfSome (L.reads.told log.old) (λ _. OnOk result (AreDecided base list
         (decided_views U.Key.bytes U.Value.bytes going.new.decided.items) going.new.walk.floor
         policy.new all)) }
-    ensures read { IsRead L.reads log.old log.new }
-    ensures error { IfErr result (IsReadError L.reads log.old log.new) }
-    ensures pruned { L.reads.start log.old ≤ going.old.walk.floor
-        → IfErr result (λ e. (n : ℕ) → e ≢ Error.Journal (JournalError.ItemPruned n)) }
+    ensures reads { ReadsItems L.reads log.old log.new result
+        (L.reads.start log.old ≤ going.old.walk.floor) }
 {
     let end = going.walk.end.get();
     let floor = going.walk.floor.get();
@@ -618,10 +603,8 @@ pub(crate) fn walk_from<
         AreDecided front list (decided_views U.Key.bytes U.Value.bytes walked.decided.items)
         walked.floor policy.new (walks.walk P.rules list (floor front)
         (record { entries = limits.entries; skips = limits.skips }) policy.old))) }
-    ensures read { IsRead L.reads log.old log.new }
-    ensures error { IfErr result (IsReadError L.reads log.old log.new) }
-    ensures pruned { L.reads.start log.old ≤ base.now.floor
-        → IfErr result (λ e. (n : ℕ) → e ≢ Error.Journal (JournalError.ItemPruned n)) }
+    ensures reads { ReadsItems L.reads log.old log.new result
+        (L.reads.start log.old ≤ base.now.floor) }
 {
     let replaced = replaced_by(alloc, made)?;
     let path = Path {

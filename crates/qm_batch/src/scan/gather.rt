@@ -1,17 +1,16 @@
 //! Reads of a bucket: the pairs of the updates in a range, by key.
 
-ghost use Rattle.std.specs.Prelude.{◌≡◌, ◌≢◌, ◌≤◌, ℕ, List, [], fold, map, option_map, All, IfSome, IfOk, IfErr, OnOk};
-ghost use Rattle.qm_operations.specs.Views.{operation_view};
+ghost use Rattle.std.specs.Prelude.{◌≡◌, ◌≤◌, List, [], fold, map, option_map, All, IfSome, IfOk, IfErr, OnOk};
 ghost use Rattle.qm_model.specs.Forms.{IsOf, IsSpelling, spelling};
 ghost use Rattle.qm_model.specs.Operations as model;
 ghost use Rattle.qm_model.specs.Ranges as ranges;
 ghost use Rattle.qm_step.specs.Changes.{said_by, update_at};
-ghost use Rattle.qm_base.specs.Reads.{IsRead, IsReadError};
+ghost use Rattle.qm_base.specs.Reads.{ReadsItems};
 ghost use Rattle.qm_step.specs.Nearest.{limit_view};
 ghost use Rattle.qm_base.specs.Views.{limit_of, pair_view};
 ghost use Rattle.qm_batch.specs.Gathered.{is_in, only_in, place_among, put_at, put_said};
 
-use qm_base::{ByteString, Error, Items, JournalError, Location};
+use qm_base::{ByteString, Error, Items, Location};
 use qm_operations::{Operation, Update};
 use qm_step::found::update_in;
 use qm_step::{is_before, is_below};
@@ -60,10 +59,8 @@ pub(crate) fn pairs_at<F, L: Items, U: Update>(
         → IfSome (L.reads.told log.old) (λ _.
         IfOk result (λ pairs. map (pair_view U.Key.bytes U.Value.bytes) pairs.items
         ≡ fold (put_at (limit_view low.entry) (limit_view high.entry) list) [] locations.now)) }
-    ensures read { IsRead L.reads log.old log.new }
-    ensures error { IfErr result (IsReadError L.reads log.old log.new) }
-    ensures pruned { All (λ at. L.reads.start log.old ≤ at) locations.now
-        → IfErr result (λ e. (n : ℕ) → e ≢ Error.Journal (JournalError.ItemPruned n)) }
+    ensures reads { ReadsItems L.reads log.old log.new result
+        (All (λ at. L.reads.start log.old ≤ at) locations.now) }
 {
     let mut pairs = Vec::new(alloc);
     for location in locations {
@@ -114,10 +111,7 @@ fn read_in<L: Items, U: Update>(
         → L.reads.logged log.old (map (spelling U.form) list) → All (IsOf U.form) list
         → IfSome (L.reads.told log.old) (λ _. IfOk result (λ update. option_map U.view update
         ≡ only_in (limit_view low.entry) (limit_view high.entry) (update_at list at))) }
-    ensures read { IsRead L.reads log.old log.new }
-    ensures error { IfErr result (IsReadError L.reads log.old log.new) }
-    ensures pruned { L.reads.start log.old ≤ at
-        → IfErr result (λ e. (n : ℕ) → e ≢ Error.Journal (JournalError.ItemPruned n)) }
+    ensures reads { ReadsItems L.reads log.old log.new result (L.reads.start log.old ≤ at) }
 {
     match log.read_item(at)? {
         Some(item) => said_in(alloc, &item, low, high),

@@ -1,14 +1,13 @@
-use Rattle.std.proofs.Common.{◌∙◌, ap, sym, map, inl, refl}
+use Rattle.std.proofs.Common.{◌∙◌, ap, sym, map}
 use Rattle.std.specs.Prelude.{option_map}
 use Rattle.std.proofs.lemmas.Result.{err_from_is_err_and}
 use Rattle.qm_model.proofs.Results.{told-any, told-err, told-one}
 use Rattle.qm_step.specs.Layers.{nearest_layer}
 use Rattle.qm_step.specs.Views.{change_view, read_view}
-use Rattle.qm_batch.proofs.Memory.{memory-error, memory-whole, no-item}
 use Rattle.qm_batch.proofs.HolderOf.{holder-none, holder-read, holder-some}
 use Rattle.qm_batch.proofs.Layered.{layer-update}
-use Rattle.qm_base.proofs.Reading.{read-none}
 use Rattle.qm_step.proofs.Reading.{ok-same}
+use Rattle.qm_base.proofs.Reading.{reads-on, reads-short, read-none}
 use Rattle.qm_batch.proofs.neighbours.holder.Goals as goal
 
 pub returns-in-Some-2 : goal.returns-in-Some-2
@@ -22,9 +21,7 @@ returns-in-Some-2 g c = record {
       (layer-update layers lent base from key c.in-Some.layer.now (change_view value c.in-Some.entry.now)
       (ap (option_map (λ p. (p.0.now, change_view value p.1.now))) (sym c.in-Some.is) ∙ c.newest.ensures ∙ ap (nearest_layer layers) c.as_bytes.ensures.value))
       c.in_ok-found-in-Some.ensures.value c.in-Some-2.is);
-  read = read-none g.L.Items.reads g.met.L.Items.unread c.args.log.now;
-  error = tt;
-  whole = λ lent is none. tt;
+  reads = reads-short g.L.Items.reads _ (read-none g.L.Items.reads g.met.L.Items.unread c.args.log.now) tt;
 }
 
 pub returns-in-None-2 : goal.returns-in-None-2
@@ -39,9 +36,7 @@ returns-in-None-2 g c = record {
       (layer-update layers lent base from key c.in-Some.layer.now (change_view value c.in-Some.entry.now)
       (ap (option_map (λ p. (p.0.now, change_view value p.1.now))) (sym c.in-Some.is) ∙ c.newest.ensures ∙ ap (nearest_layer layers) c.as_bytes.ensures.value))
       c.in_ok-found-in-Some.ensures.value c.in-None-2.is) found);
-  read = c.previous.ensures.read;
-  error = c.previous.ensures.error;
-  whole = c.previous.ensures.whole;
+  reads = c.previous.ensures.reads;
 }
 
 pub returns-in_ok-lent-in-None : goal.returns-in_ok-lent-in-None
@@ -57,9 +52,7 @@ returns-in_ok-lent-in-None g c = record {
       ok-same c.own_or_nearer.result (option_map (read_view g.U.Update.view)) _ _
       (holder-read form g.met.U.Steps.known_bytes g.I.Unordered.index_key (g.met.U.Steps.monotone c.requires) (g.I.Unordered.entries c.args.index.now) c.last_lent.ensures.index
       layers lent base is.indexed is.of from ring_lent ring_base key key_bytes _ _ _ _ c.as_bytes-in-None.ensures.value c.as_bytes-in-None-2.ensures.value c.as_bytes-in-None-3.ensures.value none found) c.own_or_nearer.ensures.value);
-  read = c.last_lent.ensures.read;
-  error = memory-error c.own_or_nearer.result c.own_or_nearer.ensures.memory g.L.Items.reads c.args.log.now c.last_lent.new.log;
-  whole = λ lent is none. memory-whole c.own_or_nearer.result c.own_or_nearer.ensures.memory;
+  reads = reads-short g.L.Items.reads c.own_or_nearer.result c.last_lent.ensures.reads.left c.own_or_nearer.ensures.memory;
 }
 
 pub returns-in_err-found-in-Some : goal.returns-in_err-found-in-Some
@@ -67,9 +60,7 @@ returns-in_err-found-in-Some g c =
     let exit = err_from_is_err_and c.from_residual.result c.from_residual.ensures.1 in
     record {
       value = λ lent base is from ring_lent ring_base. told-err _ (g.L.Items.reads.told c.args.log.now) c.from_residual.result exit.0 exit.1;
-      read = read-none g.L.Items.reads g.met.L.Items.unread c.args.log.now;
-      error = rw (exit.1, exit.2, c.in_err-found-in-Some.ensures.memory) (inl refl);
-      whole = λ lent is none. rw (exit.1, exit.2, c.in_err-found-in-Some.ensures.memory) no-item;
+      reads = reads-short g.L.Items.reads c.from_residual.result (read-none g.L.Items.reads g.met.L.Items.unread c.args.log.now) (rw (exit.1, exit.2) c.in_err-found-in-Some.ensures.memory);
     }
 
 pub returns-in_err-lent-in-None : goal.returns-in_err-lent-in-None
@@ -77,7 +68,5 @@ returns-in_err-lent-in-None g c =
     let exit = err_from_is_err_and c.from_residual-in_err-lent-in-None.result c.from_residual-in_err-lent-in-None.ensures.1 in
     record {
       value = λ lent base is from ring_lent ring_base. told-err _ (g.L.Items.reads.told c.args.log.now) c.from_residual-in_err-lent-in-None.result exit.0 exit.1;
-      read = c.last_lent.ensures.read;
-      error = rw (exit.1, exit.2) c.in_err-lent-in-None.ensures.error;
-      whole = λ lent is none. rw (exit.1, exit.2) (c.in_err-lent-in-None.ensures.whole lent is none);
+      reads = reads-on g.L.Items.reads c.from_residual-in_err-lent-in-None.result c.in_err-lent-in-None.ensures.reads exit.1 exit.2;
     }

@@ -3,9 +3,9 @@ use Rattle.std.specs.Prelude.{option_map}
 use Rattle.qm_model.proofs.Results.{told-one, told-err}
 use Rattle.qm_step.specs.Views.{read_view}
 use Rattle.qm_step.proofs.Reading.{ok-same}
-use Rattle.qm_batch.proofs.Memory.{memory-error, memory-whole}
 use Rattle.qm_batch.proofs.HolderOf.{previous-read}
 use Rattle.std.proofs.lemmas.Result.{err_from_is_err_and}
+use Rattle.qm_base.proofs.Reading.{reads-on, reads-short}
 use Rattle.qm_batch.proofs.neighbours.previous.Goals as goal
 
 pub returns : goal.returns
@@ -18,9 +18,7 @@ returns g c = record {
       ok-same c.nearer.result (option_map (read_view g.U.Update.view)) _ _
       (previous-read form g.met.U.Steps.known_bytes g.I.Unordered.index_key (g.met.U.Steps.monotone c.requires) (g.I.Unordered.entries c.args.index.now) c.last_lent.ensures.index
       (map (λ l. l.value) c.args.layers.now) lent base is.indexed is.of from ring_lent ring_base key key_bytes _ _ _ _ c.as_bytes.ensures.value c.as_bytes-2.ensures.value c.as_bytes-3.ensures.value found) c.nearer.ensures.value);
-  read = c.last_lent.ensures.read;
-  error = memory-error c.nearer.result c.nearer.ensures.memory g.L.Items.reads c.args.log.now c.last_lent.new.log;
-  whole = λ lent is none. memory-whole c.nearer.result c.nearer.ensures.memory;
+  reads = reads-short g.L.Items.reads c.nearer.result c.last_lent.ensures.reads.left c.nearer.ensures.memory;
 }
 
 pub returns-in_err-lent : goal.returns-in_err-lent
@@ -28,7 +26,5 @@ returns-in_err-lent g c =
     let exit = err_from_is_err_and c.from_residual.result c.from_residual.ensures.1 in
     record {
       value = λ lent base is from ring_lent ring_base. told-err _ (g.L.Items.reads.told c.args.log.now) c.from_residual.result exit.0 exit.1;
-      read = c.last_lent.ensures.read;
-      error = rw (exit.1, exit.2) c.in_err-lent.ensures.error;
-      whole = λ lent is none. rw (exit.1, exit.2) (c.in_err-lent.ensures.whole lent is none);
+      reads = reads-on g.L.Items.reads c.from_residual.result c.in_err-lent.ensures.reads exit.1 exit.2;
     }

@@ -2,6 +2,7 @@ use Rattle.std.proofs.Common.{◌∙◌}
 use Rattle.qm_model.proofs.Results.{told-one, told-err}
 use Rattle.qm_batch.proofs.HolderOf.{below-read}
 use Rattle.std.proofs.lemmas.Result.{err_from_is_err_and}
+use Rattle.qm_base.proofs.Reading.{reads-on, reads-short}
 use Rattle.qm_batch.proofs.neighbours.previous_key.Goals as goal
 
 pub returns : goal.returns
@@ -9,9 +10,7 @@ returns g c = record {
   value = λ lent base is from ring_lent ring_base.
       told-one _ _ (g.L.Items.reads.told c.args.log.now) (c.in_ok-found.ensures.value lent base is from ring_lent ring_base) (λ found.
       c.key_under.ensures ∙ below-read base (g.U.Key.ByteString.bytes c.args.key.now) c.as_bytes.result.now _ c.as_bytes.ensures.value found);
-  read = c.previous.ensures.read;
-  error = tt;
-  whole = λ lent is none. tt;
+  reads = reads-short g.L.Items.reads _ c.previous.ensures.reads.left tt;
 }
 
 pub returns-in_err-found : goal.returns-in_err-found
@@ -19,7 +18,5 @@ returns-in_err-found g c =
     let exit = err_from_is_err_and c.from_residual.result c.from_residual.ensures.1 in
     record {
       value = λ lent base is from ring_lent ring_base. told-err _ (g.L.Items.reads.told c.args.log.now) c.from_residual.result exit.0 exit.1;
-      read = c.previous.ensures.read;
-      error = rw (exit.1, exit.2) c.in_err-found.ensures.error;
-      whole = λ lent is none. rw (exit.1, exit.2) (c.in_err-found.ensures.whole lent is none);
+      reads = reads-on g.L.Items.reads c.from_residual.result c.in_err-found.ensures.reads exit.1 exit.2;
     }

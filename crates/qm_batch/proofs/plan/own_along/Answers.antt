@@ -1,7 +1,7 @@
 use Rattle.std.proofs.Common.{◌≡◌, ◌∙◌, ◌++◌, ◌+◌, ◌-◌, ap, ap₂, sym, arith, length, map, count_by, subst, List, ℕ}
 use Rattle.std.specs.Prelude.{is_none, is_some}
 use Rattle.std.proofs.lemmas.List.{length-map}
-use Rattle.qm_model.proofs.Results.{err-then, ok-four, told-one, told-then, told-err}
+use Rattle.qm_model.proofs.Results.{ok-four, told-one, told-then, told-err}
 use Rattle.qm_operations.specs.Parts.{is_update}
 use Rattle.qm_model.specs.Live.{floor}
 use Rattle.qm_model.specs.Walk.{walk}
@@ -9,14 +9,13 @@ use Rattle.qm_model.specs.Writes.{made_inactive}
 use Rattle.qm_step.specs.Bases.{base_view}
 use Rattle.qm_step.specs.Kinds.{kind_of}
 use Rattle.qm_step.specs.Going.{Decided, AreDecided}
-use Rattle.qm_step.specs.Lent.{NoneBelow}
 use Rattle.qm_step.specs.PlanViews.{decided_views, touch_view}
 use Rattle.qm_batch.specs.PlanPaths.{AreBehind, AreOwn}
 use Rattle.qm_step.specs.Touches.{Touch}
 use Rattle.qm_batch.proofs.PlanOwns.{are-inactive, are-own, count-shown, decided-apart, evicted-shown, written-behind}
-use Rattle.qm_base.proofs.Reading.{read-then, error-then}
-use Rattle.qm_step.proofs.Reading.{lent-then, told}
+use Rattle.qm_step.proofs.Reading.{lent-then, told, whole-then}
 use Rattle.std.proofs.lemmas.Result.{err_from_is_err_and}
+use Rattle.qm_base.proofs.Reading.{reads-on, reads-where, reads-then}
 use Rattle.qm_batch.proofs.plan.own_along.Goals as goal
 
 pub returns : goal.returns
@@ -46,7 +45,7 @@ returns g c = record {
       let inactive : c.made_inactive.result ≡ made_inactive base (kind.writes base ws) =
       c.made_inactive.ensures ∙ ap (λ n. n + live - behind) (ap length c.deref-2.ensures.value ∙ sym (length-map touches view))
       ∙ are-inactive kind rules policy next base ws (map view touches) written.operations written.from written.keyed written.once live behind known.live count in
-      let read = c.walk_from.ensures.read in
+      let read = c.walk_from.ensures.reads.left in
       let mid = lent-then g.L.Items.reads _ g.I.Unordered.index_key (g.I.Unordered.entries c.args.index.now) c.args.log.now c.walk_from.new.log lent read is in
       told-then _ _ (g.L.Items.reads.told c.args.log.now) (c.in_ok-walked.ensures.value lent base list is active on) (λ are.
       let limits = ap₂ (λ e s. walk rules list (floor base) (record { entries = e; skips = s }) policy)
@@ -66,12 +65,9 @@ returns g c = record {
       let bound = c.live_behind-behind.ensures.bound in
       let low = c.requires.live in
       omega (arith, same, live, more, bound, low));
-  read = read-then g.L.Items.reads g.met.L.Items.read_again c.args.log.now c.walk_from.new.log c.own_of.new.log c.walk_from.ensures.read c.own_of.ensures.read;
-  error = err-then c.own_of.result c.own_of.ensures.error (λ e was. error-then g.L.Items.reads g.met.L.Items.failed_later c.args.log.now c.walk_from.new.log c.own_of.new.log e c.walk_from.ensures.read was);
-  whole = λ lent is none above.
-      let read = c.walk_from.ensures.read in
-      let mid = lent-then g.L.Items.reads _ g.I.Unordered.index_key (g.I.Unordered.entries c.args.index.now) c.args.log.now c.walk_from.new.log lent read is in
-      c.own_of.ensures.whole lent mid (subst (λ n. NoneBelow n lent) (sym (read.start)) none);
+  reads =
+      reads-then g.L.Items.reads g.met.L.Items.read_again g.met.L.Items.failed_later c.own_of.result c.walk_from.ensures.reads.left (λ all. whole-then g.L.Items.reads _ g.I.Unordered.index_key _ _ _ c.walk_from.ensures.reads.left all.0)
+      c.own_of.ensures.reads;
 }
 
 pub returns-in_err-walked : goal.returns-in_err-walked
@@ -80,7 +76,5 @@ returns-in_err-walked g c =
     record {
       own = λ lent base ws is active known written lent_ring ring. told-err _ (g.L.Items.reads.told c.args.log.now) c.from_residual.result exit.0 exit.1;
       count = rw exit.1 tt;
-      read = c.walk_from.ensures.read;
-      error = rw (exit.1, exit.2) c.in_err-walked.ensures.error;
-      whole = λ lent is none above. rw (exit.1, exit.2) (c.in_err-walked.ensures.pruned above);
+      reads = reads-on g.L.Items.reads c.from_residual.result (reads-where g.L.Items.reads _ (λ all. all.1) c.in_err-walked.ensures.reads) exit.1 exit.2;
     }

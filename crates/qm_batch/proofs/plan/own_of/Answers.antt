@@ -1,4 +1,4 @@
-use Rattle.std.proofs.Common.{◌≡◌, ◌∙◌, ◌++◌, ap, sym, subst, subst₂, ◌-◌, map, count_by, true, inl, refl}
+use Rattle.std.proofs.Common.{◌≡◌, ◌∙◌, ◌++◌, ap, sym, subst, subst₂, ◌-◌, map, count_by, true, refl}
 use Rattle.std.specs.Prelude.{All, IfSome, filter_map, is_none}
 use Rattle.qm_model.specs.Ordered.{IsRing}
 use Rattle.qm_step.specs.Kinds.{kind_of}
@@ -13,7 +13,7 @@ use Rattle.qm_step.proofs.Reading.{told-given}
 use Rattle.qm_step.specs.declared.decided.Decided.{Decided}
 use Rattle.std.proofs.lemmas.Result.{err_from_is_err_and}
 use Rattle.qm_model.proofs.Results.{told-err}
-use Rattle.qm_batch.proofs.Memory.{no-item}
+use Rattle.qm_base.proofs.Reading.{reads-on, reads-short}
 use Rattle.qm_batch.proofs.plan.own_of.Goals as goal
 
 pub returns : goal.returns
@@ -38,9 +38,7 @@ returns g c = record {
   live = c.saturating_sub-live.ensures ∙ ap (λ n. c.args.behind - n) (c.evicted.ensures.count ∙ ap (count_by (λ (d : Decided _ _). is_none d.value)) c.deref.ensures.value);
   floor = refl;
   count = c.in_ok-touches.ensures.count;
-  read = c.befores_of.ensures.read;
-  error = tt;
-  whole = λ lent is none. tt;
+  reads = reads-short g.L.Items.reads _ c.befores_of.ensures.reads.left tt;
 }
 
 pub returns-in_err-found : goal.returns-in_err-found
@@ -52,9 +50,7 @@ returns-in_err-found g c =
       live = rw exit.1 tt;
       floor = rw exit.1 tt;
       count = rw exit.1 tt;
-      read = c.befores_of.ensures.read;
-      error = rw (exit.1, exit.2) c.in_err-found.ensures.error;
-      whole = λ lent is none. rw (exit.1, exit.2) (c.in_err-found.ensures.whole lent is none);
+      reads = reads-on g.L.Items.reads c.from_residual.result c.in_err-found.ensures.reads exit.1 exit.2;
     }
 
 pub returns-in_err-touches : goal.returns-in_err-touches
@@ -66,7 +62,5 @@ returns-in_err-touches g c =
       live = rw exit.1 tt;
       floor = rw exit.1 tt;
       count = rw exit.1 tt;
-      read = c.befores_of.ensures.read;
-      error = rw (exit.1, exit.2) (inl refl);
-      whole = λ lent is none. rw (exit.1, exit.2) no-item;
+      reads = reads-short g.L.Items.reads c.from_residual-in_err-touches.result c.befores_of.ensures.reads.left (rw (exit.1, exit.2) refl);
     }

@@ -18,7 +18,5 @@ returns g c = record {
       subst (λ (ws : List Write). IfSome (g.L.Items.reads.told c.args.log.now) (λ _. IfOk c.staged.result (λ _. c.staged.new.policy ≡ policy_after (kind_of g.U.Update.form) g.P.Policy.rules base ws c.args.policy.now)))
       (slotted-none (map (write_view g.U.Key.ByteString.bytes g.U.Value.ByteString.bytes) c.args.writes.now)) (c.staged.ensures.next lent base is active from lent_ring ring (All-nil _));
   live = c.staged.ensures.live;
-  read = c.staged.ensures.read;
-  error = c.staged.ensures.error;
-  whole = c.staged.ensures.whole;
+  reads = c.staged.ensures.reads;
 }

@@ -1,9 +1,9 @@
-use Rattle.std.proofs.Common.{arith, subst, List}
+use Rattle.std.proofs.Common.{arith, subst, List, refl}
 use Rattle.std.specs.Prelude.{option_map}
 use Rattle.qm_model.proofs.Results.{ok-four, ok-then, told-one, told-any}
 use Rattle.qm_model.specs.Operations.{Operation}
 use Rattle.qm_step.specs.Views.{IsPlan}
-use Rattle.qm_batch.proofs.Memory.{memory-error, memory-whole}
+use Rattle.qm_base.proofs.Reading.{reads-on, reads-short}
 use Rattle.qm_batch.proofs.plan.staged.Goals as goal
 
 pub returns-in-Ok : goal.returns-in-Ok
@@ -19,9 +19,7 @@ returns-in-Ok g c = record {
       ok-four c.planned.result c.planned.ensures.live c.planned.ensures.count c.planned.ensures.live c.planned.ensures.count (λ plan live count _ _.
       let low = c.in-Ok.ensures.count in
       omega (arith, live, count, low));
-  read = c.own_operations.ensures.read;
-  error = memory-error c.planned.result c.planned.ensures.memory g.L.Items.reads c.args.log.now c.own_operations.new.log;
-  whole = λ lent is none above. memory-whole c.planned.result c.planned.ensures.memory;
+  reads = reads-short g.L.Items.reads c.planned.result c.own_operations.ensures.reads.left c.planned.ensures.memory;
 }
 
 pub returns-in-Err : goal.returns-in-Err
@@ -29,7 +27,5 @@ returns-in-Err g c = record {
   plan = λ lent base is active from lent_ring ring reads. told-any _ (g.L.Items.reads.told c.args.log.now) tt;
   next = λ lent base is active from lent_ring ring reads. told-any _ (g.L.Items.reads.told c.args.log.now) tt;
   live = tt;
-  read = c.own_operations.ensures.read;
-  error = c.in-Err.ensures.error;
-  whole = c.in-Err.ensures.whole;
+  reads = reads-on g.L.Items.reads _ c.in-Err.ensures.reads refl refl;
 }

@@ -1,4 +1,4 @@
-use Rattle.std.proofs.Common.{◌∙◌, ap, sym, map, inl, refl}
+use Rattle.std.proofs.Common.{◌∙◌, ap, sym, map, refl}
 use Rattle.std.specs.Prelude.{option_map}
 use Rattle.qm_model.proofs.Results.{told-any, told-one, told-err}
 use Rattle.qm_step.specs.Changes.{link_of}
@@ -6,10 +6,9 @@ use Rattle.qm_step.specs.Layers.{nearest_layer}
 use Rattle.qm_step.specs.Views.{change_view, stands_view}
 use Rattle.qm_step.proofs.Entries.{link-of_update}
 use Rattle.qm_step.proofs.Reading.{ok-same}
-use Rattle.qm_batch.proofs.Memory.{memory-error, memory-whole, no-item}
 use Rattle.qm_batch.proofs.Layered.{layer-update, lent-update}
 use Rattle.std.proofs.lemmas.Result.{err_from_is_err_and}
-use Rattle.qm_base.proofs.Reading.{read-none}
+use Rattle.qm_base.proofs.Reading.{reads-on, reads-short, read-none}
 use Rattle.qm_batch.proofs.read.locate.Goals as goal
 
 pub returns-in-Some : goal.returns-in-Some
@@ -24,9 +23,7 @@ returns-in-Some g c = record {
       (ap (option_map (λ p. (p.0.now, change_view value p.1.now))) (sym c.in-Some.is) ∙ c.newest.ensures ∙ ap (nearest_layer layers) c.as_bytes.ensures.value)))
       ∙ link-of_update base key)
       c.stands_by.ensures.value);
-  read = read-none g.L.Items.reads g.met.L.Items.unread c.args.log.now;
-  error = memory-error c.stands_by.result c.stands_by.ensures.memory g.L.Items.reads c.args.log.now c.args.log.now;
-  whole = λ lent is none. memory-whole c.stands_by.result c.stands_by.ensures.memory;
+  reads = reads-short g.L.Items.reads c.stands_by.result (read-none g.L.Items.reads g.met.L.Items.unread c.args.log.now) c.stands_by.ensures.memory;
 }
 
 pub returns-in_ok-stands-in-None : goal.returns-in_ok-stands-in-None
@@ -39,9 +36,7 @@ returns-in_ok-stands-in-None g c = record {
       c.in_ok-stands-in-None.ensures ∙ ap (option_map link_of) (found ∙ sym (lent-update layers lent base from key
       (ap (option_map (λ p. (p.0.now, change_view value p.1.now))) (sym c.in-None.is) ∙ c.newest.ensures ∙ ap (nearest_layer layers) c.as_bytes.ensures.value)))
       ∙ link-of_update base key);
-  read = c.read_bucket.ensures.read;
-  error = tt;
-  whole = λ lent is none. tt;
+  reads = reads-short g.L.Items.reads _ c.read_bucket.ensures.reads.left tt;
 }
 
 pub returns-in_err-found-in-None : goal.returns-in_err-found-in-None
@@ -49,9 +44,7 @@ returns-in_err-found-in-None g c =
     let exit = err_from_is_err_and c.from_residual.result c.from_residual.ensures.1 in
     record {
       value = λ lent base is from. told-err _ (g.L.Items.reads.told c.args.log.now) c.from_residual.result exit.0 exit.1;
-      read = c.read_bucket.ensures.read;
-      error = rw (exit.1, exit.2) c.in_err-found-in-None.ensures.error;
-      whole = λ lent is none. rw (exit.1, exit.2) (c.in_err-found-in-None.ensures.whole lent is none);
+      reads = reads-on g.L.Items.reads c.from_residual.result c.in_err-found-in-None.ensures.reads exit.1 exit.2;
     }
 
 pub returns-in_err-stands-in-None : goal.returns-in_err-stands-in-None
@@ -59,7 +52,5 @@ returns-in_err-stands-in-None g c =
     let exit = err_from_is_err_and c.from_residual-in_err-stands-in-None.result c.from_residual-in_err-stands-in-None.ensures.1 in
     record {
       value = λ lent base is from. told-err _ (g.L.Items.reads.told c.args.log.now) c.from_residual-in_err-stands-in-None.result exit.0 exit.1;
-      read = c.read_bucket.ensures.read;
-      error = rw (exit.1, exit.2) (inl refl);
-      whole = λ lent is none. rw (exit.1, exit.2) no-item;
+      reads = reads-short g.L.Items.reads c.from_residual-in_err-stands-in-None.result c.read_bucket.ensures.reads.left (rw (exit.1, exit.2) refl);
     }

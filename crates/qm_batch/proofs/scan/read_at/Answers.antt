@@ -4,7 +4,7 @@ use Rattle.qm_model.proofs.Results.{ok-then, told-any}
 use Rattle.qm_base.specs.Views.{limit_of, pair_view}
 use Rattle.qm_batch.specs.Scans.{Place, AreNext, nowhere, place_view}
 use Rattle.qm_batch.proofs.Going.{nothing-left, over, not-beginning}
-use Rattle.qm_base.proofs.Reading.{read-none}
+use Rattle.qm_base.proofs.Reading.{reads-short, read-none}
 use Rattle.qm_batch.proofs.scan.read_at.Goals as goal
 
 pub returns-in-Beginning : goal.returns-in-Beginning
@@ -17,9 +17,7 @@ returns-in-Beginning g c = record {
       (sym (ap (place_view key) c.in-Beginning.is)) (c.read_beginning.ensures.value list is);
   over = ok-then c.read_beginning.result c.read_beginning.ensures.begun (λ found begun on none. absurd (on (ap (place_view g.U.Key.ByteString.bytes) c.in-Beginning.is)));
   begun = c.read_beginning.ensures.begun;
-  read = c.read_beginning.ensures.read;
-  error = c.read_beginning.ensures.error;
-  whole = c.read_beginning.ensures.whole;
+  reads = c.read_beginning.ensures.reads;
 }
 
 pub returns-in-Behind : goal.returns-in-Behind
@@ -32,9 +30,7 @@ returns-in-Behind g c = record {
       (sym (ap (place_view key) c.in-Behind.is)) (c.read_next.ensures.value list (limit_of key c.args.low.now) is);
   over = ok-then c.read_next.result c.read_next.ensures.over (λ found ends on. ends);
   begun = c.read_next.ensures.begun;
-  read = c.read_next.ensures.read;
-  error = c.read_next.ensures.error;
-  whole = c.read_next.ensures.whole;
+  reads = c.read_next.ensures.reads;
 }
 
 pub returns-in-Nowhere : goal.returns-in-Nowhere
@@ -51,7 +47,5 @@ returns-in-Nowhere g c = record {
       (nothing-left index_key low high list)));
   over = λ on none. c.nothing.ensures.place;
   begun = not-beginning [] (place_view g.U.Key.ByteString.bytes c.nothing.result.place) c.nothing.ensures.place;
-  read = read-none g.L.Items.reads g.met.L.Items.unread c.args.log.now;
-  error = tt;
-  whole = λ list is none. tt;
+  reads = reads-short g.L.Items.reads _ (read-none g.L.Items.reads g.met.L.Items.unread c.args.log.now) tt;
 }

@@ -14,9 +14,7 @@ returns-in-Included g c = record {
       AreNext g.I.Unordered.index_key l h list beginning (map (pair_view bytes g.U.Value.ByteString.bytes) found.pairs.items) (place_view bytes found.place))))
       low c.bytes_of-in-Included-2.ensures (c.read_own.ensures.value list is (subst (BeginsAt (bytes c.in-Included.key)) (sym low) begins));
   begun = c.read_own.ensures.begun;
-  read = c.read_own.ensures.read;
-  error = c.read_own.ensures.error;
-  whole = c.read_own.ensures.whole;
+  reads = c.read_own.ensures.reads;
 }
 
 pub returns-in-Unbounded : goal.returns-in-Unbounded
@@ -27,7 +25,5 @@ returns-in-Unbounded g c = record {
       AreNext g.I.Unordered.index_key l h list beginning (map (pair_view bytes g.U.Value.ByteString.bytes) found.pairs.items) (place_view bytes found.place))))
       (ap (limit_of bytes) (sym c.in-Unbounded.is)) c.bytes_of.ensures (c.read_first.ensures.value list is);
   begun = c.read_first.ensures.begun;
-  read = c.read_first.ensures.read;
-  error = c.read_first.ensures.error;
-  whole = c.read_first.ensures.whole;
+  reads = c.read_first.ensures.reads;
 }

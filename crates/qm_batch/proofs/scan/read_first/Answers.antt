@@ -8,7 +8,7 @@ use Rattle.qm_batch.specs.Gathered.{put_at}
 use Rattle.qm_batch.specs.Scans.{beginning, place_view}
 use Rattle.qm_batch.proofs.Ahead.{first-above, first-bucket, over-first}
 use Rattle.qm_batch.proofs.Going.{not-beginning, ok-two, over, went}
-use Rattle.qm_base.proofs.Reading.{read-none}
+use Rattle.qm_base.proofs.Reading.{reads-short, read-none, reads-where}
 use Rattle.qm_batch.proofs.scan.read_first.Goals as goal
 
 pub returns-in-Some : goal.returns-in-Some
@@ -23,12 +23,11 @@ returns-in-Some g c = record {
       (first-bucket g.I.Unordered.index_key (g.I.Unordered.entries c.args.index.now) (c.first_bucket.ensures.index c.requires) list is.indexed g.U.Update.form g.met.U.Steps.known_bytes (g.met.U.Steps.monotone c.requires) is.of high locations
       (sym (ap (option_map (λ b. b.now)) c.in-Some.is) ∙ c.first_bucket.ensures.value c.requires))));
   begun = ok-then c.read_bucket.result c.read_bucket.ensures.place (λ f place. not-beginning (map (pair_view g.U.Key.ByteString.bytes g.U.Value.ByteString.bytes) f.pairs.items) (place_view g.U.Key.ByteString.bytes f.place) place);
-  read = c.read_bucket.ensures.read;
-  error = c.read_bucket.ensures.error;
-  whole = λ list is none.
-      c.read_bucket.ensures.pruned
-      (first-above g.I.Unordered.index_key (g.I.Unordered.entries c.args.index.now) (c.first_bucket.ensures.index c.requires) list is.indexed c.in-Some.bucket.now (g.L.Items.reads.start c.args.log.now)
-      (sym (ap (option_map (λ b. b.now)) c.in-Some.is) ∙ c.first_bucket.ensures.value c.requires) none);
+  reads =
+      reads-where g.L.Items.reads c.read_bucket.result (λ all.
+      first-above g.I.Unordered.index_key (g.I.Unordered.entries c.args.index.now) (c.first_bucket.ensures.index c.requires) all.list (all.lent).indexed c.in-Some.bucket.now (g.L.Items.reads.start c.args.log.now)
+      (sym (ap (option_map (λ b. b.now)) c.in-Some.is) ∙ c.first_bucket.ensures.value c.requires) all.none)
+      c.read_bucket.ensures.reads;
 }
 
 pub returns-in-None : goal.returns-in-None
@@ -41,7 +40,5 @@ returns-in-None g c = record {
       (over-first g.I.Unordered.index_key (g.I.Unordered.entries c.args.index.now) (c.first_bucket.ensures.index c.requires) list is.indexed unlimited high
       (sym (ap (option_map (λ b. b.now)) c.in-None.is) ∙ c.first_bucket.ensures.value c.requires)));
   begun = not-beginning [] (place_view g.U.Key.ByteString.bytes c.nothing.result.place) c.nothing.ensures.place;
-  read = read-none g.L.Items.reads g.met.L.Items.unread c.args.log.now;
-  error = tt;
-  whole = λ list is none. tt;
+  reads = reads-short g.L.Items.reads _ (read-none g.L.Items.reads g.met.L.Items.unread c.args.log.now) tt;
 }

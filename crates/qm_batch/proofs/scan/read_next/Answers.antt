@@ -9,7 +9,7 @@ use Rattle.qm_batch.specs.Gathered.{put_at}
 use Rattle.qm_batch.specs.Scans.{behind, place_view, unwrapped}
 use Rattle.qm_batch.proofs.Ahead.{next-above, next-bucket, over-next}
 use Rattle.qm_batch.proofs.Going.{ends-there, not-beginning, ok-two, over, unwrapped-none, unwrapped-some, went}
-use Rattle.qm_base.proofs.Reading.{read-none}
+use Rattle.qm_base.proofs.Reading.{reads-short, read-none, reads-where}
 use Rattle.qm_batch.proofs.scan.read_next.Goals as goal
 
 pub returns-in-Some : goal.returns-in-Some
@@ -33,9 +33,8 @@ returns-in-Some g c = record {
       let view = pair_view g.U.Key.ByteString.bytes g.U.Value.ByteString.bytes in
       ok-then c.read_bucket.result c.read_bucket.ensures.place (λ f place. ends-there (map view f.pairs.items) (place_view g.U.Key.ByteString.bytes f.place) place);
   begun = ok-then c.read_bucket.result c.read_bucket.ensures.place (λ f place. not-beginning (map (pair_view g.U.Key.ByteString.bytes g.U.Value.ByteString.bytes) f.pairs.items) (place_view g.U.Key.ByteString.bytes f.place) place);
-  read = c.read_bucket.ensures.read;
-  error = c.read_bucket.ensures.error;
-  whole = λ list is none.
+  reads =
+      reads-where g.L.Items.reads c.read_bucket.result (λ all.
       let index_key = g.I.Unordered.index_key in
       let entries = g.I.Unordered.entries c.args.index.now in
       let key = g.U.Key.ByteString.bytes c.args.key.now in
@@ -43,7 +42,8 @@ returns-in-Some g c = record {
       let here : Some (locations, false) ≡ neighbour_at entries (next_key (keys_of entries) (index_key key)) =
       unwrapped-some (neighbour_at entries (next_key (keys_of entries) (index_key key))) locations
       (sym (ap (option_map (λ b. b.now)) c.in-Some.is) ∙ c.unwrapped.ensures ∙ ap unwrapped (c.bucket_behind.ensures.value c.requires ∙ ap (λ k. neighbour_at entries (next_key (keys_of entries) (index_key k))) c.as_bytes.ensures.value)) in
-      c.read_bucket.ensures.pruned (next-above index_key entries (c.bucket_behind.ensures.index c.requires) list is.indexed key locations (g.L.Items.reads.start c.args.log.now) here none);
+      next-above index_key entries (c.bucket_behind.ensures.index c.requires) all.list (all.lent).indexed key locations (g.L.Items.reads.start c.args.log.now) here all.none)
+      c.read_bucket.ensures.reads;
 }
 
 pub returns-in-None : goal.returns-in-None
@@ -61,7 +61,5 @@ returns-in-None g c = record {
       (sym (ap (option_map (λ b. b.now)) c.in-None.is) ∙ c.unwrapped.ensures ∙ ap unwrapped (c.bucket_behind.ensures.value c.requires ∙ ap (λ k. neighbour_at entries (next_key (keys_of entries) (index_key k))) c.as_bytes.ensures.value)))));
   over = λ none. c.nothing.ensures.place;
   begun = not-beginning [] (place_view g.U.Key.ByteString.bytes c.nothing.result.place) c.nothing.ensures.place;
-  read = read-none g.L.Items.reads g.met.L.Items.unread c.args.log.now;
-  error = tt;
-  whole = λ list is none. tt;
+  reads = reads-short g.L.Items.reads _ (read-none g.L.Items.reads g.met.L.Items.unread c.args.log.now) tt;
 }

@@ -1,4 +1,4 @@
-use Rattle.std.proofs.Common.{◌∙◌, ◌≤◌, ◌++◌, ap, ap₂, subst, sym, [], inl, refl}
+use Rattle.std.proofs.Common.{◌∙◌, ◌≤◌, ◌++◌, ap, ap₂, subst, sym, [], refl}
 use Rattle.std.specs.Prelude.{All, fold}
 use Rattle.std.proofs.lemmas.Result.{err_from_is_err_and}
 use Rattle.qm_model.proofs.Results.{told-one, told-err}
@@ -8,7 +8,8 @@ use Rattle.qm_step.proofs.LentKeys.{bucket-above}
 use Rattle.qm_batch.specs.Gathered.{put_at}
 use Rattle.qm_batch.specs.Scans.{ahead_of, behind}
 use Rattle.qm_batch.proofs.Ahead.{own-bucket}
-use Rattle.qm_batch.proofs.Going.{behind-begun, no-item}
+use Rattle.qm_batch.proofs.Going.{behind-begun}
+use Rattle.qm_base.proofs.Reading.{reads-short, reads-on, reads-where}
 use Rattle.qm_batch.proofs.scan.read_own.Goals as goal
 
 pub returns-in_err-pairs : goal.returns-in_err-pairs
@@ -17,12 +18,12 @@ returns-in_err-pairs g c =
     record {
       value = λ list is begins. told-err _ (g.L.Items.reads.told c.args.log.now) c.from_residual.result exit.0 exit.1;
       begun = rw exit.1 tt;
-      read = c.pairs_at.ensures.read;
-      error = rw (exit.1, exit.2) c.in_err-pairs.ensures.error;
-      whole = λ list is none.
-          let start = (g.L.Items.reads.start c.args.log.now) in
-          rw (exit.1, exit.2) (c.in_err-pairs.ensures.pruned
-          (subst (All (λ at. start ≤ at)) (sym c.bucket.ensures.value) (bucket-above list g.I.Unordered.index_key (g.I.Unordered.entries c.args.index.now) is.indexed (g.I.Unordered.index_key c.as_bytes.result.now) start none)));
+      reads =
+          reads-on g.L.Items.reads c.from_residual.result
+          (reads-where g.L.Items.reads _ (λ all.
+          let start = g.L.Items.reads.start c.args.log.now in
+          subst (All (λ at. start ≤ at)) (sym c.bucket.ensures.value) (bucket-above all.list g.I.Unordered.index_key (g.I.Unordered.entries c.args.index.now) (all.lent).indexed (g.I.Unordered.index_key c.as_bytes.result.now) start all.none))
+          c.in_err-pairs.ensures.reads) exit.1 exit.2;
     }
 
 pub returns : goal.returns
@@ -40,9 +41,7 @@ returns g c = record {
       (found ∙ ap (fold (put_at low high list) []) (c.bucket.ensures.value ∙ ap (λ k. bucket_at entries (index_key k)) c.as_bytes.ensures.value))
       (ap g.U.Key.ByteString.bytes c.in_ok-key.ensures)));
   begun = behind-begun (g.U.Key.ByteString.bytes c.in_ok-key.key);
-  read = c.pairs_at.ensures.read;
-  error = tt;
-  whole = λ list is none. tt;
+  reads = reads-short g.L.Items.reads _ c.pairs_at.ensures.reads.left tt;
 }
 
 pub returns-in_err-key : goal.returns-in_err-key
@@ -51,7 +50,5 @@ returns-in_err-key g c =
     record {
       value = λ list is begins. told-err _ (g.L.Items.reads.told c.args.log.now) c.from_residual-in_err-key.result exit.0 exit.1;
       begun = rw exit.1 tt;
-      read = c.pairs_at.ensures.read;
-      error = rw (exit.1, exit.2) (inl refl);
-      whole = λ list is none. rw (exit.1, exit.2) no-item;
+      reads = reads-short g.L.Items.reads c.from_residual-in_err-key.result c.pairs_at.ensures.reads.left (rw (exit.1, exit.2) refl);
     }

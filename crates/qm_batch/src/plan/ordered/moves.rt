@@ -1,19 +1,18 @@
 //! The live updates before the keys that go from an ordered list.
 
-ghost use Rattle.std.specs.Prelude.{◌≡◌, ◌≢◌, ◌≤◌, ◌^◌, ◌++◌, ℕ, List, map, filter_map, true, All, IfSome, IfOk, IfErr};
+ghost use Rattle.std.specs.Prelude.{◌≡◌, ◌≤◌, ◌^◌, ◌++◌, List, map, filter_map, true, All, IfSome, IfOk};
 ghost use Rattle.qm_model.specs.Operations as model;
 ghost use Rattle.qm_model.specs.Ordered.{IsRing};
 ghost use Rattle.qm_step.specs.Bases.{base_view, IsBase};
 ghost use Rattle.qm_step.specs.Layers.{LeadOver};
-ghost use Rattle.qm_base.specs.Reads.{IsRead, IsReadError};
-ghost use Rattle.qm_step.specs.Lent.{IsLent, NoneBelow};
+ghost use Rattle.qm_step.specs.Lent.{IsLent, ReadsLent};
 ghost use Rattle.qm_step.specs.Moves.{before_evicted};
 ghost use Rattle.qm_step.specs.PlanViews.{decided_views, touch_views};
 ghost use Rattle.qm_step.specs.Touches.{IsFrom, operations_of};
 ghost use Rattle.qm_step.specs.Views.{read_view};
 
 use crate::neighbours::previous;
-use qm_base::{Error, Items, JournalError, Location};
+use qm_base::{Error, Items, Location};
 use qm_step::decided::{Decided, evicted};
 use qm_step::kind::Steps;
 use qm_step::moves::layers_over;
@@ -38,12 +37,8 @@ fn find_before<F, I: qm_index::Unordered<Value = Location<F>>, L: Items, U: Step
         → IfSome (L.reads.told log.old) (λ _.
         IfOk result (λ found. map (read_view U.view) found.items
         ≡ filter_map (before_evicted list) (decided_views U.Key.bytes U.Value.bytes decided.now))) }
-    ensures read { IsRead L.reads log.old log.new }
-    ensures error { IfErr result (IsReadError L.reads log.old log.new) }
-    ensures whole { (lent : List model.Operation)
-        → IsLent L.reads U.form I.index_key (I.entries index.now) log.old lent
-        → NoneBelow (L.reads.start log.old) lent
-        → IfErr result (λ e. (n : ℕ) → e ≢ Error.Journal (JournalError.ItemPruned n)) }
+    ensures reads { ReadsLent L.reads U.form I.index_key (I.entries index.now) log.old log.new
+        result }
 {
     let mut all = Vec::new(alloc);
     for one in decided {
@@ -76,12 +71,8 @@ pub(crate) fn befores_of<F, I: qm_index::Unordered<Value = Location<F>>, L: Item
         ≡ filter_map (before_evicted
         (list ++ operations_of (touch_views U.view U.Key.bytes U.Value.bytes made.now)))
         (decided_views U.Key.bytes U.Value.bytes decided.now))) }
-    ensures read { IsRead L.reads log.old log.new }
-    ensures error { IfErr result (IsReadError L.reads log.old log.new) }
-    ensures whole { (lent : List model.Operation)
-        → IsLent L.reads U.form I.index_key (I.entries index.now) log.old lent
-        → NoneBelow (L.reads.start log.old) lent
-        → IfErr result (λ e. (n : ℕ) → e ≢ Error.Journal (JournalError.ItemPruned n)) }
+    ensures reads { ReadsLent L.reads U.form I.index_key (I.entries index.now) log.old log.new
+        result }
 {
     if !U::is_ordered() || evicted(decided) == 0 {
         return Ok(Vec::new(alloc));

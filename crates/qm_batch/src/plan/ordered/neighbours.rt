@@ -1,18 +1,17 @@
 //! What stands in an ordered base list before the keys that are created or deleted.
 
-ghost use Rattle.std.specs.Prelude.{◌≡◌, ◌≢◌, true, ℕ, List, map, filter_map, IfSome, IfOk, IfErr};
+ghost use Rattle.std.specs.Prelude.{◌≡◌, true, List, map, filter_map, IfSome, IfOk};
 ghost use Rattle.qm_model.specs.Operations as operations;
 ghost use Rattle.qm_model.specs.Ordered.{IsRing};
 ghost use Rattle.qm_model.specs.Writes as model;
 ghost use Rattle.qm_step.specs.Layers.{LeadOver};
-ghost use Rattle.qm_base.specs.Reads.{IsRead, IsReadError};
-ghost use Rattle.qm_step.specs.Lent.{IsLent, NoneBelow};
+ghost use Rattle.qm_step.specs.Lent.{IsLent, ReadsLent};
 ghost use Rattle.qm_step.specs.OrderedViews.{neighbour_view};
 ghost use Rattle.qm_step.specs.PlanViews.{linked_view};
 ghost use Rattle.qm_step.specs.Rings.{linked_in, neighbour_in};
 
 use crate::neighbours::previous;
-use qm_base::{Error, Items, JournalError, Location};
+use qm_base::{Error, Items, Location};
 use qm_step::Layer;
 use qm_step::kind::Steps;
 use qm_step::neighbour::{Neighbour, is_changed};
@@ -43,12 +42,8 @@ pub(crate) fn neighbours_of<
         → IfSome (L.reads.told log.old) (λ _.
         IfOk result (λ neighbours. map (neighbour_view U.view U.Key.bytes) neighbours.items
         ≡ filter_map (neighbour_in base) ws)) }
-    ensures read { IsRead L.reads log.old log.new }
-    ensures error { IfErr result (IsReadError L.reads log.old log.new) }
-    ensures whole { (lent : List operations.Operation)
-        → IsLent L.reads U.form I.index_key (I.entries index.now) log.old lent
-        → NoneBelow (L.reads.start log.old) lent
-        → IfErr result (λ e. (n : ℕ) → e ≢ Error.Journal (JournalError.ItemPruned n)) }
+    ensures reads { ReadsLent L.reads U.form I.index_key (I.entries index.now) log.old log.new
+        result }
 {
     let mut neighbours = Vec::new(alloc);
     if !U::is_ordered() {

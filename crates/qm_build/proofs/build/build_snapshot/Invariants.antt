@@ -3,12 +3,12 @@ use Rattle.std.specs.Prelude.{IfSome, is_none}
 use Rattle.qm_model.specs.Operations.{Operation}
 use Rattle.qm_build.specs.Building.{ArePlaced, AreWithin, between}
 use Rattle.qm_build.specs.Cached.{AreKeys}
-use Rattle.qm_build.specs.Reads.{operation_at, HasOperations, IsRead}
+use Rattle.qm_build.specs.Reads.{operation_at, HasOperations, KeepsLog}
 use Rattle.qm_build.proofs.build.build_snapshot.Given as goal
 
 abbrev pub invariant-loop-at : goal.invariant-loop-at
 invariant-loop-at g l = record {
-  read : IsRead g.C.Store g.F.Family.shape g.H.Digest.Digest.bytes g.H.Hasher.hash l.initial.log l.log;
+  read : KeepsLog g.C.Store g.F.Family.shape g.H.Digest.Digest.bytes g.H.Hasher.hash l.initial.log l.log;
   here : l.at ≡ l.floor + length l.snapshot.activity;
   within : AreWithin l.floor l.at (g.I.Unordered.entries l.index);
   counted : l.snapshot.live ≤ length l.snapshot.activity;

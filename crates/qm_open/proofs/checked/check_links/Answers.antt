@@ -6,12 +6,12 @@ use Rattle.qm_base.specs.declared.error.Error.{Error}
 use Rattle.qm_base.specs.declared.error.Error.TheVariants as errors
 use Rattle.qm_store.specs.declared.Store as store
 use Rattle.qm_store.specs.Log.{Log}
-use Rattle.qm_build.specs.Reads.{IsReadError}
+use Rattle.qm_build.specs.Reads.{IsRebuildError}
 use Rattle.qm_build.proofs.Decoding.{each}
 use Rattle.qm_build.proofs.Reading.{read-none}
 use Rattle.qm_open.proofs.checked.check_links.Goals as goal
 
-no-links : {C D : Type 0} (members : store.Ghosts C) (a b : Log C D) (e : Error) → IsReadError members a b e → e ≢ errors.DataCorrupted corrupt.LinksFormNoRing
+no-links : {C D : Type 0} (members : store.Ghosts C) (a b : Log C D) (e : Error) → IsRebuildError members a b e → e ≢ errors.DataCorrupted corrupt.LinksFormNoRing
 no-links members a b e (inl (inl memory)) = λ is. cc
 no-links members a b e (inl (inr (fault, rose))) = λ is. cc
 no-links members a b e (inr lost) = λ is. cc

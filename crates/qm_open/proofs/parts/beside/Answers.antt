@@ -8,7 +8,7 @@ use Rattle.qm_base.specs.declared.error.Error.TheVariants as errors
 use Rattle.qm_model.specs.Bits.{bits}
 use Rattle.qm_model.specs.Live.{live}
 use Rattle.qm_build.specs.Built.{NoneBelow}
-use Rattle.qm_build.specs.Reads.{HasOperations, IsRead, IsReadError, IsUndecoded, items_within}
+use Rattle.qm_build.specs.Reads.{HasOperations, KeepsLog, IsRebuildError, IsUndecoded, items_within}
 use Rattle.qm_build.proofs.Reading.{error-then, operations-then, read-then}
 use Rattle.qm_build.proofs.Decoding.{each, known, over, one-undecoded, then-told}
 use Rattle.qm_open.proofs.Beside.{from-floor}
@@ -48,7 +48,7 @@ returns-in_err-root g c =
       bits = tt;
       decoded = each told (λ _. tt);
       undecoded = λ is. absurd (no-item is);
-      read = subst (IsRead members g.F.Family.shape g.H.Digest.Digest.bytes g.H.Hasher.hash log) (sym c.root_of.ensures.same) c.build_snapshot.ensures.read;
+      read = subst (KeepsLog members g.F.Family.shape g.H.Digest.Digest.bytes g.H.Hasher.hash log) (sym c.root_of.ensures.same) c.build_snapshot.ensures.read;
       error = inl (inl refl);
     })
 
@@ -64,7 +64,7 @@ returns-in_err-activity g c =
       bits = tt;
       decoded = each told (λ _. tt);
       undecoded = λ is. absurd (no-item is);
-      read = subst (IsRead members g.F.Family.shape g.H.Digest.Digest.bytes g.H.Hasher.hash log) (sym c.root_of.ensures.same) c.build_snapshot.ensures.read;
+      read = subst (KeepsLog members g.F.Family.shape g.H.Digest.Digest.bytes g.H.Hasher.hash log) (sym c.root_of.ensures.same) c.build_snapshot.ensures.read;
       error = inl (inl refl);
     })
 
@@ -92,8 +92,8 @@ returns-in_err-metadata g c =
           let low : s.start ≤ c.args.floor = subst (λ n. n ≤ c.args.floor) (sym (start ∙ c.bounds.ensures.first)) c.requires.kept in
           let below = last-below c.args.floor log.tree.leaves c.requires.below in
           one-undecoded form s c.args.floor log.tree.leaves (log.tree.leaves - 1) low below.0 below.1 (subst (λ t. IsUndecoded form s (t.leaves - 1)) (ap (λ l. l.tree) same ∙ first.tree) (corrupt is)));
-      read = read-then members shape bytes hash log made new first (subst (λ l. IsRead members shape bytes hash l new) same c.last_metadata.ensures.read);
-      error = error-then members shape bytes hash log made new c.in_err-metadata.field-0.0 first (subst (λ l. IsReadError members l new c.in_err-metadata.field-0.0) same c.in_err-metadata.ensures.error);
+      read = read-then members shape bytes hash log made new first (subst (λ l. KeepsLog members shape bytes hash l new) same c.last_metadata.ensures.read);
+      error = error-then members shape bytes hash log made new c.in_err-metadata.field-0.0 first (subst (λ l. IsRebuildError members l new c.in_err-metadata.field-0.0) same c.in_err-metadata.ensures.error);
     })
 
 pub returns : goal.returns
@@ -110,7 +110,7 @@ returns g c =
     let told = members.told log.store in
     let same : c.root_of.new.log ≡ made = c.root_of.ensures.same in
     let first = c.build_snapshot.ensures.read in
-    let last = subst (λ l. IsRead members shape bytes hash l new) same c.last_metadata.ensures.read in
+    let last = subst (λ l. KeepsLog members shape bytes hash l new) same c.last_metadata.ensures.read in
     let snapshot = c.in_ok-snapshot.ensures in
     let bit = c.in_ok-activity.ensures in
     record {

@@ -12,4 +12,4 @@ returns-clause-value g c = λ list base stands from.
 
 pub returns-clause-reads : goal.returns-clause-reads
 returns-clause-reads g c =
-    lent-reads g.C.Store (layout_of g.N.Chunks.LEN g.H.Digest.Digest.bytes g.H.Hasher g.F.Family g.U.Update g.I.Unordered) c.args.self.now _ c.read_key.new.log c.read_key.result c.self.view_is c.read_key.ensures.read c.read_key.ensures.error c.read_key.ensures.whole
+    lent-reads g.C.Store (layout_of g.N.Chunks.LEN g.H.Digest.Digest.bytes g.H.Hasher g.F.Family g.U.Update g.I.Unordered) c.args.self.now _ c.read_key.new.log c.read_key.result c.self.view_is c.read_key.ensures.reads

@@ -15,4 +15,4 @@ returns-clause-value g c = λ list stands.
 
 pub returns-clause-reads : goal.returns-clause-reads
 returns-clause-reads g c =
-    lent-reads g.C.Store (laid_out g.N.Chunks.LEN g.H.Digest.Digest.bytes g.H.Hasher.hash g.F.Family.shape g.U.Update.form g.I.Unordered.index_key) c.args.self.now _ c.holder.new.log c.holder.result c.self.view_is c.holder.ensures.read c.holder.ensures.error c.holder.ensures.whole
+    lent-reads g.C.Store (laid_out g.N.Chunks.LEN g.H.Digest.Digest.bytes g.H.Hasher.hash g.F.Family.shape g.U.Update.form g.I.Unordered.index_key) c.args.self.now _ c.holder.new.log c.holder.result c.self.view_is c.holder.ensures.reads

@@ -13,4 +13,4 @@ returns-clause-value g c = λ list base stands from ring.
 
 pub returns-clause-reads : goal.returns-clause-reads
 returns-clause-reads g c =
-    lent-reads g.C.Store (laid_out g.N.Chunks.LEN g.H.Digest.Digest.bytes g.H.Hasher.hash g.F.Family.shape g.U.Update.form g.I.Unordered.index_key) c.args.self.now _ c.next_key.new.log c.next_key.result c.self.view_is c.next_key.ensures.read c.next_key.ensures.error c.next_key.ensures.whole
+    lent-reads g.C.Store (laid_out g.N.Chunks.LEN g.H.Digest.Digest.bytes g.H.Hasher.hash g.F.Family.shape g.U.Update.form g.I.Unordered.index_key) c.args.self.now _ c.next_key.new.log c.next_key.result c.self.view_is c.next_key.ensures.reads

@@ -20,7 +20,8 @@ returns-clause-next g c = λ list known is from ring reads.
 pub returns-clause-whole : goal.returns-clause-whole
 returns-clause-whole g c = λ list is none low.
     let at = subst (λ db. IsDatabase g.C.Store (record { hashing = hashing_with g.H.Digest.Digest.bytes g.H.Hasher.hash g.F.Family.shape g.U.Update.form; chunk = g.N.Chunks.LEN; index_key = g.I.Unordered.index_key }) db list) (sym c.self.view_is) is in
-    c.staged.ensures.whole list at.lent (subst (λ db. NoneBelow db.log.tree.start list) (sym c.self.view_is) none) (subst (λ db. db.log.tree.start ≤ c.args.base.now.floor) (sym c.self.view_is) low)
+    let all = record { list = list; lent = at.lent; none = subst (λ db. NoneBelow db.log.tree.start list) (sym c.self.view_is) none } in
+    c.staged.ensures.reads.whole (all, subst (λ db. db.log.tree.start ≤ c.args.base.now.floor) (sym c.self.view_is) low)
 
 pub returns-clause-error : goal.returns-clause-error
-returns-clause-error g c = subst (λ db. IfErr c.staged.result (IsReadError g.C.Store db.log c.staged.new.log)) c.self.view_is c.staged.ensures.error
+returns-clause-error g c = subst (λ db. IfErr c.staged.result (IsReadError g.C.Store db.log c.staged.new.log)) c.self.view_is c.staged.ensures.reads.error

@@ -1,16 +1,14 @@
-use Rattle.std.proofs.Common.{◌∙◌, ◌++◌, ap₂, sym, map, subst, inl, refl}
+use Rattle.std.proofs.Common.{◌∙◌, ◌++◌, ap₂, map, refl}
 use Rattle.std.specs.Map.Iter.{deref}
 use Rattle.std.proofs.lemmas.Map.Iter.{rest_more, rest_all}
 use Rattle.std.proofs.lemmas.Result.{err_from_is_err_and}
 use Rattle.qm_model.proofs.Results.{told-any, told-both, told-err, told-one}
-use Rattle.qm_step.specs.Lent.{NoneBelow}
 use Rattle.qm_step.specs.PlanViews.{last_write_view, linked_view}
 use Rattle.qm_step.specs.Rings.{linked_in}
 use Rattle.qm_step.proofs.PlanLoops.{drained-more, drained-all}
-use Rattle.qm_base.proofs.Reading.{read-none, read-then, error-then}
-use Rattle.qm_step.proofs.Reading.{lent-then, told}
+use Rattle.qm_step.proofs.Reading.{lent-then, told, whole-then}
 use Rattle.qm_step.proofs.Steps.{map-twice}
-use Rattle.qm_batch.proofs.Memory.{no-item}
+use Rattle.qm_base.proofs.Reading.{reads-on, reads-short, reads-then, read-none, read-then}
 use Rattle.qm_batch.proofs.plan.sites.find_sites.Goals as goal
 
 pub returns-in_err-stands : goal.returns-in_err-stands
@@ -18,13 +16,7 @@ returns-in_err-stands g c =
     let exit = err_from_is_err_and c.from_residual.result c.from_residual.ensures.1 in
     record {
       value = λ lent base is from known. told-err _ (g.L.Items.reads.told c.args.log.now) c.from_residual.result exit.0 exit.1;
-      read = read-then g.L.Items.reads g.met.L.Items.read_again c.args.log.now c.loop-write.log c.place_of.new.log c.loop-write.invariant.read c.place_of.ensures.read;
-      error = rw (exit.1, exit.2) (error-then g.L.Items.reads g.met.L.Items.failed_later c.args.log.now c.loop-write.log c.place_of.new.log _ c.loop-write.invariant.read c.in_err-stands.ensures.error);
-      whole = λ lent is none.
-          let entries = g.I.Unordered.entries c.args.index.now in
-          let read = c.loop-write.invariant.read in
-          let mid = lent-then g.L.Items.reads g.U.Update.form g.I.Unordered.index_key entries c.args.log.now c.loop-write.log lent read is in
-          rw (exit.1, exit.2) (c.in_err-stands.ensures.whole lent mid (subst (λ t. NoneBelow t lent) (sym read.start) none));
+      reads = reads-then g.L.Items.reads g.met.L.Items.read_again g.met.L.Items.failed_later c.from_residual.result c.loop-write.invariant.read (whole-then g.L.Items.reads _ g.I.Unordered.index_key _ _ _ c.loop-write.invariant.read) (reads-on g.L.Items.reads c.from_residual.result c.in_err-stands.ensures.reads exit.1 exit.2);
     }
 
 pub returns-in_err-push : goal.returns-in_err-push
@@ -32,9 +24,7 @@ returns-in_err-push g c =
     let exit = err_from_is_err_and c.from_residual-in_err-push.result c.from_residual-in_err-push.ensures.1 in
     record {
       value = λ lent base is from known. told-err _ (g.L.Items.reads.told c.args.log.now) c.from_residual-in_err-push.result exit.0 exit.1;
-      read = read-then g.L.Items.reads g.met.L.Items.read_again c.args.log.now c.loop-write.log c.place_of.new.log c.loop-write.invariant.read c.place_of.ensures.read;
-      error = rw (exit.1, exit.2) (inl refl);
-      whole = λ lent is none. rw (exit.1, exit.2) no-item;
+      reads = reads-short g.L.Items.reads c.from_residual-in_err-push.result (read-then g.L.Items.reads g.met.L.Items.read_again c.args.log.now c.loop-write.log c.place_of.new.log c.loop-write.invariant.read c.place_of.ensures.reads.left) (rw (exit.1, exit.2) refl);
     }
 
 pub loop-write-init : goal.loop-write-init
@@ -54,7 +44,7 @@ loop-write-preserved g c =
     let key = g.U.Key.ByteString.bytes in
     let value = g.U.Value.ByteString.bytes in
     record {
-      read = read-then g.L.Items.reads g.met.L.Items.read_again c.args.log.now c.loop-write.log c.place_of.new.log read c.place_of.ensures.read;
+      read = read-then g.L.Items.reads g.met.L.Items.read_again c.args.log.now c.loop-write.log c.place_of.new.log read c.place_of.ensures.reads.left;
       value = λ lent base is from known.
           let mid = lent-then g.L.Items.reads _ g.I.Unordered.index_key (g.I.Unordered.entries c.args.index.now) c.args.log.now c.loop-write.log lent read is in
           told-both _ _ _ (g.L.Items.reads.told c.args.log.now) (c.loop-write.invariant.value lent base is from known)
@@ -72,7 +62,5 @@ returns g c = record {
       told-one _ _ (g.L.Items.reads.told c.args.log.now) (c.loop-write.invariant.value lent base is from known) (λ all.
       drained-all (linked_view key value) (λ w. linked_in base (last_write_view key value w)) c.loop-write.sites.items c.loop-write.write-iterator (map (λ e. linked_in base (last_write_view key value e.1)) c.args.last.now.entries)
       (rest_all deref c.loop-write.write-iterator c.next.new.self c.next.result c.in-None.is c.next.ensures.steps) all);
-  read = c.loop-write.invariant.read;
-  error = tt;
-  whole = λ lent is none. tt;
+  reads = reads-short g.L.Items.reads _ c.loop-write.invariant.read tt;
 }

@@ -1,14 +1,13 @@
-use Rattle.std.proofs.Common.{◌∙◌, None, ap, sym, subst, refl, map, inl}
+use Rattle.std.proofs.Common.{◌∙◌, None, ap, sym, subst, refl, map}
 use Rattle.std.specs.Prelude.{option_map, option_and_then}
 use Rattle.qm_model.specs.Forms.{IsSpelling, spelling}
 use Rattle.qm_model.proofs.Results.{ok-then, told-any, told-one, told-err}
 use Rattle.qm_operations.specs.Views.{operation_view}
 use Rattle.qm_step.specs.Changes.{said_by}
 use Rattle.qm_step.proofs.Spelled.{spelled-there, unspelled-there}
-use Rattle.qm_batch.proofs.Memory.{memory-error, memory-whole, no-item}
 use Rattle.qm_batch.proofs.PlanFinds.{match-some, match-none, standing-none, moved-found, moved-not}
-use Rattle.qm_base.proofs.Reading.{read-none}
 use Rattle.std.proofs.lemmas.Result.{err_from_is_err_and}
+use Rattle.qm_base.proofs.Reading.{reads-on, reads-short, read-none}
 use Rattle.qm_batch.proofs.plan.walk.unreplaced_at.Goals as goal
 
 pub returns-then-is_moved : goal.returns-then-is_moved
@@ -20,9 +19,7 @@ returns-then-is_moved g c = record {
       (ok-then c.twin_update.result c.twin_update.ensures.value (λ found shown.
       moved-found base made c.args.at op there g.U.Update.view found c.is_moved.result c.if-is_moved.true shown
       (c.is_moved.ensures lent base made op is.indexed leads from keyed replaced there c.key_of_update.ensures)));
-  read = read-none g.L.Items.reads g.met.L.Items.unread c.args.log.now;
-  error = memory-error c.twin_update.result c.twin_update.ensures.memory g.L.Items.reads c.args.log.now c.args.log.now;
-  pruned = λ kept. memory-whole c.twin_update.result c.twin_update.ensures.memory;
+  reads = reads-short g.L.Items.reads c.twin_update.result (read-none g.L.Items.reads g.met.L.Items.unread c.args.log.now) c.twin_update.ensures.memory;
 }
 
 pub returns-else-is_moved : goal.returns-else-is_moved
@@ -32,9 +29,7 @@ returns-else-is_moved g c = record {
       let there = match-some c.in_layers.result c.in-Some.operation _ _ c.in-Some.is (c.in_layers.ensures lent base leads within) in
       told-any _ (g.L.Items.reads.told c.args.log.now)
       (moved-not base made c.args.at op there c.is_moved.result c.if-is_moved.false (c.is_moved.ensures lent base made op is.indexed leads from keyed replaced there c.key_of_update.ensures));
-  read = read-none g.L.Items.reads g.met.L.Items.unread c.args.log.now;
-  error = tt;
-  pruned = λ kept. tt;
+  reads = reads-short g.L.Items.reads _ (read-none g.L.Items.reads g.met.L.Items.unread c.args.log.now) tt;
 }
 
 pub returns-in_default-2 : goal.returns-in_default-2
@@ -45,9 +40,7 @@ returns-in_default-2 g c = record {
       let none = unspelled-there form lent c.args.at (sym said ∙ ap (option_map (λ v. v.items)) c.in_default-2.is) in
       let same = match-none c.in_layers.result _ _ c.in_default.is (c.in_layers.ensures lent base leads within) in
       standing-none base made c.args.at within None (sym (ap (option_and_then said_by) (same ∙ none))) refl);
-  read = c.read_item.ensures.read;
-  error = tt;
-  pruned = λ kept. tt;
+  reads = reads-short g.L.Items.reads _ c.read_item.ensures.reads.left tt;
 }
 
 pub returns-then-is_moved-2 : goal.returns-then-is_moved-2
@@ -62,9 +55,7 @@ returns-then-is_moved-2 g c = record {
       let lent_key = c.update_key.ensures op (subst (λ bs. IsSpelling form bs op) (sym c.deref.ensures.value) spelled.2) in
       let found = c.in_ok-update_in.ensures op (subst (λ bs. IsSpelling form bs op) (sym c.deref-then-is_moved-2.ensures.value) spelled.2) in
       moved-found base made c.args.at op there g.U.Update.view c.in_ok-update_in.field-0 c.is_moved-2.result c.if-is_moved-2.true found (c.is_moved-2.ensures lent base made op is.indexed leads from keyed replaced there lent_key));
-  read = c.read_item.ensures.read;
-  error = tt;
-  pruned = λ kept. tt;
+  reads = reads-short g.L.Items.reads _ c.read_item.ensures.reads.left tt;
 }
 
 pub returns : goal.returns
@@ -78,9 +69,7 @@ returns g c = record {
       let there = same ∙ spelled.1 in
       let lent_key = c.update_key.ensures op (subst (λ bs. IsSpelling form bs op) (sym c.deref.ensures.value) spelled.2) in
       moved-not base made c.args.at op there c.is_moved-2.result c.if-is_moved-2.false (c.is_moved-2.ensures lent base made op is.indexed leads from keyed replaced there lent_key));
-  read = c.read_item.ensures.read;
-  error = tt;
-  pruned = λ kept. tt;
+  reads = reads-short g.L.Items.reads _ c.read_item.ensures.reads.left tt;
 }
 
 pub returns-in_err-item : goal.returns-in_err-item
@@ -88,9 +77,7 @@ returns-in_err-item g c =
     let exit = err_from_is_err_and c.from_residual.result c.from_residual.ensures.1 in
     record {
       value = λ lent base made is leads within from keyed replaced. told-err _ (g.L.Items.reads.told c.args.log.now) c.from_residual.result exit.0 exit.1;
-      read = c.read_item.ensures.read;
-      error = rw (exit.1, exit.2) c.in_err-item.ensures.error;
-      pruned = λ kept. rw (exit.1, exit.2) (c.in_err-item.ensures.pruned kept);
+      reads = reads-on g.L.Items.reads c.from_residual.result c.in_err-item.ensures.reads exit.1 exit.2;
     }
 
 pub returns-in_err-update_in : goal.returns-in_err-update_in
@@ -98,7 +85,5 @@ returns-in_err-update_in g c =
     let exit = err_from_is_err_and c.from_residual-in_err-update_in.result c.from_residual-in_err-update_in.ensures.1 in
     record {
       value = λ lent base made is leads within from keyed replaced. told-err _ (g.L.Items.reads.told c.args.log.now) c.from_residual-in_err-update_in.result exit.0 exit.1;
-      read = c.read_item.ensures.read;
-      error = rw (exit.1, exit.2) (inl refl);
-      pruned = λ kept. rw (exit.1, exit.2) no-item;
+      reads = reads-short g.L.Items.reads c.from_residual-in_err-update_in.result c.read_item.ensures.reads.left (rw (exit.1, exit.2) refl);
     }

@@ -8,9 +8,8 @@ use Rattle.qm_step.specs.Going.{AreDead, AreDecided}
 use Rattle.qm_step.specs.PlanViews.{decided_views}
 use Rattle.qm_batch.specs.PlanPaths.{found_view}
 use Rattle.qm_step.specs.Touches.{IsMoveAt}
-use Rattle.qm_base.proofs.Reading.{read-none}
-use Rattle.qm_batch.proofs.Memory.{memory-error, memory-whole}
 use Rattle.qm_batch.proofs.PlanGoing.{chosen, dead-here, dead-none, going-reached, going-short, going-spent, reached-at}
+use Rattle.qm_base.proofs.Reading.{reads-on, reads-short, read-none}
 use Rattle.qm_batch.proofs.plan.walk.visit.Goals as goal
 
 -- a walk that comes to a location may still decide a live update
@@ -34,9 +33,7 @@ returns-then-not-comes_to g c = record {
   low = c.comes_to.ensures.low;
   high = let high = c.comes_to.ensures.high in omega (arith, high);
   end = c.comes_to.ensures.end;
-  read = read-none g.L.Items.reads g.met.L.Items.unread c.args.log.now;
-  error = tt;
-  pruned = λ kept. tt;
+  reads = reads-short g.L.Items.reads _ (read-none g.L.Items.reads g.met.L.Items.unread c.args.log.now) tt;
 }
 
 pub decide-requires-clause-entries : goal.decide-requires-clause-entries
@@ -58,9 +55,7 @@ returns-in_err-found g c =
       low = rw exit.1 tt;
       high = rw exit.1 tt;
       end = rw exit.1 tt;
-      read = c.live_at.ensures.read;
-      error = rw (exit.1, exit.2) c.in_err-found.ensures.error;
-      pruned = λ kept. rw (exit.1, exit.2) (c.in_err-found.ensures.pruned kept);
+      reads = reads-on g.L.Items.reads c.from_residual.result c.in_err-found.ensures.reads exit.1 exit.2;
     }
 
 pub returns-in-Some : goal.returns-in-Some
@@ -85,9 +80,7 @@ returns-in-Some g c = record {
   low = let low = c.comes_to.ensures.low in ok-then c.decide.result c.decide.ensures.low (λ goes later. omega (arith, low, later));
   high = let high = c.comes_to.ensures.high in ok-then c.decide.result c.decide.ensures.high (λ goes later. omega (arith, high, later));
   end = ok-then c.decide.result c.decide.ensures.end (λ goes same. same ∙ c.comes_to.ensures.end);
-  read = c.live_at.ensures.read;
-  error = memory-error c.decide.result c.decide.ensures.memory g.L.Items.reads c.args.log.now c.live_at.new.log;
-  pruned = λ kept. memory-whole c.decide.result c.decide.ensures.memory;
+  reads = reads-short g.L.Items.reads c.decide.result c.live_at.ensures.reads.left c.decide.ensures.memory;
 }
 
 pub returns-in-None : goal.returns-in-None
@@ -108,7 +101,5 @@ returns-in-None g c = record {
   low = c.comes_to.ensures.low;
   high = let high = c.comes_to.ensures.high in omega (arith, high);
   end = c.comes_to.ensures.end;
-  read = c.live_at.ensures.read;
-  error = tt;
-  pruned = λ kept. tt;
+  reads = reads-short g.L.Items.reads _ c.live_at.ensures.reads.left tt;
 }

@@ -5,8 +5,8 @@ use Rattle.qm_model.proofs.Results.{told-any, told-err, told-one, told-then}
 use Rattle.qm_step.specs.Going.{AreDeadBetween, IsSpaced}
 use Rattle.qm_batch.proofs.PlanGoing.{between-then, spaced-below}
 use Rattle.qm_batch.proofs.PlanRounds.{chosen-false, chosen-true, in-round}
-use Rattle.qm_base.proofs.Reading.{read-none, read-then, error-then}
 use Rattle.qm_step.proofs.Reading.{lent-then, told}
+use Rattle.qm_base.proofs.Reading.{reads-short, read-none, read-then, reads-then, reads-on}
 use Rattle.qm_batch.proofs.plan.walk.visit_all.Goals as goal
 
 pub loop-at-init : goal.loop-at-init
@@ -42,15 +42,16 @@ returns-in_err-goes g c =
       low = rw exit.1 tt;
       high = rw exit.1 tt;
       end = rw exit.1 tt;
-      read = read-then g.L.Items.reads g.met.L.Items.read_again c.args.log.now c.loop-at.log c.visit.new.log c.loop-at.invariant.read c.visit.ensures.read;
-      error = rw (exit.1, exit.2) (error-then g.L.Items.reads g.met.L.Items.failed_later c.args.log.now c.loop-at.log c.visit.new.log _ c.loop-at.invariant.read c.in_err-goes.ensures.error);
-      pruned = λ above.
+      reads =
+          reads-then g.L.Items.reads g.met.L.Items.read_again g.met.L.Items.failed_later c.from_residual.result c.loop-at.invariant.read
+          (λ above.
           let same = (c.loop-at.invariant.read).start in
           let here = in-round c.args.round.now c.loop-at.at-index c.at-item.result c.loop-at-test.true c.at-item.is in
           let spaced = subst (λ xs. IsSpaced c.loop-at.going.walk.floor xs c.args.going.now.walk.end) here (c.loop-at.invariant.spaced c.args.going.now.walk.end c.requires) in
           let first = spaced.0 in
           let low = c.loop-at.invariant.low in
-          rw (exit.1, exit.2) (c.in_err-goes.ensures.pruned (omega (arith, same, low, first, above, c.get.ensures)));
+          omega (arith, same, low, first, above, c.get.ensures))
+          (reads-on g.L.Items.reads c.from_residual.result c.in_err-goes.ensures.reads exit.1 exit.2);
     }
 
 pub returns-then-not-goes : goal.returns-then-not-goes
@@ -72,9 +73,7 @@ returns-then-not-goes g c = record {
       let past = c.in_ok-goes.ensures.high in
       omega (arith, high, past, c.get.ensures);
   end = c.in_ok-goes.ensures.end ∙ c.loop-at.invariant.end;
-  read = read-then g.L.Items.reads g.met.L.Items.read_again c.args.log.now c.loop-at.log c.visit.new.log c.loop-at.invariant.read c.visit.ensures.read;
-  error = tt;
-  pruned = λ above. tt;
+  reads = reads-short g.L.Items.reads _ (read-then g.L.Items.reads g.met.L.Items.read_again c.args.log.now c.loop-at.log c.visit.new.log c.loop-at.invariant.read c.visit.ensures.reads.left) tt;
 }
 
 pub loop-at-preserved : goal.loop-at-preserved
@@ -89,7 +88,7 @@ loop-at-preserved g c =
     let below : c.visit.new.going.walk.floor ≤ c.at-item.result + 1 = omega (arith, past, same) in
     let here = in-round c.args.round.now c.loop-at.at-index c.at-item.result c.loop-at-test.true c.at-item.is in
     record {
-      read = read-then g.L.Items.reads g.met.L.Items.read_again c.args.log.now c.loop-at.log c.visit.new.log read c.visit.ensures.read;
+      read = read-then g.L.Items.reads g.met.L.Items.read_again c.args.log.now c.loop-at.log c.visit.new.log read c.visit.ensures.reads.left;
       low = omega (arith, low, later);
       end = c.in_ok-goes.ensures.end ∙ end;
       spaced = λ next spaced.
@@ -114,7 +113,5 @@ returns g c = record {
   low = c.loop-at.invariant.low;
   high = λ next spaced. subst (λ xs. IsSpaced c.loop-at.going.walk.floor xs next) (drop_all c.loop-at.at-index c.args.round.now c.loop-at-test.false) (c.loop-at.invariant.spaced next spaced);
   end = c.loop-at.invariant.end;
-  read = c.loop-at.invariant.read;
-  error = tt;
-  pruned = λ above. tt;
+  reads = reads-short g.L.Items.reads _ c.loop-at.invariant.read tt;
 }

@@ -3,7 +3,7 @@ use Rattle.std.specs.Prelude.{IfSome}
 use Rattle.qm_model.specs.Operations.{Operation}
 use Rattle.qm_model.specs.Walk.{Walked}
 use Rattle.qm_step.specs.Going.{AreDeadBetween, IsGoing, IsSpaced}
-use Rattle.qm_base.specs.Reads.{IsRead}
+use Rattle.qm_base.specs.Reads.{KeepsItems}
 use Rattle.qm_step.specs.Lent.{IsLent}
 use Rattle.qm_step.specs.PlanViews.{decided_views}
 use Rattle.qm_batch.specs.PlanPaths.{path_view, IsPath}
@@ -14,7 +14,7 @@ invariant-loop-at g l =
     let key = g.U.Key.ByteString.bytes in
     let value = g.U.Value.ByteString.bytes in
     record {
-      read : IsRead g.L.Items.reads l.initial.log l.log;
+      read : KeepsItems g.L.Items.reads l.initial.log l.log;
       low : l.initial.going.walk.floor ≤ l.going.walk.floor;
       end : l.going.walk.end ≡ l.initial.going.walk.end;
       spaced : (next : ℕ) → IsSpaced l.initial.going.walk.floor l.round next → IsSpaced l.going.walk.floor (drop l.at-index l.round) next;

@@ -1,15 +1,14 @@
-use Rattle.std.proofs.Common.{◌≡◌, ◌∙◌, ◌+◌, length, map, max, min, ap, sym, subst, arith, ℕ, inl, refl}
+use Rattle.std.proofs.Common.{◌≡◌, ◌∙◌, ◌+◌, length, map, max, min, ap, sym, subst, arith, ℕ, refl}
 use Rattle.qm_model.proofs.Results.{told-one, told-err}
 use Rattle.qm_model.specs.Live.{floor}
 use Rattle.qm_model.specs.Walk.{walk}
 use Rattle.qm_step.specs.Going.{AreDecided}
 use Rattle.qm_step.specs.PlanViews.{decided_view, decided_views, touch_view}
-use Rattle.qm_base.proofs.Reading.{read-none}
-use Rattle.qm_batch.proofs.Memory.{no-item}
 use Rattle.qm_batch.proofs.PlanGoing.{going-begins}
 use Rattle.qm_batch.proofs.PlanMoves.{made-long}
 use Rattle.std.proofs.lemmas.Result.{err_from_is_err_and}
 use Rattle.qm_chain.specs.declared.walk.Walk.{Walk}
+use Rattle.qm_base.proofs.Reading.{reads-short, read-none, reads-on, reads-where}
 use Rattle.qm_batch.proofs.plan.walk.walk_from.Goals as goal
 
 pub returns : goal.returns
@@ -30,9 +29,7 @@ returns g c = record {
       told-one _ _ (g.L.Items.reads.told c.args.log.now) (c.in_ok-walk_on.ensures.value lent base list _ is active on
       (going-begins g.P.Policy.rules base list _ c.new-walk.result c.args.policy.now c.new-2.result c.args.limits.entries c.args.limits.skips (ap (map (decided_view key value)) c.new-3.ensures.items) top begun)) (λ decided.
       subst (λ (n : ℕ). AreDecided base list (decided_views key value c.walk_on.new.going.decided.items) n c.walk_on.new.policy (walk g.P.Policy.rules list (floor base) (record { entries = c.args.limits.entries; skips = c.args.limits.skips }) c.args.policy.now)) (sym c.get.ensures) decided);
-  read = c.walk_on.ensures.read;
-  error = tt;
-  pruned = λ above. tt;
+  reads = reads-short g.L.Items.reads _ c.walk_on.ensures.reads.left tt;
 }
 
 pub returns-in_err-walk_on : goal.returns-in_err-walk_on
@@ -40,11 +37,12 @@ returns-in_err-walk_on g c =
     let exit = err_from_is_err_and c.from_residual-in_err-walk_on.result c.from_residual-in_err-walk_on.ensures.1 in
     record {
       value = λ lent base list is active behind. told-err _ (g.L.Items.reads.told c.args.log.now) c.from_residual-in_err-walk_on.result exit.0 exit.1;
-      read = c.walk_on.ensures.read;
-      error = rw (exit.1, exit.2) c.in_err-walk_on.ensures.error;
-      pruned = λ above.
+      reads =
+          reads-on g.L.Items.reads c.from_residual-in_err-walk_on.result
+          (reads-where g.L.Items.reads _ (λ above.
           let floor = ap (λ (w : Walk _). w.floor) c.new-walk.ensures in
-          rw (exit.1, exit.2) (c.in_err-walk_on.ensures.pruned (omega (arith, above, floor, c.new.ensures, c.get-floor.ensures)));
+          omega (arith, above, floor, c.new.ensures, c.get-floor.ensures))
+          c.in_err-walk_on.ensures.reads) exit.1 exit.2;
     }
 
 pub returns-in_err-replaced : goal.returns-in_err-replaced
@@ -52,7 +50,5 @@ returns-in_err-replaced g c =
     let exit = err_from_is_err_and c.from_residual.result c.from_residual.ensures.1 in
     record {
       value = λ lent base list is active behind. told-err _ (g.L.Items.reads.told c.args.log.now) c.from_residual.result exit.0 exit.1;
-      read = read-none g.L.Items.reads g.met.L.Items.unread c.args.log.now;
-      error = rw (exit.1, exit.2) (inl refl);
-      pruned = λ above. rw (exit.1, exit.2) no-item;
+      reads = reads-short g.L.Items.reads c.from_residual.result (read-none g.L.Items.reads g.met.L.Items.unread c.args.log.now) (rw (exit.1, exit.2) refl);
     }

@@ -6,8 +6,8 @@ use Rattle.qm_step.specs.Going.{AreDead}
 use Rattle.qm_step.specs.PlanViews.{decided_views}
 use Rattle.qm_batch.proofs.PlanFinds.{match-none, match-some}
 use Rattle.qm_batch.proofs.PlanGoing.{dead-none, going-finished}
-use Rattle.qm_base.proofs.Reading.{read-none, read-then, error-then}
 use Rattle.qm_step.proofs.Reading.{lent-then, told}
+use Rattle.qm_base.proofs.Reading.{reads-short, read-none, read-then, reads-then, reads-on}
 use Rattle.qm_batch.proofs.plan.walk.walk_on.Goals as goal
 
 pub loop-from-init : goal.loop-from-init
@@ -34,12 +34,13 @@ returns-in_err-next g c =
     let exit = err_from_is_err_and c.from_residual.result c.from_residual.ensures.1 in
     record {
       value = λ lent base list all is active on going. told-err _ (g.L.Items.reads.told c.args.log.now) c.from_residual.result exit.0 exit.1;
-      read = read-then g.L.Items.reads g.met.L.Items.read_again c.args.log.now c.loop-from.log c.walk_round.new.log c.loop-from.invariant.read c.walk_round.ensures.read;
-      error = rw (exit.1, exit.2) (error-then g.L.Items.reads g.met.L.Items.failed_later c.args.log.now c.loop-from.log c.walk_round.new.log _ c.loop-from.invariant.read c.in_err-next.ensures.error);
-      pruned = λ above.
+      reads =
+          reads-then g.L.Items.reads g.met.L.Items.read_again g.met.L.Items.failed_later c.from_residual.result c.loop-from.invariant.read
+          (λ above.
           let same = (c.loop-from.invariant.read).start in
           let low = c.loop-from.invariant.low in
-          rw (exit.1, exit.2) (c.in_err-next.ensures.pruned (omega (arith, same, low, above)));
+          omega (arith, same, low, above))
+          (reads-on g.L.Items.reads c.from_residual.result c.in_err-next.ensures.reads exit.1 exit.2);
     }
 
 pub returns-in_default : goal.returns-in_default
@@ -51,9 +52,7 @@ returns-in_default g c = record {
       let dead = subst (λ n. AreDead list c.loop-from.going.walk.floor n) (sym c.new.ensures) so_far.0 in
       told-one _ _ (g.L.Items.reads.told c.args.log.now) (told _ _ _ read.told (c.in_ok-next.ensures.value lent base list all mid active on dead so_far.1)) (λ walked.
       match-none c.in_ok-next.next _ _ c.in_default.is walked));
-  read = read-then g.L.Items.reads g.met.L.Items.read_again c.args.log.now c.loop-from.log c.walk_round.new.log c.loop-from.invariant.read c.walk_round.ensures.read;
-  error = tt;
-  pruned = λ above. tt;
+  reads = reads-short g.L.Items.reads _ (read-then g.L.Items.reads g.met.L.Items.read_again c.args.log.now c.loop-from.log c.walk_round.new.log c.loop-from.invariant.read c.walk_round.ensures.reads.left) tt;
 }
 
 pub loop-from-smaller : goal.loop-from-smaller
@@ -72,7 +71,7 @@ loop-from-preserved g c =
     let here = next.1 in
     let within = next.2 in
     record {
-      read = read-then g.L.Items.reads g.met.L.Items.read_again c.args.log.now c.loop-from.log c.walk_round.new.log read c.walk_round.ensures.read;
+      read = read-then g.L.Items.reads g.met.L.Items.read_again c.args.log.now c.loop-from.log c.walk_round.new.log read c.walk_round.ensures.reads.left;
       low = omega (arith, low, later);
       here = omega (arith, here, c.get-from.ensures);
       within = omega (arith, within, c.get-from.ensures);
@@ -103,7 +102,5 @@ returns g c = record {
       told-one _ _ (g.L.Items.reads.told c.args.log.now) (c.loop-from.invariant.value lent base list all is active on going) (λ so_far.
       going-finished g.P.Policy.rules base list (decided_views g.U.Key.ByteString.bytes g.U.Value.ByteString.bytes c.loop-from.going.decided.items) w c.loop-from.policy all so_far.1 c.finish.new.walk (omega (arith, here, within))
       (subst (λ n. AreDead list w.floor n) last so_far.0) c.finish.ensures.none c.finish.ensures.some);
-  read = c.loop-from.invariant.read;
-  error = tt;
-  pruned = λ above. tt;
+  reads = reads-short g.L.Items.reads _ c.loop-from.invariant.read tt;
 }

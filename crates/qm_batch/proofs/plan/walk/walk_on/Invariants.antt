@@ -4,7 +4,7 @@ use Rattle.qm_model.specs.Bits.{bits}
 use Rattle.qm_model.specs.Operations.{Operation}
 use Rattle.qm_model.specs.Walk.{Walked}
 use Rattle.qm_step.specs.Going.{AreDead, IsGoing}
-use Rattle.qm_base.specs.Reads.{IsRead}
+use Rattle.qm_base.specs.Reads.{KeepsItems}
 use Rattle.qm_step.specs.Lent.{IsLent}
 use Rattle.qm_step.specs.PlanViews.{decided_views}
 use Rattle.qm_batch.specs.PlanPaths.{path_view, IsPath}
@@ -15,7 +15,7 @@ invariant-loop-from g l =
     let key = g.U.Key.ByteString.bytes in
     let value = g.U.Value.ByteString.bytes in
     record {
-      read : IsRead g.L.Items.reads l.initial.log l.log;
+      read : KeepsItems g.L.Items.reads l.initial.log l.log;
       low : l.initial.going.walk.floor ≤ l.going.walk.floor;
       here : l.going.walk.floor ≤ l.from;
       within : l.from ≤ l.going.walk.end;

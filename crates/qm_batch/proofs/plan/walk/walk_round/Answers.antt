@@ -1,13 +1,12 @@
-use Rattle.std.proofs.Common.{◌≡◌, ◌∙◌, ◌≤◌, ◌<◌, ap, sym, arith, Option, None, Some, ℕ, inl, refl}
+use Rattle.std.proofs.Common.{◌≡◌, ◌∙◌, ◌≤◌, ◌<◌, ap, sym, arith, Option, None, Some, ℕ, refl}
 use Rattle.std.specs.Prelude.{IfSome}
 use Rattle.std.proofs.lemmas.Result.{err_from_is_err_and}
 use Rattle.qm_bits.specs.Candidates.{candidates}
 use Rattle.qm_model.proofs.Results.{ok-four, told-err}
-use Rattle.qm_base.proofs.Reading.{read-none}
 use Rattle.qm_batch.specs.PlanPaths.{path_view}
 use Rattle.qm_batch.proofs.PlanGoing.{between-then}
 use Rattle.qm_batch.proofs.PlanRounds.{filled-goes, filled-next, filled-round, filled-spaced, filled-within, path-dead}
-use Rattle.qm_batch.proofs.Memory.{no-item}
+use Rattle.qm_base.proofs.Reading.{reads-short, read-none}
 use Rattle.qm_batch.proofs.plan.walk.walk_round.Goals as goal
 
 -- where the next round begins
@@ -30,9 +29,7 @@ returns-in_err-next g c =
       low = rw exit.1 tt;
       next = rw exit.1 tt;
       end = rw exit.1 tt;
-      read = read-none g.L.Items.reads g.met.L.Items.unread c.args.log.now;
-      error = rw (exit.1, exit.2) (inl refl);
-      pruned = λ above. rw (exit.1, exit.2) no-item;
+      reads = reads-short g.L.Items.reads c.from_residual.result (read-none g.L.Items.reads g.met.L.Items.unread c.args.log.now) (rw (exit.1, exit.2) refl);
     }
 
 pub returns : goal.returns
@@ -57,7 +54,5 @@ returns g c = record {
       let above = high c.in_ok-next.next spaced in
       begins-there next c.args.from c.visit_all.new.going.walk.floor c.visit_all.new.going.walk.end c.in_ok-next.next is goes above (omega (arith, within, same)));
   end = c.visit_all.ensures.end;
-  read = c.visit_all.ensures.read;
-  error = c.visit_all.ensures.error;
-  pruned = c.visit_all.ensures.pruned;
+  reads = c.visit_all.ensures.reads;
 }

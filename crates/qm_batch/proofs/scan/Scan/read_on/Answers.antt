@@ -4,6 +4,7 @@ use Rattle.qm_model.proofs.Results.{told-any, told-one}
 use Rattle.qm_base.specs.Views.{pair_view}
 use Rattle.qm_batch.specs.Scans.{place_view}
 use Rattle.qm_batch.proofs.Going.{carried, ended}
+use Rattle.qm_base.proofs.Reading.{reads-on, reads-short}
 use Rattle.qm_batch.proofs.scan.Scan.read_on.Goals as goal
 
 pub returns : goal.returns
@@ -17,9 +18,7 @@ returns g c = record {
       told-any _ (g.L.Items.reads.told c.args.log.now) (λ begun none.
       ended g.I.Unordered.index_key list _ _ _ _ none (c.in_ok-found.ensures.over (λ at. begun (sym (ap (λ s. s.place) c.self.view_is) ∙ at)) (sym (ap (map view) c.from_vec.ensures.items) ∙ none)));
   begun = c.in_ok-found.ensures.begun;
-  read = c.read_at.ensures.read;
-  error = tt;
-  whole = λ list is none. tt;
+  reads = reads-short g.L.Items.reads _ c.read_at.ensures.reads.left tt;
 }
 
 pub returns-in_err-found : goal.returns-in_err-found
@@ -29,7 +28,5 @@ returns-in_err-found g c =
       value = λ list is. told-any _ (g.L.Items.reads.told c.args.log.now) refl;
       over = λ list is. told-any _ (g.L.Items.reads.told c.args.log.now) (IfOk-from_err c.from_residual.result _ c.from_residual.ensures.0);
       begun = IfOk-from_err c.from_residual.result _ c.from_residual.ensures.0;
-      read = c.read_at.ensures.read;
-      error = rw (exit.1, exit.2) c.in_err-found.ensures.error;
-      whole = λ list is none. rw (exit.1, exit.2) (c.in_err-found.ensures.whole list is none);
+      reads = reads-on g.L.Items.reads c.from_residual.result c.in_err-found.ensures.reads exit.1 exit.2;
     }

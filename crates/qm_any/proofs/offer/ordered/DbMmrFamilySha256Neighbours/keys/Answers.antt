@@ -26,14 +26,14 @@ returns g c = record {
       (λ list found. map g.U.Key.ByteString.bytes found.items ≡ keys_in (limit_of g.U.Key.ByteString.bytes c.args.low.now) (limit_of g.U.Key.ByteString.bytes c.args.high.now) list) c.keys_of.result c.keys_of.ensures.keys)
       (λ found given ordered list is. given list is);
   reads = record {
-    same = λ list is. left-database g.C.Store (sha256_layout mmr g.N.Chunks.LEN g.U.Update.form g.I.Unordered.index_key) c.args.self.now c.keys_of.new.db list c.keys_of.ensures.left is;
+    same = λ list is. left-database g.C.Store (sha256_layout mmr g.N.Chunks.LEN g.U.Update.form g.I.Unordered.index_key) c.args.self.now c.keys_of.new.db list c.keys_of.ensures.reads.left is;
     numbered = λ n is. tt;
-    store = left-store g.C.Store (sha256_hashing mmr g.U.Update.form) c.args.self.now c.keys_of.new.db c.keys_of.ensures.left;
+    store = left-store g.C.Store (sha256_hashing mmr g.U.Update.form) c.args.self.now c.keys_of.new.db c.keys_of.ensures.reads.left;
     faults = record {
-      later = (c.keys_of.ensures.left).read.keeps.later;
-      failed = err-of c.keys_of.result (Journal Store) _ (err-then c.keys_of.result c.keys_of.ensures.error (λ e why fault. log-rose g.C.Store c.args.self.now.log c.keys_of.new.db.log e why fault));
+      later = (c.keys_of.ensures.reads.left).read.keeps.later;
+      failed = err-of c.keys_of.result (Journal Store) _ (err-then c.keys_of.result c.keys_of.ensures.reads.error (λ e why fault. log-rose g.C.Store c.args.self.now.log c.keys_of.new.db.log e why fault));
     };
   };
-  never = err-then c.keys_of.result c.keys_of.ensures.error (λ e why. log-kept g.C.Store c.args.self.now.log c.keys_of.new.db.log e why);
-  refused = read-untold g.C.Store (sha256_layout mmr g.N.Chunks.LEN g.U.Update.form g.I.Unordered.index_key) c.args.self.now c.keys_of.new.db.log c.keys_of.result c.keys_of.ensures.error c.keys_of.ensures.whole;
+  never = err-then c.keys_of.result c.keys_of.ensures.reads.error (λ e why. log-kept g.C.Store c.args.self.now.log c.keys_of.new.db.log e why);
+  refused = read-untold g.C.Store (sha256_layout mmr g.N.Chunks.LEN g.U.Update.form g.I.Unordered.index_key) c.args.self.now c.keys_of.new.db.log c.keys_of.result c.keys_of.ensures.reads.error c.keys_of.ensures.reads.whole;
 }

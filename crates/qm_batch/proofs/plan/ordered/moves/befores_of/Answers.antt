@@ -1,4 +1,4 @@
-use Rattle.std.proofs.Common.{◌∙◌, ◌++◌, ap, map, subst, sym, true≢false, inl, refl}
+use Rattle.std.proofs.Common.{◌∙◌, ◌++◌, ap, map, subst, sym, true≢false, refl}
 use Rattle.qm_model.proofs.Results.{told-any, told-err}
 use Rattle.qm_step.specs.Layers.{LeadOver}
 use Rattle.qm_step.specs.PlanViews.{decided_views, touch_views}
@@ -7,8 +7,7 @@ use Rattle.qm_step.specs.Views.{read_view}
 use Rattle.qm_step.proofs.MovesAll.{none-gone}
 use Rattle.qm_step.proofs.MovesFound.{none-before}
 use Rattle.std.proofs.lemmas.Result.{err_from_is_err_and}
-use Rattle.qm_base.proofs.Reading.{read-none}
-use Rattle.qm_batch.proofs.Memory.{no-item}
+use Rattle.qm_base.proofs.Reading.{reads-short, read-none}
 use Rattle.qm_batch.proofs.plan.ordered.moves.befores_of.Goals as goal
 use Rattle.qm_batch.proofs.plan.ordered.moves.befores_of.Goals.{then-not-is_ordered-via-then-not-is_ordered, then-not-is_ordered-via-else-not-is_ordered+then-evicted-eq0}
 
@@ -25,9 +24,7 @@ returns-then-not-is_ordered g c = record {
             ∙ sym (none-before (list ++ operations_of (touch_views g.U.Update.view key value c.args.made.now)) (decided_views key value c.args.decided.now)
             (none-gone key value c.args.decided.now (sym w.evicted.ensures.count ∙ w.if-evicted-eq0.true))))
       ];
-  read = read-none g.L.Items.reads g.met.L.Items.unread c.args.log.now;
-  error = tt;
-  whole = λ lent is none. tt;
+  reads = reads-short g.L.Items.reads _ (read-none g.L.Items.reads g.met.L.Items.unread c.args.log.now) tt;
 }
 
 pub returns : goal.returns
@@ -38,9 +35,7 @@ returns g c = record {
       let mid = list ++ operations_of (touch_views g.U.Update.view key value c.args.made.now) in
       let leads = subst (λ ls. LeadOver (map (λ l. l.value) ls) lent mid) (sym c.deref.ensures.value) (c.in_ok-layers.ensures lent list base from) in
       c.find_before.ensures.value lent mid is leads ring over;
-  read = c.find_before.ensures.read;
-  error = c.find_before.ensures.error;
-  whole = c.find_before.ensures.whole;
+  reads = c.find_before.ensures.reads;
 }
 
 pub returns-in_err-layers : goal.returns-in_err-layers
@@ -48,7 +43,5 @@ returns-in_err-layers g c =
     let exit = err_from_is_err_and c.from_residual.result c.from_residual.ensures.1 in
     record {
       value = λ lent list ordered is base ring over from. told-err _ (g.L.Items.reads.told c.args.log.now) c.from_residual.result exit.0 exit.1;
-      read = read-none g.L.Items.reads g.met.L.Items.unread c.args.log.now;
-      error = rw (exit.1, exit.2) (inl refl);
-      whole = λ lent is none. rw (exit.1, exit.2) no-item;
+      reads = reads-short g.L.Items.reads c.from_residual.result (read-none g.L.Items.reads g.met.L.Items.unread c.args.log.now) (rw (exit.1, exit.2) refl);
     }

@@ -1,19 +1,17 @@
-use Rattle.std.proofs.Common.{◌≡◌, ◌∙◌, ap, append-nil, sym, map, subst, inl, refl, Bool, true, false, Option, Some, None}
+use Rattle.std.proofs.Common.{◌≡◌, ◌∙◌, ap, append-nil, sym, map, subst, refl, Bool, true, false, Option, Some, None}
 use Rattle.std.specs.Prelude.{filter_map, if◌then◌else◌, is_none, is_some, not, option_map}
 use Rattle.std.proofs.lemmas.List.{take_all}
 use Rattle.std.proofs.lemmas.Result.{err_from_is_err_and}
 use Rattle.qm_model.proofs.Results.{told-any, told-both, told-err, told-one}
 use Rattle.qm_model.specs.Operations.{Bytes}
-use Rattle.qm_base.specs.Reads.{IsRead}
-use Rattle.qm_step.specs.Lent.{NoneBelow}
+use Rattle.qm_base.specs.Reads.{KeepsItems}
 use Rattle.qm_step.specs.Moves.{before_evicted}
 use Rattle.qm_step.specs.PlanViews.{decided_view}
 use Rattle.qm_step.specs.Rings.{previous_of}
 use Rattle.qm_step.specs.Views.{read_view}
 use Rattle.qm_step.proofs.MovesLoops.{some-more, given-mapped}
-use Rattle.qm_base.proofs.Reading.{read-none, read-then, error-then}
-use Rattle.qm_step.proofs.Reading.{lent-then, told}
-use Rattle.qm_batch.proofs.Memory.{no-item}
+use Rattle.qm_step.proofs.Reading.{lent-then, told, whole-then}
+use Rattle.qm_base.proofs.Reading.{reads-on, reads-short, reads-then, read-none, read-then}
 use Rattle.qm_batch.proofs.plan.ordered.moves.find_before.Goals as goal
 use Rattle.qm_batch.proofs.plan.ordered.moves.find_before.Goals.{then-is_none+in_ok-found+in_ok-push_some, else-is_none}
 
@@ -29,13 +27,7 @@ returns-in_err-found g c =
     let exit = err_from_is_err_and c.from_residual.result c.from_residual.ensures.1 in
     record {
       value = λ lent list is from ring over. told-err _ (g.L.Items.reads.told c.args.log.now) c.from_residual.result exit.0 exit.1;
-      read = read-then g.L.Items.reads g.met.L.Items.read_again c.args.log.now c.loop-one.log c.previous.new.log c.loop-one.invariant.read c.previous.ensures.read;
-      error = rw (exit.1, exit.2) (error-then g.L.Items.reads g.met.L.Items.failed_later c.args.log.now c.loop-one.log c.previous.new.log _ c.loop-one.invariant.read c.in_err-found.ensures.error);
-      whole = λ lent is none.
-          let entries = g.I.Unordered.entries c.args.index.now in
-          let read = c.loop-one.invariant.read in
-          let mid = lent-then g.L.Items.reads _ g.I.Unordered.index_key entries c.args.log.now c.loop-one.log lent read is in
-          rw (exit.1, exit.2) (c.in_err-found.ensures.whole lent mid (subst (λ t. NoneBelow t lent) (sym read.start) none));
+      reads = reads-then g.L.Items.reads g.met.L.Items.read_again g.met.L.Items.failed_later c.from_residual.result c.loop-one.invariant.read (whole-then g.L.Items.reads _ g.I.Unordered.index_key _ _ _ c.loop-one.invariant.read) (reads-on g.L.Items.reads c.from_residual.result c.in_err-found.ensures.reads exit.1 exit.2);
     }
 
 pub returns-in_err-push_some : goal.returns-in_err-push_some
@@ -43,9 +35,7 @@ returns-in_err-push_some g c =
     let exit = err_from_is_err_and c.from_residual-in_err-push_some.result c.from_residual-in_err-push_some.ensures.1 in
     record {
       value = λ lent list is from ring over. told-err _ (g.L.Items.reads.told c.args.log.now) c.from_residual-in_err-push_some.result exit.0 exit.1;
-      read = read-then g.L.Items.reads g.met.L.Items.read_again c.args.log.now c.loop-one.log c.previous.new.log c.loop-one.invariant.read c.previous.ensures.read;
-      error = rw (exit.1, exit.2) (inl refl);
-      whole = λ lent is none. rw (exit.1, exit.2) no-item;
+      reads = reads-short g.L.Items.reads c.from_residual-in_err-push_some.result (read-then g.L.Items.reads g.met.L.Items.read_again c.args.log.now c.loop-one.log c.previous.new.log c.loop-one.invariant.read c.previous.ensures.reads.left) (rw (exit.1, exit.2) refl);
     }
 
 pub loop-one-init : goal.loop-one-init
@@ -68,7 +58,7 @@ loop-one-preserved g c =
     let i = c.loop-one.one-index in
     elim c.if-is_none.branch [
       | then-is_none+in_ok-found+in_ok-push_some w ↦ record {
-        read = subst (λ log. IsRead g.L.Items.reads c.args.log.now log) (sym w.log-is) (read-then g.L.Items.reads g.met.L.Items.read_again c.args.log.now c.loop-one.log w.previous.new.log read w.previous.ensures.read);
+        read = subst (λ log. KeepsItems g.L.Items.reads c.args.log.now log) (sym w.log-is) (read-then g.L.Items.reads g.met.L.Items.read_again c.args.log.now c.loop-one.log w.previous.new.log read w.previous.ensures.reads.left);
         value = λ lent list is from ring over.
             let mid = lent-then g.L.Items.reads _ g.I.Unordered.index_key (g.I.Unordered.entries c.args.index.now) c.args.log.now c.loop-one.log lent read is in
             let goes = ap (λ t. if t then previous_of list (key one.key) else None) (tested value one.value true w.if-is_none.ensures) in
@@ -77,7 +67,7 @@ loop-one-preserved g c =
             c.args.decided.now i one c.loop-one-test.true c.one-item.is (found ∙ goes) before);
       }
       | else-is_none w ↦ record {
-        read = subst (λ log. IsRead g.L.Items.reads c.args.log.now log) (sym w.log-is) read;
+        read = subst (λ log. KeepsItems g.L.Items.reads c.args.log.now log) (sym w.log-is) read;
         value = λ lent list is from ring over.
             let stays = ap (λ t. if t then previous_of list (key one.key) else None) (tested value one.value false w.if-is_none.ensures) in
             told-one _ _ items (c.loop-one.invariant.value lent list is from ring over) (λ before.
@@ -92,7 +82,5 @@ returns g c = record {
       let view = decided_view g.U.Key.ByteString.bytes g.U.Value.ByteString.bytes in
       told-one _ _ (g.L.Items.reads.told c.args.log.now) (c.loop-one.invariant.value lent list is from ring over) (λ found.
       found ∙ ap (filter_map (λ d. before_evicted list (view d))) (take_all c.loop-one.one-index c.args.decided.now c.loop-one-test.false) ∙ sym (given-mapped (before_evicted list) view c.args.decided.now));
-  read = c.loop-one.invariant.read;
-  error = tt;
-  whole = λ lent is none. tt;
+  reads = reads-short g.L.Items.reads _ c.loop-one.invariant.read tt;
 }
