@@ -1,4 +1,5 @@
 pub mod Bare
 pub mod Lowered
+pub mod Rising
 pub mod Rows
 pub mod Views

@@ -4,4 +4,4 @@ pub mod Rooting
 mod Following
 pub mod Fitting
 mod There
-mod Viewing
+pub mod Viewing

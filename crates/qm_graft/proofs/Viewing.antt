@@ -42,7 +42,7 @@ is_low shape g node is = ⊎_elim
     none_some p e = absurd (cc)
 
 -- The numbers of the grafted tree's nodes are those of the nodes that they stand for, as far as these fit.
-kept-digest : (hash : Bytes → Bytes) (shape : Shape) (g : ℕ) (values : List Bytes) (h i : ℕ) → suc i * 2 ^ (h + g) ≤ 2 ^ 62 → digest hash (kept_shape shape g) values h i ≡ digest hash (grafted_shape shape g) values h i
+pub kept-digest : (hash : Bytes → Bytes) (shape : Shape) (g : ℕ) (values : List Bytes) (h i : ℕ) → suc i * 2 ^ (h + g) ≤ 2 ^ 62 → digest hash (kept_shape shape g) values h i ≡ digest hash (grafted_shape shape g) values h i
 kept-digest hash shape g values zero i within = refl
 kept-digest hash shape g values (suc h) i within =
     let wide : suc i * 2 ^ (suc h + g) ≡ suc i * (2 ^ (h + g) * 2) = let up : suc h + g ≡ suc (h + g) = omega arith in ap (λ n. suc i * 2 ^ n) up ∙ ap (λ z. suc i * z) (pow-suc 2 (h + g)) in

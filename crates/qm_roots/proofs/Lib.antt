@@ -1,0 +1,13 @@
+pub mod Overlays
+pub mod Stacked
+pub mod Sizes
+pub mod Lacking
+pub mod Chunks
+pub mod Following
+pub mod Reaching
+pub mod Growing
+pub mod Going
+pub mod Holding
+pub mod Pins
+pub mod Opened
+pub mod Resting
