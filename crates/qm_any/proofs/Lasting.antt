@@ -25,7 +25,7 @@ use Rattle.qm_store.specs.Log as logs
 use Rattle.qm_store.specs.Log.{Log, IsLog, IsRefused}
 use Rattle.qm_step.specs.Lent.{NoneBelow}
 use Rattle.qm_any.specs.Layouts.{Hashing, Layout}
-use Rattle.qm_any.specs.Databases.{Database, Beside, IsDatabase, over}
+use Rattle.qm_any.specs.Databases.{Database, State, IsDatabase, over}
 use Rattle.qm_model.proofs.Stores.{leaves-now}
 use Rattle.qm_any.specs.Lasting.{bits_from, cut_to, given_up, over_log, HasLasted, HasLeftPruned, HasPruned, HasPrunedLog, IsGivenUp, IsHeadAt}
 
@@ -133,8 +133,8 @@ count-kept chunk to map within = cases (nat_lt map.pruned whole) refl
         ∙ ap (λ n. map.pruned * span + length (drop (n * span) map.kept)) (sub-eq-zero_of_le least) ∙ ap (λ n. map.pruned * span + length (drop n map.kept)) (no-chunks span)
 
 -- what a database has beside its log, with bits dropped
-abbrev pub cut : ℕ → ℕ → Beside → Beside
-cut chunk to beside = record beside { activity = bits_from chunk to beside.activity }
+abbrev pub cut : ℕ → ℕ → State → State
+cut chunk to state = record state { activity = bits_from chunk to state.activity }
 
 -- a store that is not pruned is what it was
 itself : (start to : ℕ) (o : Option Stored) → to ≤ start → Becomes o o (cut_to start to [])
@@ -149,32 +149,32 @@ become start to head (Some s) (Some t) less is = is ∙ sym (ap (λ c. if c then
 
 module _ {C D : Type 0} (members : store.Ghosts C) where
   -- what holds of the database over a log, or of the store that is given up, holds of what a call answers
-  pub ok-over : (beside : Beside) (done : Result (Log C D) (LogRefusal (Log C D) C)) (result : Result (Database C D) (Refusal (Database C D) C)) (P : Database C D → Type 0) → result ≡ over_log beside done
-      → IfOk done (λ log. P (over beside log)) → IfOk result P
-  ok-over beside done result P is h = subst (λ r. IfOk r P) (sym is) (by done h)
+  pub ok-over : (state : State) (done : Result (Log C D) (LogRefusal (Log C D) C)) (result : Result (Database C D) (Refusal (Database C D) C)) (P : Database C D → Type 0) → result ≡ over_log state done
+      → IfOk done (λ log. P (over state log)) → IfOk result P
+  ok-over state done result P is h = subst (λ r. IfOk r P) (sym is) (by done h)
     where
-      by : (done : Result (Log C D) (LogRefusal (Log C D) C)) → IfOk done (λ log. P (over beside log)) → IfOk (over_log beside done) P
+      by : (done : Result (Log C D) (LogRefusal (Log C D) C)) → IfOk done (λ log. P (over state log)) → IfOk (over_log state done) P
       by (Ok log) h = h
       by (Err r) h = tt
 
-  pub err-over : (beside : Beside) (done : Result (Log C D) (LogRefusal (Log C D) C)) (result : Result (Database C D) (Refusal (Database C D) C)) (P : Refusal (Database C D) C → Type 0) → result ≡ over_log beside done
+  pub err-over : (state : State) (done : Result (Log C D) (LogRefusal (Log C D) C)) (result : Result (Database C D) (Refusal (Database C D) C)) (P : Refusal (Database C D) C → Type 0) → result ≡ over_log state done
       → IfErr done (λ r. P (given_up r)) → IfErr result P
-  err-over beside done result P is h = subst (λ r. IfErr r P) (sym is) (by done h)
+  err-over state done result P is h = subst (λ r. IfErr r P) (sym is) (by done h)
     where
-      by : (done : Result (Log C D) (LogRefusal (Log C D) C)) → IfErr done (λ r. P (given_up r)) → IfErr (over_log beside done) P
+      by : (done : Result (Log C D) (LogRefusal (Log C D) C)) → IfErr done (λ r. P (given_up r)) → IfErr (over_log state done) P
       by (Ok log) h = tt
       by (Err r) h = h
 
   -- a log that a call left is one of the same database
-  pub joined : (beside : Beside) (old new : Log C D) → beside.commitment.size ≡ old.tree.leaves → members.«end» old.store ≡ old.tree.leaves → new.tree ≡ old.tree → members.«end» new.store ≡ members.«end» old.store
-      → (beside.commitment.size ≡ new.tree.leaves) × (members.«end» new.store ≡ new.tree.leaves)
-  joined beside old new size end tree kept = let leaves = ap (λ t. t.leaves) (sym tree) in (size ∙ leaves, kept ∙ (end ∙ leaves))
+  pub joined : (state : State) (old new : Log C D) → state.commitment.size ≡ old.tree.leaves → members.«end» old.store ≡ old.tree.leaves → new.tree ≡ old.tree → members.«end» new.store ≡ members.«end» old.store
+      → (state.commitment.size ≡ new.tree.leaves) × (members.«end» new.store ≡ new.tree.leaves)
+  joined state old new size end tree kept = let leaves = ap (λ t. t.leaves) (sym tree) in (size ∙ leaves, kept ∙ (end ∙ leaves))
 
   -- a database stands over another log for the list that it stood for
-  pub relogged : (layout : Layout D) (beside : Beside) (old new : Log C D) (list : List Operation) → (IsSome (members.told old.store) → IsSome (members.told new.store))
+  pub relogged : (layout : Layout D) (state : State) (old new : Log C D) (list : List Operation) → (IsSome (members.told old.store) → IsSome (members.told new.store))
       → IsLog members layout.hashing.shape layout.hashing.bytes layout.hashing.hash new (map (spelling layout.hashing.form) list)
-      → IsDatabase members layout (over beside old) list → IsDatabase members layout (over beside new) list
-  relogged layout beside old new list tells logged is = record {
+      → IsDatabase members layout (over state old) list → IsDatabase members layout (over state new) list
+  relogged layout state old new list tells logged is = record {
     told = tells is.told;
     lent = record { indexed = is.lent.indexed; logged = logged; of = is.lent.of };
     commitment = is.commitment;
@@ -186,25 +186,25 @@ module _ {C D : Type 0} (members : store.Ghosts C) where
     ring = is.ring;
   }
 
-  pub lasted : (hashing : Hashing D) (f : Stored → Stored) (self : Database C D) (beside : Beside) (old new : Log C D) → self ≡ over beside old
+  pub lasted : (hashing : Hashing D) (f : Stored → Stored) (self : Database C D) (state : State) (old new : Log C D) → self ≡ over state old
       → ((items : List Bytes) → IsLog members hashing.shape hashing.bytes hashing.hash old items → IsLog members hashing.shape hashing.bytes hashing.hash new items) → new.tree ≡ old.tree → logs.HasBecome members old.store new.store f → members.faults old.store ≤ members.faults new.store
-      → HasLasted members hashing f self (over beside new)
-  lasted hashing f self beside old new whole stands tree store later = subst (λ db. HasLasted members hashing f db (over beside new)) (sym whole) (record { rest = refl; stands = stands; tree = tree; store = store; later = later })
+      → HasLasted members hashing f self (over state new)
+  lasted hashing f self state old new whole stands tree store later = subst (λ db. HasLasted members hashing f db (over state new)) (sym whole) (record { rest = refl; stands = stands; tree = tree; store = store; later = later })
 
   -- a call that never gives back the log gives up the store
-  pub given-up : (Left : C → C → Type 0) (self : Database C D) (beside : Beside) (old : Log C D) (r : LogRefusal (Log C D) C) → self ≡ over beside old → IsRefused members Left old r.given r.error → ((log : Log C D) → r.given ≢ variants.Log log)
+  pub given-up : (Left : C → C → Type 0) (self : Database C D) (state : State) (old : Log C D) (r : LogRefusal (Log C D) C) → self ≡ over state old → IsRefused members Left old r.given r.error → ((log : Log C D) → r.given ≢ variants.Log log)
       → IsGivenUp members {X = Database C D} Left self.log.store (given_up r)
-  given-up Left self beside old r whole refused never = subst (λ db. IsGivenUp members {X = Database C D} Left db.log.store (given_up r)) (sym whole) (by r.given r.error refused never)
+  given-up Left self state old r whole refused never = subst (λ db. IsGivenUp members {X = Database C D} Left db.log.store (given_up r)) (sym whole) (by r.given r.error refused never)
     where
       by : (given : LogGiven (Log C D) C) (error : Error) → IsRefused members Left old given error → ((log : Log C D) → given ≢ variants.Log log) → IsGivenUp members {X = Database C D} Left old.store (given_up (record { given = given; error = error }))
       by (variants.Log log) error refused never = absurd (never log refl)
       by (variants.Store s) error refused never = record { store = s; given = refl; left = refused.left s refl; never = refused.never; cause = refused.cause }
 
   -- a prune gives up the store, also where memory lacked before its store was called
-  pub cut-given-up : (hashing : Hashing D) (to : ℕ) (head : Bytes) (self : Database C D) (beside : Beside) (old : Log C D) (r : LogRefusal (Log C D) C) → self ≡ over beside old → IfSome (members.told self.log.store) (λ s. s.stable ≡ end_of s)
+  pub cut-given-up : (hashing : Hashing D) (to : ℕ) (head : Bytes) (self : Database C D) (state : State) (old : Log C D) (r : LogRefusal (Log C D) C) → self ≡ over state old → IfSome (members.told self.log.store) (λ s. s.stable ≡ end_of s)
       → old.tree.start < to → IsRefused members (logs.HasLeftPruned members to head) old r.given r.error → IsHeadAt members hashing to old head
       → IsGivenUp members {X = Database C D} (λ _. HasLeftPruned members hashing (λ s. s) to self.log) self.log.store (given_up r)
-  cut-given-up hashing to head self beside old r whole all past refused heads =
+  cut-given-up hashing to head self state old r whole all past refused heads =
       subst (λ db. IsGivenUp members {X = Database C D} (λ _. HasLeftPruned members hashing (λ s. s) to db.log) db.log.store (given_up r)) (sym whole)
       (by r.given r.error refused)
     where
@@ -230,15 +230,15 @@ module _ {C D : Type 0} (members : store.Ghosts C) where
           let left = refused.left s refl in
           record { store = s; given = refl; left = record { past = past; within = left.within; head = head; heads = heads; told = leaves-now (members.told old.store) (members.told s) (λ s. ReadsAs s.stable (IsOldOrNew (pruned to head) s)) (λ s. ReadsAs s.stable (IsOldOrNew (pruned to head) s)) left.told }; never = refused.never; cause = refused.cause }
 
-  pub cut-is : (chunk : ℕ) (v b : Beside) (a : Bitmap) (to : ℕ) (log : Log C D) (db : Database C D) → db ≡ over (record v { activity = a }) log → a ≡ bits_from chunk to v.activity → v ≡ b → db ≡ over (cut chunk to b) log
+  pub cut-is : (chunk : ℕ) (v b : State) (a : Bitmap) (to : ℕ) (log : Log C D) (db : Database C D) → db ≡ over (record v { activity = a }) log → a ≡ bits_from chunk to v.activity → v ≡ b → db ≡ over (cut chunk to b) log
   cut-is chunk v b a to log db is same view = is ∙ ap (λ a. over (record v { activity = a }) log) same ∙ ap (λ v. over (cut chunk to v) log) view
 
   -- a database without what stands below a location up to its floor stands for the list that it stood for
-  pub cut-stands : (layout : Layout D) (to : ℕ) (beside : Beside) (old new : Log C D) (list : List Operation) → to ≤ floor list → (IsSome (members.told old.store) → IsSome (members.told new.store))
+  pub cut-stands : (layout : Layout D) (to : ℕ) (state : State) (old new : Log C D) (list : List Operation) → to ≤ floor list → (IsSome (members.told old.store) → IsSome (members.told new.store))
       → IsLog members layout.hashing.shape layout.hashing.bytes layout.hashing.hash new (map (spelling layout.hashing.form) list)
-      → IsDatabase members layout (over beside old) list → IsDatabase members layout (over (cut layout.chunk to beside) new) list
-  cut-stands layout to beside old new list low tells logged is =
-      let moved = relogged layout beside old new list tells logged is in
+      → IsDatabase members layout (over state old) list → IsDatabase members layout (over (cut layout.chunk to state) new) list
+  cut-stands layout to state old new list low tells logged is =
+      let moved = relogged layout state old new list tells logged is in
       record {
         told = moved.told;
         lent = moved.lent;
@@ -246,13 +246,13 @@ module _ {C D : Type 0} (members : store.Ghosts C) where
         floor = moved.floor;
         live = moved.live;
         metadata = moved.metadata;
-        active = bits-kept layout.chunk to beside.activity list is.good low is.active;
+        active = bits-kept layout.chunk to state.activity list is.good low is.active;
         good = moved.good;
         ring = moved.ring;
       }
 
-  pub has-kept : (hashing : Hashing D) (to : ℕ) (self : Database C D) (beside : Beside) (old : Log C D) → self ≡ over beside old → to ≤ old.tree.start → HasPrunedLog members hashing to self (over beside old)
-  has-kept hashing to self beside old whole low = subst (λ db. HasPrunedLog members hashing to db (over beside old)) (sym whole) (record {
+  pub has-kept : (hashing : Hashing D) (to : ℕ) (self : Database C D) (state : State) (old : Log C D) → self ≡ over state old → to ≤ old.tree.start → HasPrunedLog members hashing to self (over state old)
+  has-kept hashing to self state old whole low = subst (λ db. HasPrunedLog members hashing to db (over state old)) (sym whole) (record {
     rest = refl;
     start = sym (max-eq_left low);
     size = refl;
@@ -262,10 +262,10 @@ module _ {C D : Type 0} (members : store.Ghosts C) where
     later = omega arith;
   })
 
-  pub has-pruned : (hashing : Hashing D) (to : ℕ) (self : Database C D) (beside : Beside) (old new : Log C D) (head : Bytes) → self ≡ over beside old → old.tree.start < to → new.tree.start ≡ to → new.tree.leaves ≡ old.tree.leaves
+  pub has-pruned : (hashing : Hashing D) (to : ℕ) (self : Database C D) (state : State) (old new : Log C D) (head : Bytes) → self ≡ over state old → old.tree.start < to → new.tree.start ≡ to → new.tree.leaves ≡ old.tree.leaves
       → Becomes (members.told old.store) (members.told new.store) (pruned to head) → IsHeadAt members hashing to old head → members.faults old.store ≤ members.faults new.store
-      → HasPrunedLog members hashing to self (over beside new)
-  has-pruned hashing to self beside old new head whole less first size told heads later = subst (λ db. HasPrunedLog members hashing to db (over beside new)) (sym whole) (record {
+      → HasPrunedLog members hashing to self (over state new)
+  has-pruned hashing to self state old new head whole less first size told heads later = subst (λ db. HasPrunedLog members hashing to db (over state new)) (sym whole) (record {
     rest = refl;
     start = first ∙ sym (max-eq_right (omega (arith, less)));
     size = size;

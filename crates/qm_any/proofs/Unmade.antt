@@ -2,7 +2,6 @@
 use Rattle.std.proofs.Common.{◌≡◌, ◌≢◌, ◌∙◌, ◌⊎◌, ℕ, suc, ◌+◌, ◌≤◌, arith, ap, ap₂, sym, subst, refl, Bool, true, false, List, ◌∷◌, ◌++◌, length, map, Option, None, inl, inr}
 use Rattle.std.specs.Prelude.{Contains}
 use Rattle.std.proofs.lemmas.List.{length-map}
-use Rattle.qm_model.specs.Causes.{Rose}
 use Rattle.qm_model.specs.Forms.{Form, spelling}
 use Rattle.qm_model.specs.Operations.{Bytes, Operation}
 use Rattle.qm_model.specs.Refusals.{too_long}
@@ -23,7 +22,7 @@ use Rattle.qm_step.specs.Bases.{Base, IsBase}
 use Rattle.qm_step.specs.Views.{Plan, IsPlan, stepped}
 use Rattle.qm_any.specs.Databases.{AreLinked, Begun, Made, IsBegun, IsMade, base_of, bases_of, child_boundary, child_made, child_tips, is_on, kept_by}
 use Rattle.qm_any.specs.Layouts.{Hashing, list_root, spellings}
-use Rattle.qm_any.specs.Reasons.{IsMakingError}
+use Rattle.qm_any.specs.Making.{IsUnmade}
 use Rattle.qm_any.specs.Tips.{IsRefused, IsSpelled, IsTaken, IsTooLong}
 use Rattle.qm_any.proofs.Known.{child-base, child-linked, on_chain-base}
 use Rattle.qm_any.proofs.Making.{child-among, child-is_made, plan-behind, plan-length, plan-refused, stepped-good, stepped-metadata, stepped-of, stepped-ring, too_long-cause, too_long-fresh, too_long-kept, too_long-size}
@@ -56,13 +55,6 @@ pub child-on : {D : Type 0} {hashing : Hashing D} (parent : Made D) (keep : ℕ)
     → (list : List Operation) → IsOnChain list chain → Contains (chain.base ∷ bases_of above) list
 child-on parent keep chain above few made kept list on =
     child-among parent keep chain above few made kept list (on_chain-base list chain (subst (AreLinked chain.base) (sym kept) (child-linked keep above chain.base made.linked)) on)
-
--- what an error says by which a list was not made, of a batch that is at the database's state or not
-pub record IsUnmade {C D : Type 0} (members : store.Ghosts C) (on : Bool) (old new : Log C D) (e : Error) : Type 0 where
-  pub stale : e ≡ errors.StaleBatch → on ≡ false
-  pub order : e ≢ errors.Memory → e ≢ errors.StaleBatch → on ≡ true
-  pub causes : (e ≡ errors.StaleBatch) ⊎ IsMakingError members old new e
-  pub cause : e ≡ errors.Journal journal.Store → Rose (members.faults old.store) (members.faults new.store)
 
 module _ {C D : Type 0} (members : store.Ghosts C) (on : Bool) (old new : Log C D) (e : Error) where
   -- one of a batch that is not

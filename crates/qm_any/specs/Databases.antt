@@ -35,7 +35,7 @@ pub record Database (C D : Type 0) : Type 0 where
   pub metadata : Option Bytes
 
 -- what a database has beside its log
-pub record Beside : Type 0 where
+pub record State : Type 0 where
   pub entries : List (ℕ × List ℕ)
   pub activity : Bitmap
   pub commitment : Commitment
@@ -44,8 +44,8 @@ pub record Beside : Type 0 where
   pub metadata : Option Bytes
 
 -- the database of that over a log
-abbrev pub over : {C D : Type 0} → Beside → Log C D → Database C D
-over beside log = record { entries = beside.entries; activity = beside.activity; log = log; commitment = beside.commitment; floor = beside.floor; live = beside.live; metadata = beside.metadata }
+abbrev pub over : {C D : Type 0} → State → Log C D → Database C D
+over state log = record { entries = state.entries; activity = state.activity; log = log; commitment = state.commitment; floor = state.floor; live = state.live; metadata = state.metadata }
 
 -- a merkleized batch: its bounds, its own step and those of its kept ancestors, newest first, its tree, and the count of
 -- live keys and the metadata of the list that it makes
@@ -97,7 +97,7 @@ at_rest db = record {
 abbrev pub states : Bounds → List Commitment
 states bounds = bounds.tip ∷ (bounds.ancestors ++ bounds.db ∷ [])
 
--- what stands for the kept ancestors' tips, and for the boundary, of a child that keeps so many ancestors
+-- what stands for the kept ancestors' tips, and for the boundary, of a child that keeps the first `keep` ancestors
 abbrev pub child_tips : ℕ → Bounds → List Commitment
 child_tips keep parent = take keep (states parent)
 
@@ -113,7 +113,7 @@ abbrev pub unapplied : ℕ → List Layer → List Layer
 unapplied size [] = []
 unapplied size (layer ∷ layers) = if nat_le size layer.base then layer ∷ unapplied size layers else []
 
--- what the layers, newest first, put behind the list that the oldest of them starts from
+-- what the layers, newest first, put after the list that the oldest of them starts from
 abbrev pub operations_in : List Layer → List Operation
 operations_in [] = []
 operations_in (layer ∷ layers) = operations_in layers ++ layer.operations
@@ -139,7 +139,7 @@ pub record AreAgreed {D : Type 0} (batch : Made D) : Type 0 where
   pub reached : All (Contains (stops batch.tree.leaves batch.tree.layers)) (batch.bounds.tip.size ∷ bases batch.layers)
   pub above : All (λ n. batch.bounds.db.size ≤ n) (stops batch.tree.leaves batch.tree.layers)
 
--- the batch that a plan makes on its parent: it keeps so many ancestors, the parent first
+-- the batch that a plan makes on its parent: it keeps the first `keep` ancestors, counting the parent
 abbrev pub child_made : {D : Type 0} → Made D → ℕ → Plan → KeptTree D → Bytes → Option Bytes → Made D
 child_made parent keep plan tree root meta = record {
   bounds = record {
@@ -164,7 +164,7 @@ AreLinked base (k ∷ ks) = (k.tip ≡ base) × AreLinked k.base ks
 abbrev pub bases_of : Chain → List (List Operation)
 bases_of chain = chain.base ∷ map (λ k. k.base) chain.kept
 
--- what a child keeps of a chain that makes this list: so many ancestors, of which the parent is the first
+-- what a child keeps of a chain that makes this list: the first `keep` ancestors, counting the parent
 abbrev pub kept_by : ℕ → Chain → List Operation → List Kept
 kept_by keep parent tip = take keep (record { base = parent.base; tip = tip } ∷ parent.kept)
 

@@ -13,16 +13,16 @@ use Rattle.qm_store.specs.declared.refusal.Refusal.{Refusal}
 use Rattle.qm_store.specs.Log as logs
 use Rattle.qm_store.specs.Log.{Log, IsLog, IsHead, HasLeft, digests_from}
 use Rattle.qm_any.specs.Layouts.{Hashing, Layout}
-use Rattle.qm_any.specs.Databases.{Database, Beside, over}
+use Rattle.qm_any.specs.Databases.{Database, State, over}
 
 -- what a refused call of a log gives back: its store
 abbrev pub given_up : {C D X : Type 0} → LogRefusal (Log C D) C → Refusal X C
 given_up refusal = record { given = Store (logs.store_given refusal.given); error = refusal.error }
 
 -- the database over the log that a call left, or the store where the call was refused
-abbrev pub over_log : {C D : Type 0} → Beside → Result (Log C D) (LogRefusal (Log C D) C) → Result (Database C D) (Refusal (Database C D) C)
-over_log beside (Ok log) = Ok (over beside log)
-over_log beside (Err refusal) = Err (given_up refusal)
+abbrev pub over_log : {C D : Type 0} → State → Result (Log C D) (LogRefusal (Log C D) C) → Result (Database C D) (Refusal (Database C D) C)
+over_log state (Ok log) = Ok (over state log)
+over_log state (Err refusal) = Err (given_up refusal)
 
 -- up to where a database may be pruned: its floor, which no list has past its end
 abbrev pub boundary_of : {C D : Type 0} → Database C D → ℕ
@@ -32,7 +32,7 @@ boundary_of db = min db.floor db.commitment.size
 abbrev pub bits_from : ℕ → ℕ → Bitmap → Bitmap
 bits_from chunk to bits = record { pruned = max bits.pruned (to / (8 * chunk)); kept = drop ((to / (8 * chunk) - bits.pruned) * (8 * chunk)) bits.kept }
 
--- a store, of a log that starts here, pruned to a location, with this head, where that is behind the start
+-- a store, of a log that starts here, pruned to a location, with this head, where that is after the start
 abbrev pub cut_to : ℕ → ℕ → Bytes → Stored → Stored
 cut_to start to head s = if nat_lt start to then pruned to head s else s
 
@@ -94,7 +94,7 @@ module _ {C D : Type 0} (members : store.Ghosts C) where
     pub told : Becomes (members.told old.log.store) (members.told new.log.store) (cut_to old.log.tree.start to head)
     pub later : members.faults old.log.store ≤ members.faults new.log.store
 
-  -- a store was made this, and then a prune to a location behind its start failed
+  -- a store was made this, and then a prune to a location after its start failed
   pub record HasLeftPruned (hashing : Hashing D) (f : Stored → Stored) (to : ℕ) (log : Log C D) (new : C) : Type 0 where
     pub past : log.tree.start < to
     pub within : members.«end» new ≤ members.«end» log.store

@@ -8,3 +8,5 @@ pub mod Opening
 pub mod Lent
 pub mod Reading
 pub mod Offered
+pub mod Making
+pub mod Applying

@@ -1,6 +1,6 @@
 -- What a call says that reads a database, alone or through a batch.
-use Rattle.std.specs.Prelude.{◌≡◌, ◌⊎◌, Bool, true, false, List, Result, IfErr, OnOk}
-use Rattle.qm_model.specs.Batches.{Chain, IsKnown}
+use Rattle.std.specs.Prelude.{◌≡◌, ◌≢◌, ◌⊎◌, ℕ, Bool, true, false, List, Result, IfErr, OnOk}
+use Rattle.qm_model.specs.Batches.{Chain, IsKnown, IsOnChain}
 use Rattle.qm_model.specs.Operations.{Operation}
 use Rattle.qm_base.specs.declared.error.Error.{Error}
 use Rattle.qm_base.specs.declared.error.Error.TheVariants as errors
@@ -11,7 +11,7 @@ use Rattle.qm_store.specs.declared.Store as store
 use Rattle.qm_store.specs.Log.{Log}
 use Rattle.qm_store.specs.Reads.{IsReadError}
 use Rattle.qm_any.specs.Layouts.{Layout}
-use Rattle.qm_any.specs.Databases.{Database, Begun, Made, IsBegun, IsDatabase, IsLeft, IsMade}
+use Rattle.qm_any.specs.Databases.{Database, Begun, Made, Staged, IsBegun, IsDatabase, IsLeft, IsMade, IsStaged}
 
 -- why a read through a batch failed, which is known or not: it is stale, or memory was short, or the log's read failed
 abbrev pub IsThroughError : {C D : Type 0} → store.Ghosts C → Bool → Log C D → Log C D → Error → Type 0
@@ -29,6 +29,18 @@ module _ {C D : Type 0} (members : store.Ghosts C) (layout : Layout D) where
   -- of each chain of a batch, and that of its parent, whose base can be read over the database
   abbrev pub AtBegun : Database C D → Begun D → (Chain → Chain → Type 0) → Type 0
   AtBegun db batch P = (list : List Operation) (chain above : Chain) → IsDatabase members layout db list → IsBegun layout.hashing batch chain above → IsKnown list above chain.base → P chain above
+
+  -- the same of a staged batch
+  abbrev pub AtStaged : Database C D → Staged D → (Chain → Chain → Type 0) → Type 0
+  AtStaged db batch P = (list : List Operation) (chain above : Chain) → IsDatabase members layout db list → IsStaged layout.hashing batch chain above → IsKnown list above chain.base → P chain above
+
+  -- of each chain of a batch that has the list for which the database stands
+  abbrev pub OnBegun : Database C D → Begun D → (Chain → Type 0) → Type 0
+  OnBegun db batch P = (list : List Operation) (chain above : Chain) → IsDatabase members layout db list → IsBegun layout.hashing batch chain above → IsOnChain list chain → P chain
+
+  -- the same of a staged batch
+  abbrev pub OnStaged : Database C D → Staged D → (Chain → Type 0) → Type 0
+  OnStaged db batch P = (list : List Operation) (chain above : Chain) → IsDatabase members layout db list → IsStaged layout.hashing batch chain above → IsOnChain list chain → P chain
 
   module _ {A : Type 0} (old new : Database C D) (result : Result A Error) where
     -- A call read the database: it left it as it was but for its store's count of faults. It failed for memory, for a fault by

@@ -1,29 +1,29 @@
 //! Batches: writes that are recorded, and the list that they make.
 
-ghost use Rattle.std.specs.Prelude.{◌≡◌, ◌≢◌, ◌⊎◌, ◌↔◌, ◌≤◌, ◌<◌, ◌+◌, ◌^◌, ◌++◌, ◌∷◌, ℕ, suc, min, [], List, None, true, false, length, map, take, option_map, All, Contains, IsSome, IfSome, IfOk, IfErr, OnOk};
-ghost use Rattle.qm_model.specs.Batches.{Chain, IsKnown, child_of, own_operations};
+ghost use Rattle.std.specs.Prelude.{◌≡◌, ◌⊎◌, ◌↔◌, ◌≤◌, ◌<◌, ◌+◌, ◌^◌, ◌++◌, ◌∷◌, ℕ, suc, min, [], List, None, true, false, length, map, take, option_map, All, Contains, IsSome, IfSome, IfOk, IfErr, OnOk};
+ghost use Rattle.qm_model.specs.Batches.{Chain, child_of, own_operations};
 ghost use Rattle.qm_model.specs.Live as lives;
 ghost use Rattle.qm_model.specs.Forms.{spelling};
 ghost use Rattle.qm_model.specs.Operations.{Operation};
 ghost use Rattle.qm_model.specs.Proofs.{ops_proof, pins_at};
 ghost use Rattle.qm_model.specs.Trees as trees;
 ghost use Rattle.qm_model.specs.Writes.{read_through};
-ghost use Rattle.qm_merkle.specs.Batches.{stops, stops_since};
+ghost use Rattle.qm_merkle.specs.Batches.{layers_at, stops};
 ghost use Rattle.qm_proofs.specs.Proofs.{proof_view, first_lacked, needed_positions};
 ghost use Rattle.qm_chain.specs.Bounds.{commitment_view, is_at, knows};
 ghost use Rattle.qm_step.specs.Bases.{base_view};
 ghost use Rattle.qm_step.specs.Views.{changes_view, keys_of, write_view, AreReads};
 ghost use Rattle.qm_any.specs.Databases.{AreAgreed, IsBegun, IsMade, base_of, bases, child_boundary, child_made, child_tips, operations_in, unapplied};
-ghost use Rattle.qm_store.specs.Log.{IsLacked};
 ghost use Rattle.qm_store.specs.KeptTrees.{held_at};
-ghost use Rattle.qm_any.specs.Tips.{IsPlaced, IsUnplaced};
+ghost use Rattle.qm_any.specs.Reasons.{IsNodeError};
+ghost use Rattle.qm_any.specs.Tips.{IsPlaced, IsTreeAfter, IsUnplaced};
 ghost use Rattle.qm_operations.specs.Views.{operation_views};
 ghost use Rattle.qm_any.specs.Layouts.{Hashing, hashing_with};
 ghost use Rattle.qm_any.specs.Reading.{ReadsThrough, AtMade, AtBegun};
 
 use crate::db::{Db, LaidOut, values_of};
 use crate::operations::{Step, diffs_of, share, shared_twin, spelled_steps, unapplied_of};
-use qm_base::{ByteString, Commitment, Digest, Error, Hasher, JournalError, Location, MerkleError};
+use qm_base::{ByteString, Commitment, Digest, Error, Hasher, Location};
 use qm_batch::{Base, Layer, Plan, Read, Write, Writes};
 use qm_bits::Chunks;
 use qm_chain::{Bounds, Diff, validate_batch_applicable};
@@ -102,7 +102,7 @@ pub(crate) struct Child<D: Digest, U: Update> {
 }
 
 impl<F: Family, D: Digest, U: Update> UnmerkleizedBatch<F, D, U> {
-    // A batch on the list of a merkleized one, with no writes yet, that keeps so many ancestors, the parent first.
+    // A batch on the list of a merkleized one, with no writes yet, that keeps the first `keep` ancestors, counting the parent.
     pub(crate) fn begun(alloc: Global, parent: Rc<MerkleizedBatch<F, D, U>>, keep: usize) -> Self
         requires { keep ≤ suc (length parent.value.bounds.ancestors) }
         ensures { result ≡ record { parent = parent.value; keep = keep; writes = [] } }
@@ -124,7 +124,7 @@ impl<F: Family, D: Digest, U: Update> UnmerkleizedBatch<F, D, U> {
         (&self.parent, self.keep, self.writes.as_slice())
     }
 
-    /// Records a write: a value for the key, or its end. The last write of a key counts. Where memory lacks the batch
+    /// Records a write: a value for the key, or its deletion. The last write of a key counts. Where memory lacks the batch
     /// is gone.
     pub fn write(self, key: U::Key, value: Option<U::Value>) -> Result<Self, AllocError>
         ensures { IfOk result (λ b. b
@@ -232,8 +232,9 @@ impl<F: Family, D: Digest, U: Update> MerkleizedBatch<F, D, U> {
     }
 
     /// The digest of the node at this position of the tree of the list that the batch makes, if the tree came to have it
-    /// behind the batch's boundary. What it had before that a database at a state that the batch knows has, where it keeps it.
+    /// after the batch's boundary. Older nodes are in a database at a state that the batch knows, unless it has pruned them.
     pub fn get_node(&self, position: Position<F>) -> Option<D>
+        ensures exact { result ≡ layers_at F.shape self.now.tree.layers position }
         ensures held { (hash : List ℕ → List ℕ) (chain : Chain) (tip : List Operation)
             → IsMade (hashing_with D.bytes hash F.shape U.form) self.now chain tip
             → (IsSome result
@@ -376,33 +377,20 @@ impl<F: Family, D: Digest, U: Update> MerkleizedBatch<F, D, U> {
         H: Hasher<Digest = D>,
         N: Chunks,
     >(&self, alloc: Global, db: &Db<F, C, I, H, U, N>) -> Result<Proof<D>, Error>
-        ensures proof { (list : List Operation) (chain : Chain) (tip : List Operation)
-            → ⟦<Db<F, C, I, H, U, N> as LaidOut>⟧.stands db.now list
-            → IsMade ⟦<Db<F, C, I, H, U, N> as LaidOut>⟧.layout.hashing self.now chain tip
-            → IsKnown list chain tip
-            → IfOk result (λ p. proof_view D.bytes p
-            ≡ ops_proof H.hash F.shape U.form tip (length chain.base) (length tip)) }
+        ensures proof { AtMade C.Store ⟦<Db<F, C, I, H, U, N> as LaidOut>⟧.layout db.now self.now
+            (λ chain tip. IfOk result (λ p. proof_view D.bytes p
+            ≡ ops_proof H.hash F.shape U.form tip (length chain.base) (length tip))) }
         ensures readable { OnOk result (knows self.now.bounds db.now.commitment ≡ true) }
-        ensures stale { IfErr result (λ e.
-            e ≡ Error.StaleRead → knows self.now.bounds db.now.commitment ≡ false) }
-        ensures never { IfErr result (λ e. (e ≡ Error.Memory)
-            ⊎ ((e ≡ Error.StaleRead)
-            ⊎ ((p : ℕ) × (e ≡ Error.Merkle (MerkleError.ElementPruned p))))) }
-        ensures order { IfErr result (λ e. e ≢ Error.Memory → e ≢ Error.StaleRead
-            → knows self.now.bounds db.now.commitment ≡ true) }
         ensures held { OnOk result (first_lacked (held_at F.shape self.now.tree db.now.log.tree)
             (needed_positions F.shape self.now.bounds.tip.size self.now.bounds.base.size
             self.now.bounds.tip.size)
             ≡ None) }
-        ensures lacked { IfErr result (λ e. e ≢ Error.StaleRead
-            → IsLacked (held_at F.shape self.now.tree db.now.log.tree) (needed_positions F.shape
-            self.now.bounds.tip.size self.now.bounds.base.size self.now.bounds.tip.size) e) }
-        ensures whole { C.start db.now.log.store ≡ 0
-            → (list : List Operation) (chain : Chain) (tip : List Operation)
-            → ⟦<Db<F, C, I, H, U, N> as LaidOut>⟧.stands db.now list
-            → IsMade ⟦<Db<F, C, I, H, U, N> as LaidOut>⟧.layout.hashing self.now chain tip
-            → IsKnown list chain tip
-            → IfErr result (λ e. e ≡ Error.Memory) }
+        ensures lacking { IfErr result (IsNodeError (knows self.now.bounds db.now.commitment)
+            (held_at F.shape self.now.tree db.now.log.tree) (needed_positions F.shape
+            self.now.bounds.tip.size self.now.bounds.base.size self.now.bounds.tip.size)) }
+        ensures whole { C.start db.now.log.store ≡ 0 → AtMade C.Store
+            ⟦<Db<F, C, I, H, U, N> as LaidOut>⟧.layout db.now self.now
+            (λ chain tip. IfErr result (λ e. e ≡ Error.Memory)) }
     {
         self.known(db.commitment())?;
         // The log is kept from where its store is.
@@ -419,32 +407,19 @@ impl<F: Family, D: Digest, U: Update> MerkleizedBatch<F, D, U> {
         H: Hasher<Digest = D>,
         N: Chunks,
     >(&self, alloc: Global, db: &Db<F, C, I, H, U, N>) -> Result<Vec<D>, Error>
-        ensures pins { (list : List Operation) (chain : Chain) (tip : List Operation)
-            → ⟦<Db<F, C, I, H, U, N> as LaidOut>⟧.stands db.now list
-            → IsMade ⟦<Db<F, C, I, H, U, N> as LaidOut>⟧.layout.hashing self.now chain tip
-            → IsKnown list chain tip
-            → IfOk result (λ pins.
-            map D.bytes pins.items ≡ pins_at H.hash F.shape U.form tip (length chain.base)) }
+        ensures pins { AtMade C.Store ⟦<Db<F, C, I, H, U, N> as LaidOut>⟧.layout db.now self.now
+            (λ chain tip. IfOk result (λ pins.
+            map D.bytes pins.items ≡ pins_at H.hash F.shape U.form tip (length chain.base))) }
         ensures readable { OnOk result (knows self.now.bounds db.now.commitment ≡ true) }
-        ensures stale { IfErr result (λ e.
-            e ≡ Error.StaleRead → knows self.now.bounds db.now.commitment ≡ false) }
-        ensures never { IfErr result (λ e. (e ≡ Error.Memory)
-            ⊎ ((e ≡ Error.StaleRead)
-            ⊎ ((p : ℕ) × (e ≡ Error.Merkle (MerkleError.ElementPruned p))))) }
-        ensures order { IfErr result (λ e. e ≢ Error.Memory → e ≢ Error.StaleRead
-            → knows self.now.bounds db.now.commitment ≡ true) }
         ensures held { OnOk result (first_lacked (held_at F.shape self.now.tree db.now.log.tree)
             (trees.peak_positions F.shape self.now.bounds.base.size)
             ≡ None) }
-        ensures lacked { IfErr result (λ e. e ≢ Error.StaleRead
-            → IsLacked (held_at F.shape self.now.tree db.now.log.tree)
-            (trees.peak_positions F.shape self.now.bounds.base.size) e) }
-        ensures whole { C.start db.now.log.store ≡ 0
-            → (list : List Operation) (chain : Chain) (tip : List Operation)
-            → ⟦<Db<F, C, I, H, U, N> as LaidOut>⟧.stands db.now list
-            → IsMade ⟦<Db<F, C, I, H, U, N> as LaidOut>⟧.layout.hashing self.now chain tip
-            → IsKnown list chain tip
-            → IfErr result (λ e. e ≡ Error.Memory) }
+        ensures lacking { IfErr result (IsNodeError (knows self.now.bounds db.now.commitment)
+            (held_at F.shape self.now.tree db.now.log.tree)
+            (trees.peak_positions F.shape self.now.bounds.base.size)) }
+        ensures whole { C.start db.now.log.store ≡ 0 → AtMade C.Store
+            ⟦<Db<F, C, I, H, U, N> as LaidOut>⟧.layout db.now self.now
+            (λ chain tip. IfErr result (λ e. e ≡ Error.Memory)) }
     {
         self.known(db.commitment())?;
         // The log is kept from where its store is.
@@ -505,7 +480,7 @@ impl<F: Family, D: Digest, U: Update> MerkleizedBatch<F, D, U> {
         )?)
     }
 
-    // What stands for the tips of the ancestors that a child keeps, so many, newest first.
+    // What stands for the tips of the first `keep` ancestors, counting this batch, newest first.
     fn child_tips(&self, alloc: Global, keep: usize) -> Result<Vec<Commitment<D>>, AllocError>
         requires { keep ≤ suc (length self.now.bounds.ancestors) }
         ensures { IfOk result (λ tips.
@@ -520,7 +495,7 @@ impl<F: Family, D: Digest, U: Update> MerkleizedBatch<F, D, U> {
         Ok(tips)
     }
 
-    // What stands for the boundary of a child that keeps so many ancestors.
+    // What stands for the boundary of a child that keeps the first `keep` ancestors.
     fn child_boundary(&self, keep: usize) -> Commitment<D>
         ensures { commitment_view D.bytes result ≡ child_boundary keep self.now.bounds }
     {
@@ -533,7 +508,7 @@ impl<F: Family, D: Digest, U: Update> MerkleizedBatch<F, D, U> {
         }
     }
 
-    // What a child that keeps so many ancestors has beside its plan, where it can be made at this state of a database.
+    // What a child that keeps the first `keep` ancestors has beside its plan, if it can be made at this state of a database.
     pub(crate) fn child(
         &self,
         alloc: Global,
@@ -562,7 +537,7 @@ impl<F: Family, D: Digest, U: Update> MerkleizedBatch<F, D, U> {
         })
     }
 
-    // The steps of a child, its own behind a list of this size, then so many of these, newest first, and what they do to keys.
+    // The steps of a child, its own after a list of this size, then the first `keep` of these, newest first, and what they do to keys.
     fn child_steps(
         &self,
         alloc: Global,
@@ -697,7 +672,7 @@ impl<F: Family, D: Digest, U: Update> MerkleizedBatch<F, D, U> {
     }
 }
 
-// The step that puts these operations behind a list of this size.
+// The step that puts these operations after a list of this size.
 fn own_step<F, U: Update>(
     alloc: Global,
     size: u64,
@@ -716,7 +691,7 @@ fn own_step<F, U: Update>(
     Ok(Rc::new(alloc, Layer::new(size, operations, diff))?)
 }
 
-// The steps of a database at rest that has so many operations: one, which does nothing.
+// The steps of a database at rest that has `size` operations: one, which does nothing.
 fn resting<F, U: Update>(alloc: Global, size: u64) -> Result<Vec<Step<F, U>>, AllocError>
     ensures { IfOk result (λ steps. map (λ l. l.value) steps.items
         ≡ record { base = size; operations = []; changes = [] } ∷ []) }
@@ -727,7 +702,7 @@ fn resting<F, U: Update>(alloc: Global, size: u64) -> Result<Vec<Step<F, U>>, Al
     Ok(steps)
 }
 
-// The merkleized batch of a plan on its parent, which keeps so many ancestors.
+// The merkleized batch of a plan on its parent, which keeps the first `keep` ancestors.
 pub(crate) fn sealed<F: Family, D: Digest, U: Update>(
     alloc: Global,
     parent: &MerkleizedBatch<F, D, U>,
@@ -738,17 +713,12 @@ pub(crate) fn sealed<F: Family, D: Digest, U: Update>(
     root: D,
 ) -> Result<Rc<MerkleizedBatch<F, D, U>>, Error>
     requires keep { keep ≤ suc (length parent.now.bounds.ancestors) }
-    requires boundary { commitment_view D.bytes child.boundary
-        ≡ child_boundary keep parent.now.bounds }
-    requires tips { map (commitment_view D.bytes) child.tips.items
-        ≡ child_tips keep parent.now.bounds }
-    requires count { parent.now.tree.leaves + length plan.operations ≡ tree.leaves }
-    requires few { tree.leaves ≤ 2 ^ 62 }
+    requires placed { (commitment_view D.bytes child.boundary
+        ≡ child_boundary keep parent.now.bounds)
+        × (map (commitment_view D.bytes) child.tips.items ≡ child_tips keep parent.now.bounds) }
+    requires after { IsTreeAfter U.form parent.now.tree plan.operations
+        (child_boundary keep parent.now.bounds).size tree }
     requires live { plan.live ≤ tree.leaves }
-    requires stops { stops tree.leaves tree.layers
-        ≡ tree.leaves
-        ∷ stops_since (child_boundary keep parent.now.bounds).size
-        (stops parent.now.tree.leaves parent.now.tree.layers) }
     ensures value { IfOk result (λ b. b.value
         ≡ child_made parent.now keep plan tree (D.bytes root)
         (option_map (λ m. U.Value.bytes m.value) child.metadata)) }

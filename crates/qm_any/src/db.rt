@@ -1,19 +1,17 @@
 //! The database.
 
-ghost use Rattle.std.specs.Prelude.{◌≡◌, ◌≢◌, ◌⊎◌, ◌↔◌, ◌≤◌, ◌+◌, ◌^◌, ◌++◌, ◌∷◌, ℕ, [], List, nat_lt, true, false, length, map, drop, option_map, Contains, IsSome, IfSome, if◌then◌else◌, IfOk, IfErr, OnOk, OnErr};
-ghost use Rattle.qm_model.specs.StoreModel.{beside_items};
+ghost use Rattle.std.specs.Prelude.{◌≡◌, ◌≢◌, ◌⊎◌, ◌↔◌, ◌≤◌, ◌+◌, ◌^◌, ◌++◌, ◌∷◌, ℕ, [], List, nat_lt, true, false, length, map, option_map, Contains, IsSome, IfSome, if◌then◌else◌, IfOk, IfErr, OnOk, OnErr};
 ghost use Rattle.qm_model.specs.Batches.{Chain, IsOnChain, begun_on};
 ghost use Rattle.qm_model.specs.Causes.{IsCause};
 ghost use Rattle.qm_model.specs.Live as lives;
 ghost use Rattle.qm_model.specs.Forms.{spelling};
 ghost use Rattle.qm_model.specs.Operations.{Operation, IsCommitEnded};
 ghost use Rattle.qm_model.specs.Trees as trees;
-ghost use Rattle.qm_model.specs.Trees.{ops_root};
 ghost use Rattle.qm_model.specs.Writes.{read_through};
-ghost use Rattle.qm_merkle.specs.Batches.{stops, stops_since, lists_since};
-ghost use Rattle.qm_merkle.specs.Mems.{Holds};
+ghost use Rattle.qm_merkle.specs.Batches.{stops, lists_since};
+ghost use Rattle.qm_merkle.specs.Mems.{Holds, Stands, node_at};
 ghost use Rattle.qm_store.specs.Log as logs;
-ghost use Rattle.qm_chain.specs.Bounds.{commitment_view, is_at};
+ghost use Rattle.qm_chain.specs.Bounds.{commitment_view};
 ghost use Rattle.qm_model.specs.Bits.{bits};
 ghost use Rattle.qm_bits.specs.Bitmaps.{all_bits, bit_count};
 ghost use Rattle.qm_step.specs.Bases.{IsBase, base_view};
@@ -23,24 +21,24 @@ ghost use Rattle.qm_step.specs.Changes.{LeadTo, update_of};
 ghost use Rattle.qm_index.specs.Indexed.{IsIndexed};
 ghost use Rattle.qm_store.specs.Reads.{IsReadError};
 ghost use Rattle.qm_step.specs.Lent.{NoneBelow};
-ghost use Rattle.qm_step.specs.Views.{changes_view, keys_of, read_view, wanted_view, AreReads, IsPlan, stepped, left_after};
+ghost use Rattle.qm_step.specs.Views.{changes_view, keys_of, read_view, wanted_view, AreReads, IsPlan};
 ghost use Rattle.qm_any.specs.Databases.{Database, over, IsBegun, IsLeft, IsMade, IsTree, at_rest, read_under};
 ghost use Rattle.qm_store.specs.Given.{Appended, AppendedPart, store_given, store_after};
 ghost use Rattle.qm_store.specs.KeptTrees.{IsKeptTree};
 ghost use Rattle.qm_operations.specs.Views.{operation_views};
-ghost use Rattle.qm_any.specs.Tips.{IsSpelled, IsTooLong};
+ghost use Rattle.qm_any.specs.Applying.{Appends, IsUnapplied, KeepsRest, can_apply, store_in};
+ghost use Rattle.qm_any.specs.Making.{list_made, making_of, policy_left};
+ghost use Rattle.qm_any.specs.Tips.{AreTreeAndRoot, IsTooLong, IsTreeAfter};
 ghost use Rattle.qm_any.specs.Reading.{Reads, AtList};
 
 use crate::batch::{Lacking, MerkleizedBatch, UnmerkleizedBatch};
 use crate::operations::{Step, copy_of, share, spelled_behind};
-use qm_base::{
-    ByteString, Commitment, Digest, Error, Hasher, JournalError, Location, MerkleError, twin_option,
-};
+use qm_base::{ByteString, Commitment, Digest, Error, Hasher, JournalError, Location, twin_option};
 use qm_batch::{Base, Plan, Read, Wanted, Writes, apply_diffs, read_key, staged};
 use qm_bits::{Chunks, Prunable};
 use qm_chain::{Diff, Policy};
 use qm_merkle::mem::Mem;
-use qm_merkle::{Family, Position};
+use qm_merkle::{Family, Position, StandardHasher};
 use qm_operations::{Update, ValueEncoding};
 use qm_overlay::apply_bits;
 use qm_proofs::Proof;
@@ -94,7 +92,7 @@ impl<
 
 /// What a database has beside its log.
 #[derive(Drop)]
-pub(crate) struct Beside<
+pub(crate) struct State<
     F,
     I: qm_index::Unordered<Value = Location<F>>,
     D: Digest,
@@ -110,26 +108,26 @@ pub(crate) struct Beside<
 }
 
 impl<F, I: qm_index::Unordered<Value = Location<F>>, D: Digest, U: Update, N: Chunks> Model
-    for Beside<F, I, D, U, N> {
+    for State<F, I, D, U, N> {
     ghost use Rattle.std.specs.Prelude.{◌≡◌, ◌≤◌, option_map};
     ghost use Rattle.qm_bits.specs.Bitmaps.{bit_count};
     ghost use Rattle.qm_chain.specs.Bounds.{commitment_view};
-    ghost use Rattle.qm_any.specs.Databases.{Beside};
+    ghost use Rattle.qm_any.specs.Databases.{State};
 
-    ghost Value = { Beside };
+    ghost Value = { State };
 
     ghost view = { λ b. record { entries = I.entries b.index; activity = b.activity; commitment = commitment_view D.bytes b.commitment; floor = b.floor; live = b.live; metadata = option_map (λ m. U.Value.bytes m.value) b.metadata } };
 
     ghost invariant = { λ b. (b.live ≤ b.commitment.size) × (bit_count N.LEN b.activity ≡ b.commitment.size) };
 }
 
-impl<
-    F: Family,
-    I: qm_index::Unordered<Value = Location<F>>,
-    D: Digest,
-    U: Update,
-    N: Chunks,
-> Beside<F, I, D, U, N> {
+impl<F: Family, I: qm_index::Unordered<Value = Location<F>>, D: Digest, U: Update, N: Chunks> State<
+    F,
+    I,
+    D,
+    U,
+    N,
+> {
     // The database of this over a log.
     pub(crate) fn over<C: Store, H: Hasher<Digest = D>>(
         self,
@@ -196,6 +194,10 @@ impl<
     U: Update,
     N: Chunks,
 > Db<F, C, I, H, U, N> {
+    ghost use Rattle.std.specs.Borrow.{Lends, sem};
+    ghost use Rattle.qm_any.specs.contracts.db.Db.{the_row};
+    ghost use Rattle.qm_merkle.specs.contracts.hasher.StandardHasher.{the_row as hasher_row};
+
     // The database of an index, a log and what these stand for.
     pub(crate) fn of_parts(
         index: I,
@@ -235,7 +237,7 @@ impl<
     }
 
     // The log, and what the database has beside it.
-    pub(crate) fn apart(self) -> (AuthLog<F, C, H>, Beside<F, I, H::Digest, U, N>)
+    pub(crate) fn into_parts(self) -> (AuthLog<F, C, H>, State<F, I, H::Digest, U, N>)
         ensures whole { self ≡ over result.1 result.0 }
         ensures size { result.1.commitment.size ≡ result.0.tree.leaves }
         ensures end { C.end result.0.store ≡ result.0.tree.leaves }
@@ -249,7 +251,7 @@ impl<
             live,
             metadata,
         } = self;
-        let beside = Beside {
+        let state = State {
             index,
             activity,
             commitment,
@@ -257,7 +259,7 @@ impl<
             live,
             metadata,
         };
-        (log, beside)
+        (log, state)
     }
 
     /// Begins a batch on the database as it is.
@@ -290,9 +292,10 @@ impl<
         MerkleizedBatch::at_rest(alloc, self.commitment, floor, self.live, metadata)
     }
 
-    /// The digest of the node at this position of the tree of the database's list, if it is held: it came behind what was
+    /// The digest of the node at this position of the tree of the database's list, if it is held: it came after what was
     /// pruned, or is a peak over that.
     pub fn get_node(&self, position: Position<F>) -> Option<H::Digest>
+        ensures exact { result ≡ node_at F.shape self.now.log.tree position }
         ensures held { IsSome result ↔ Holds F.shape self.now.log.tree position }
         ensures value { (list : List Operation) → ⟦<Self as LaidOut>⟧.stands self.now list
             → (x : trees.Node) → trees.Shape.birth F.shape x ≤ length list
@@ -305,10 +308,9 @@ impl<
 
     /// Whether the batch can be applied: the database is at its boundary or at a kept ancestor's tip. It takes no memory.
     pub fn validate_batch(&self, batch: &MerkleizedBatch<F, H::Digest, U>) -> Result<(), Error>
-        ensures fits { OnOk result
-            (is_at self.now.commitment batch.now.bounds.db batch.now.bounds.ancestors ≡ true) }
-        ensures stale { IfErr result (λ e. (e ≡ Error.StaleBatch)
-            × (is_at self.now.commitment batch.now.bounds.db batch.now.bounds.ancestors ≡ false)) }
+        ensures fits { OnOk result (can_apply self.now batch.now ≡ true) }
+        ensures stale { IfErr result (λ e.
+            (e ≡ Error.StaleBatch) × (can_apply self.now batch.now ≡ false)) }
     {
         batch.fits(&self.commitment)
     }
@@ -329,32 +331,12 @@ impl<
             → ⟦<Self as LaidOut>⟧.stands self list
             → IsMade ⟦<Self as LaidOut>⟧.layout.hashing batch.now chain tip → IsOnChain list chain
             → IfOk result (λ next. ⟦<Self as LaidOut>⟧.stands next tip) }
-        ensures fits { OnOk result
-            (is_at self.commitment batch.now.bounds.db batch.now.bounds.ancestors ≡ true) }
-        ensures grown { (chain : Chain) (tip : List Operation)
+        ensures fits { OnOk result (can_apply self batch.now ≡ true) }
+        ensures appends { (chain : Chain) (tip : List Operation)
             → IsMade ⟦<Self as LaidOut>⟧.layout.hashing batch.now chain tip
-            → IfOk result (λ next. Appended C.Store self.log.store next.log.store
-            (map (spelling U.form) (drop self.commitment.size tip))) }
-        ensures start { C.start (store_after (λ db. db.log.store) result) ≡ C.start self.log.store }
-        ensures beside { beside_items (C.told (store_after (λ db. db.log.store) result))
-            ≡ beside_items (C.told self.log.store) }
-        ensures later { IfOk result (λ next. C.faults self.log.store ≤ C.faults next.log.store) }
-        ensures stale { IfErr result (λ r. r.error ≡ Error.StaleBatch
-            → (r.given ≡ Given.Database self)
-            × (is_at self.commitment batch.now.bounds.db batch.now.bounds.ancestors ≡ false)) }
-        ensures part { (chain : Chain) (tip : List Operation)
-            → IsMade ⟦<Self as LaidOut>⟧.layout.hashing batch.now chain tip
-            → IfErr result (λ r.
-            AppendedPart C.Store self.log.store (store_given (λ db. db.log.store) r.given)
-            (if is_at self.commitment batch.now.bounds.db batch.now.bounds.ancestors then map
-            (spelling U.form) (drop self.commitment.size tip) else [])) }
-        ensures back { IfErr result (λ r. (x : Database C H.Digest) → r.given ≡ Given.Database x
-            → (x ≡ self) × ((r.error ≡ Error.StaleBatch) ⊎ (r.error ≡ Error.Memory))) }
-        ensures causes { IfErr result (λ r. (r.error ≡ Error.StaleBatch)
-            ⊎ ((r.error ≡ Error.Memory) ⊎ (r.error ≡ Error.Journal JournalError.Store))) }
-        ensures cause { IfErr result (λ r.
-            IsCause (C.faults self.log.store) (C.faults (store_given (λ db. db.log.store) r.given))
-            (r.error ≡ Error.Journal JournalError.Store)) }
+            → Appends C.Store self batch.now U.form tip result }
+        ensures rest { KeepsRest C.Store self.log.store (store_after store_in result) }
+        ensures unapplied { IfErr result (IsUnapplied C.Store self batch.now) }
     {
         match batch.lacking(alloc, &self.commitment) {
             Err(error) => Err(Refusal {
@@ -413,11 +395,11 @@ impl<
             IsCause (C.faults self.log.store) (C.faults (store_given (λ db. db.log.store) r.given))
             (r.error ≡ Error.Journal JournalError.Store)) }
     {
-        let (log, beside) = self.apart();
+        let (log, state) = self.into_parts();
         match log.append_tree(&lacking.items, &batch.tree) {
-            Ok(log) => indexed(beside, log, lacking.diffs, batch, lacking.metadata),
+            Ok(log) => indexed(state, log, lacking.diffs, batch, lacking.metadata),
             Err(LogRefusal { given, error }) => Err(Refusal {
-                given: given_back(beside, given),
+                given: given_back(state, given),
                 error,
             }),
         }
@@ -545,7 +527,7 @@ impl<
         Ok(reads)
     }
 
-    // A batch's tree with the leaves of these operations behind it, and the root of its list with this floor, where no
+    // A batch's tree with the leaves of these operations after its own, and the root of its list with this floor, where no
     // spelling is too long and the list is not. It keeps nothing of what led to lists of fewer operations than the boundary's.
     pub(crate) fn grown(
         &mut self,
@@ -558,29 +540,15 @@ impl<
         requires few { tree.now.leaves ≤ 2 ^ 62 }
         requires reach { Contains (stops tree.now.leaves tree.now.layers) self.old.commitment.size }
         requires boundary { boundary ≤ self.old.commitment.size }
-        ensures leaves { IfOk result (λ grown.
-            grown.0.leaves ≡ tree.now.leaves + length operations.now) }
-        ensures taken { IfOk result (λ grown. IsSpelled U.form
-            (operation_views U.view U.Key.bytes U.Value.bytes operations.now) grown.0.leaves) }
-        ensures stops { IfOk result (λ grown. stops grown.0.leaves grown.0.layers
-            ≡ grown.0.leaves ∷ stops_since boundary (stops tree.now.leaves tree.now.layers)) }
+        ensures after { IfOk result (λ grown. IsTreeAfter U.form tree.now
+            (operation_views U.view U.Key.bytes U.Value.bytes operations.now) boundary grown.0) }
         ensures tree { (list base : List Operation) (older : List (List Operation))
             → ⟦<Self as LaidOut>⟧.stands self.old list
             → IsTree ⟦<Self as LaidOut>⟧.layout.hashing tree.now base older
             → Contains (base ∷ older) list
-            → IfOk result (λ grown.
-            IsKeptTree H.Digest.bytes H.hash F.shape grown.0 (map (spelling U.form)
-            (base ++ operation_views U.view U.Key.bytes U.Value.bytes operations.now))
-            (lists_since boundary (map (map (spelling U.form)) (base ∷ older)))) }
-        ensures root { (list base : List Operation) (older : List (List Operation))
-            → ⟦<Self as LaidOut>⟧.stands self.old list
-            → IsTree ⟦<Self as LaidOut>⟧.layout.hashing tree.now base older
-            → Contains (base ∷ older) list
-            → floor
-            ≡ lives.floor (base ++ operation_views U.view U.Key.bytes U.Value.bytes operations.now)
-            → IfOk result (λ grown. H.Digest.bytes grown.1
-            ≡ ops_root H.hash F.shape U.form
-            (base ++ operation_views U.view U.Key.bytes U.Value.bytes operations.now)) }
+            → IfOk result (AreTreeAndRoot ⟦<Self as LaidOut>⟧.layout.hashing
+            (base ++ operation_views U.view U.Key.bytes U.Value.bytes operations.now)
+            (lists_since boundary (map (map (spelling U.form)) (base ∷ older))) floor) }
         ensures refused { IfErr result (λ e. (e ≡ Error.Memory)
             ⊎ IsTooLong (map (spelling U.form)
             (operation_views U.view U.Key.bytes U.Value.bytes operations.now))
@@ -669,9 +637,26 @@ impl<
         &self.commitment
     }
 
+    /// The database's hasher, with its tree and its bits beside it: what else is hashed while these are read takes no hasher of its
+    /// own. The database is as it was when they are given back.
+    pub fn split(&mut self) -> (&mut StandardHasher<H>, &Mem<F, H::Digest>, &Prunable<N>)
+        ensures* same { sem 𝓛 (Lends
+            (the_row F.row C.row I.row H.row U.row N.row H.Digest.row U.Key.row U.Value.row F.Family
+            C.Store I.Unordered H.Hasher H.Digest.Digest U.Update U.Key.ByteString
+            U.Value.ByteString N.Chunks) (hasher_row H.row) self.entry result.0 (λ _. self.old)) }
+        ensures tree { result.1.now ≡ self.old.log.tree }
+        ensures bits { result.2.now ≡ self.old.activity }
+    {
+        let (hasher, tree) = self.log.split();
+        (hasher, tree, &self.activity)
+    }
+
     /// The tree over the list.
     pub fn tree(&self) -> &Mem<F, H::Digest>
-        ensures { result.now ≡ self.now.log.tree }
+        ensures value { result.now ≡ self.now.log.tree }
+        ensures stands { AtList C.Store ⟦<Self as LaidOut>⟧.layout self.now (λ list.
+            Stands F.shape H.Digest.bytes H.hash result.now
+            (trees.leaves_from H.hash F.shape U.form 0 list)) }
     {
         self.log.tree()
     }
@@ -718,21 +703,15 @@ impl<
         metadata: Option<U::Value>,
         policy: &mut P,
     ) -> Result<Plan<F, U>, Error>
-        requires size { base.now.size ≤ 2 ^ 62 }
-        requires live { base.now.live ≤ base.now.size }
+        requires base { (base.now.size ≤ 2 ^ 62) × (base.now.live ≤ base.now.size) }
         requires slots { length wanted.slots.now ≡ length wanted.reads.now }
-        ensures plan { (list known : List Operation) → ⟦<Self as LaidOut>⟧.stands self.old list
+        ensures plan { let making = making_of P.rules policy.old
+            (wanted_view U.Key.bytes U.Value.bytes wanted.entry) (option_map U.Value.bytes metadata)
+            in (list known : List Operation) → ⟦<Self as LaidOut>⟧.stands self.old list
             → IsBase (base_view base.now) list known → HasRing U.form known
             → AreReads U.view U.Key.bytes wanted.entry.reads.now known
-            → IfOk result (λ plan. IsPlan plan known (stepped U.form P.rules known
-            (wanted_view U.Key.bytes U.Value.bytes wanted.entry) policy.old
-            (option_map U.Value.bytes metadata))) }
-        ensures next { (list known : List Operation) → ⟦<Self as LaidOut>⟧.stands self.old list
-            → IsBase (base_view base.now) list known → HasRing U.form known
-            → AreReads U.view U.Key.bytes wanted.entry.reads.now known
-            → IfOk result (λ _. policy.new
-            ≡ left_after U.form P.rules known (wanted_view U.Key.bytes U.Value.bytes wanted.entry)
-            policy.old) }
+            → IfOk result (λ plan. IsPlan plan known (list_made U.form making known)
+            × (policy.new ≡ policy_left U.form making known)) }
         ensures live { IfOk result (λ plan. plan.live ≤ base.now.size + length plan.operations) }
         ensures error { IfErr result (IsReadError C.Store self.old.log self.new.log) }
         ensures whole { (list : List Operation) → ⟦<Self as LaidOut>⟧.stands self.old list
@@ -818,24 +797,24 @@ fn indexed<
     U: Update,
     N: Chunks,
 >(
-    beside: Beside<F, I, H::Digest, U, N>,
+    state: State<F, I, H::Digest, U, N>,
     log: AuthLog<F, C, H>,
     diffs: &[Rc<Diff<F, U::Key, U::Value>>],
     batch: &MerkleizedBatch<F, H::Digest, U>,
     metadata: Option<Rc<U::Value>>,
 ) -> Result<Db<F, C, I, H, U, N>, Refusal<Db<F, C, I, H, U, N>, C>>
     requires size { batch.now.bounds.tip.size ≡ log.tree.leaves }
-    requires grown { beside.commitment.size ≤ log.tree.leaves }
+    requires grown { state.commitment.size ≤ log.tree.leaves }
     requires end { C.end log.store ≡ log.tree.leaves }
     ensures log { IfOk result (λ next. next.log ≡ log) }
     ensures index { IfOk result (λ next. (list tip : List Operation)
         → LeadTo (map (λ d. changes_view U.Key.bytes U.Value.bytes d.value) diffs.now) list tip
-        → IsIndexed I.index_key beside.entries list
+        → IsIndexed I.index_key state.entries list
         → IsIndexed I.index_key next.entries tip) }
     ensures active { IfOk result (λ next. (list tip : List Operation)
         → LeadTo (map (λ d. changes_view U.Key.bytes U.Value.bytes d.value) diffs.now) list tip
         → IsCommitEnded list → batch.now.bounds.tip.size ≡ length tip
-        → all_bits N.LEN beside.activity ≡ bits list
+        → all_bits N.LEN state.activity ≡ bits list
         → all_bits N.LEN next.activity ≡ bits tip) }
     ensures rest { IfOk result (λ next. (next.commitment ≡ batch.now.bounds.tip)
         × (next.floor ≡ batch.now.bounds.inactivity_floor) × (next.live ≡ batch.now.live)
@@ -843,11 +822,11 @@ fn indexed<
     ensures back { IfErr result (λ r.
         (r.given ≡ Given.Store log.store) × (r.error ≡ Error.Memory)) }
 {
-    let Beside {
+    let State {
         mut index,
         mut activity,
         ..
-    } = beside;
+    } = state;
     match brought_up(&mut index, &mut activity, batch.bounds.tip.size, diffs) {
         Ok(()) => Ok(Db {
             index,
@@ -904,17 +883,17 @@ fn given_back<
     U: Update,
     N: Chunks,
 >(
-    beside: Beside<F, I, H::Digest, U, N>,
+    state: State<F, I, H::Digest, U, N>,
     given: LogGiven<AuthLog<F, C, H>, C>,
 ) -> Given<Db<F, C, I, H, U, N>, C>
     requires { (log : logs.Log C H.Digest) → given ≡ LogGiven.Log log
-        → (beside.commitment.size ≡ log.tree.leaves) × (C.end log.store ≡ log.tree.leaves) }
+        → (state.commitment.size ≡ log.tree.leaves) × (C.end log.store ≡ log.tree.leaves) }
     ensures store { store_given (λ db. db.log.store) result ≡ logs.store_given given }
     ensures back { (x : Database C H.Digest) → result ≡ Given.Database x
-        → (given ≡ LogGiven.Log x.log) × (x ≡ over beside x.log) }
+        → (given ≡ LogGiven.Log x.log) × (x ≡ over state x.log) }
 {
     match given {
-        LogGiven::Log(log) => Given::Database(beside.over(log)),
+        LogGiven::Log(log) => Given::Database(state.over(log)),
         LogGiven::Store(store) => Given::Store(store),
     }
 }

@@ -8,7 +8,7 @@ ghost use Rattle.qm_store.specs.Log.{HasLeft};
 ghost use Rattle.qm_step.specs.Lent.{NoneBelow};
 ghost use Rattle.qm_any.specs.Lasting.{bits_from, boundary_of, over_log, HasLasted, HasLeftPruned, HasLeftDestroyed, HasLeftStable, HasPruned, HasPrunedLog, IsDestroyed, IsGivenUp};
 
-use crate::db::{Beside, Db, LaidOut};
+use crate::db::{Db, LaidOut, State};
 use qm_base::{Error, Hasher, Location};
 use qm_bits::Chunks;
 use qm_merkle::Family;
@@ -34,8 +34,8 @@ impl<
             (HasLasted C.Store ⟦<Self as LaidOut>⟧.layout.hashing settled self) }
         ensures refused { IfErr result (IsGivenUp C.Store (HasLeftStable C.Store) self.log.store) }
     {
-        let (log, beside) = self.apart();
-        over(beside, log.commit())
+        let (log, state) = self.into_parts();
+        over(state, log.commit())
     }
 
     /// Makes all that the store holds stable. It takes one call of the store and no memory. A refusal gives back the store.
@@ -46,8 +46,8 @@ impl<
             (HasLasted C.Store ⟦<Self as LaidOut>⟧.layout.hashing settled self) }
         ensures refused { IfErr result (IsGivenUp C.Store (HasLeftStable C.Store) self.log.store) }
     {
-        let (log, beside) = self.apart();
-        over(beside, log.sync())
+        let (log, state) = self.into_parts();
+        over(state, log.sync())
     }
 
     /// Replaces the metadata that the store has under a name. A refusal gives back the store.
@@ -59,12 +59,12 @@ impl<
         ensures refused { IfErr result (IsGivenUp C.Store (HasLeft C.Store (λ s.
             ReadsAs s.stable (IsOldOrNew (with_metadata name.now entries.now) s))) self.log.store) }
     {
-        let (log, beside) = self.apart();
-        over(beside, log.put_meta(name, entries))
+        let (log, state) = self.into_parts();
+        over(state, log.put_meta(name, entries))
     }
 
     /// Takes the operations before a location away from the store, which keeps the digests of the peaks there, and makes all
-    /// others stable first: roots, reads and later batches stay what they were. A store that starts there or behind is not
+    /// others stable first: roots, reads and later batches stay what they were. A store that starts there or after it is not
     /// pruned. The database comes back as it was where the location is past its boundary; every other refusal gives back the
     /// store.
     pub fn prune(self, alloc: Global, loc: Location<F>) -> Result<Self, Refusal<Self, C>>
@@ -122,9 +122,9 @@ impl<
             → ⟦<Self as LaidOut>⟧.stands result list }
         ensures pruned { result ≡ record self { activity = bits_from N.LEN to self.activity } }
     {
-        let (log, mut beside) = self.apart();
-        beside.activity.prune_to_bit(to);
-        beside.over(log)
+        let (log, mut state) = self.into_parts();
+        state.activity.prune_to_bit(to);
+        state.over(log)
     }
 
     /// The database whose store has nothing before a location but the digests of the peaks there, where all of it is stable:
@@ -140,12 +140,12 @@ impl<
             HasLeftPruned C.Store ⟦<Self as LaidOut>⟧.layout.hashing (λ s. s) to self.log)
             self.log.store) }
     {
-        let (log, beside) = self.apart();
+        let (log, state) = self.into_parts();
         let (start, _) = log.bounds();
         if to <= start {
-            return Ok(beside.over(log));
+            return Ok(state.over(log));
         }
-        over(beside, log.prune(alloc, to))
+        over(state, log.prune(alloc, to))
     }
 
     /// Empties the store: a database that is opened on it then is fresh. A refusal gives back the store.
@@ -174,15 +174,15 @@ fn over<
     U: Update,
     N: Chunks,
 >(
-    beside: Beside<F, I, H::Digest, U, N>,
+    state: State<F, I, H::Digest, U, N>,
     done: Result<AuthLog<F, C, H>, LogRefusal<AuthLog<F, C, H>, C>>,
 ) -> Result<Db<F, C, I, H, U, N>, Refusal<Db<F, C, I, H, U, N>, C>>
     requires { IfOk done (λ log.
-        (beside.commitment.size ≡ log.tree.leaves) × (C.end log.store ≡ log.tree.leaves)) }
-    ensures { result ≡ over_log beside done }
+        (state.commitment.size ≡ log.tree.leaves) × (C.end log.store ≡ log.tree.leaves)) }
+    ensures { result ≡ over_log state done }
 {
     match done {
-        Ok(log) => Ok(beside.over(log)),
+        Ok(log) => Ok(state.over(log)),
         Err(refusal) => Err(Refusal {
             given: Given::Store(store_of(refusal.given)),
             error: refusal.error,

@@ -62,7 +62,7 @@ impl<
 
     ghost scheme = { scheme_of 32 (sha256_hashing mmr U.form) };
 
-    ghost bounds = { record { low = λ list. le_refl (floor list); chunks = tt; prompt = tt } };
+    ghost bounds = { record { low = λ list. le_refl (floor list); chunks = tt; prompt = tt; over = tt } };
 
     ghost formed = { λ x list is. is.lent.of };
 

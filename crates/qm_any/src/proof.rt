@@ -1,25 +1,21 @@
 //! Proofs of a database's operations.
 
-ghost use Rattle.std.specs.Prelude.{◌≡◌, ◌≢◌, ◌⊎◌, ◌≤◌, ◌<◌, ◌+◌, ◌-◌, List, None, IfSome, option_and_then, All, length, map, take, drop, Err, IfOk, IfErr, OnOk};
+ghost use Rattle.std.specs.Prelude.{◌≡◌, ◌≤◌, ◌<◌, ◌+◌, None, length, map, take, drop, Err, IfOk, IfErr, OnOk};
 ghost use Rattle.std.specs.NonZero.{non_zero_u64_get};
-ghost use Rattle.qm_model.specs.Forms.{IsOf, decoded, spelling};
 ghost use Rattle.qm_operations.specs.Views.{operation_views};
-ghost use Rattle.qm_model.specs.Causes.{Rose};
-ghost use Rattle.qm_model.specs.Live as lives;
-ghost use Rattle.qm_model.specs.Operations as operations;
 ghost use Rattle.qm_model.specs.Proofs.{ops_proof, pins_at};
-ghost use Rattle.qm_model.specs.Refusals.{commit_floor, floor_before, last_refusal, proof_refusal, proof_count, pins_refusal};
+ghost use Rattle.qm_model.specs.Refusals.{proof_refusal, proof_count, pins_refusal};
 ghost use Rattle.qm_model.specs.Trees.{peak_positions};
 ghost use Rattle.qm_merkle.specs.Mems.{node_at};
 ghost use Rattle.qm_proofs.specs.Proofs.{proof_view, first_lacked};
-ghost use Rattle.qm_store.specs.Reads.{IsRead};
-ghost use Rattle.qm_store.specs.Log.{IsLacked, IsLog};
 ghost use Rattle.qm_any.specs.Databases.{IsLeft};
-ghost use Rattle.qm_store.specs.Refusals.{IsAmong, IsDue};
+ghost use Rattle.qm_any.specs.Reading.{AtList};
+ghost use Rattle.qm_any.specs.Reasons.{IsPinsError, IsProofError};
+ghost use Rattle.qm_store.specs.Refusals.{IsDue};
 ghost use Rattle.qm_build.specs.Reasons.{proof_reasons};
 
 use crate::db::{Db, LaidOut};
-use qm_base::{Digest, Error, Hasher, JournalError, Location, MerkleError};
+use qm_base::{Digest, Error, Hasher, Location, MerkleError};
 use qm_bits::Chunks;
 use qm_build::proved_over;
 use qm_merkle::Family;
@@ -39,7 +35,7 @@ impl<
 > Db<F, C, I, H, U, N> {
     /// The operations from `start` on, at most `max`, and their proof in the list of the first `size` operations, which
     /// has to end with a commit. It verifies against the root that the database had with these operations. It is refused
-    /// for the first of these: so many operations are past the end; the store no longer has the last of them, or that is
+    /// for the first of these: `size` is past the end; the store no longer has the last of them, or that is
     /// no commit; its floor is past it; `start` is past it, or before what the store has.
     pub fn historical_proof(
         &mut self,
@@ -48,27 +44,21 @@ impl<
         start: Location<F>,
         max: NonZeroU64,
     ) -> Result<(Proof<H::Digest>, Vec<Operation<F, U>>), Error>
-        ensures offered { (list : List operations.Operation)
-            → ⟦<Self as LaidOut>⟧.stands self.old list
-            → OnOk result (proof_refusal (C.start self.old.log.store) list size start ≡ None) }
+        ensures offered { AtList C.Store ⟦<Self as LaidOut>⟧.layout self.old (λ list.
+            OnOk result (proof_refusal (C.start self.old.log.store) list size start ≡ None)) }
         ensures kept { OnOk result (C.start self.old.log.store ≤ start) }
-        ensures proof { (list : List operations.Operation)
-            → ⟦<Self as LaidOut>⟧.stands self.old list
-            → IfOk result (λ shown. proof_view H.Digest.bytes shown.0
+        ensures proof { AtList C.Store ⟦<Self as LaidOut>⟧.layout self.old (λ list.
+            IfOk result (λ shown. proof_view H.Digest.bytes shown.0
             ≡ ops_proof H.hash F.shape U.form (take size list) start
-            (start + proof_count size start (non_zero_u64_get max))) }
-        ensures operations { (list : List operations.Operation)
-            → ⟦<Self as LaidOut>⟧.stands self.old list
-            → IfOk result (λ shown. operation_views U.view U.Key.bytes U.Value.bytes shown.1.items
-            ≡ take (proof_count size start (non_zero_u64_get max)) (drop start list)) }
-        ensures refused { (list : List operations.Operation)
-            → ⟦<Self as LaidOut>⟧.stands self.old list
-            → IfErr result (λ e.
-            IsDue e (proof_refusal (C.start self.old.log.store) list size start)) }
-        ensures causes { IfErr result (λ e. IsAmong e (proof_reasons size start)) }
-        ensures never { IfErr result (λ e. e ≢ Error.StaleBatch) }
-        ensures cause { IfErr result (λ e. e ≡ Error.Journal JournalError.Store
-            → Rose (C.faults self.old.log.store) (C.faults self.new.log.store)) }
+            (start + proof_count size start (non_zero_u64_get max)))) }
+        ensures operations { AtList C.Store ⟦<Self as LaidOut>⟧.layout self.old (λ list.
+            IfOk result (λ shown. operation_views U.view U.Key.bytes U.Value.bytes shown.1.items
+            ≡ take (proof_count size start (non_zero_u64_get max)) (drop start list))) }
+        ensures refused { AtList C.Store ⟦<Self as LaidOut>⟧.layout self.old (λ list.
+            IfErr result (λ e.
+            IsDue e (proof_refusal (C.start self.old.log.store) list size start))) }
+        ensures unproved { IfErr result
+            (IsProofError C.Store (proof_reasons size start) self.old.log self.new.log) }
         ensures left { IsLeft C.Store ⟦<Self as LaidOut>⟧.layout.hashing self.old self.new }
     {
         proved_over(alloc, &mut self.log, size.get(), start.get(), max)
@@ -81,29 +71,22 @@ impl<
         start: Location<F>,
         max: NonZeroU64,
     ) -> Result<(Proof<H::Digest>, Vec<Operation<F, U>>), Error>
-        ensures offered { (list : List operations.Operation)
-            → ⟦<Self as LaidOut>⟧.stands self.old list
-            → OnOk result
-            (proof_refusal (C.start self.old.log.store) list (length list) start ≡ None) }
+        ensures offered { AtList C.Store ⟦<Self as LaidOut>⟧.layout self.old (λ list.
+            OnOk result
+            (proof_refusal (C.start self.old.log.store) list (length list) start ≡ None)) }
         ensures kept { OnOk result (C.start self.old.log.store ≤ start) }
-        ensures proof { (list : List operations.Operation)
-            → ⟦<Self as LaidOut>⟧.stands self.old list
-            → IfOk result (λ shown. proof_view H.Digest.bytes shown.0
+        ensures proof { AtList C.Store ⟦<Self as LaidOut>⟧.layout self.old (λ list.
+            IfOk result (λ shown. proof_view H.Digest.bytes shown.0
             ≡ ops_proof H.hash F.shape U.form list start
-            (start + proof_count (length list) start (non_zero_u64_get max))) }
-        ensures operations { (list : List operations.Operation)
-            → ⟦<Self as LaidOut>⟧.stands self.old list
-            → IfOk result (λ shown. operation_views U.view U.Key.bytes U.Value.bytes shown.1.items
-            ≡ take (proof_count (length list) start (non_zero_u64_get max)) (drop start list)) }
-        ensures refused { (list : List operations.Operation)
-            → ⟦<Self as LaidOut>⟧.stands self.old list
-            → IfErr result (λ e.
-            IsDue e (proof_refusal (C.start self.old.log.store) list (length list) start)) }
-        ensures causes { IfErr result (λ e.
-            IsAmong e (proof_reasons self.old.commitment.size start)) }
-        ensures never { IfErr result (λ e. e ≢ Error.StaleBatch) }
-        ensures cause { IfErr result (λ e. e ≡ Error.Journal JournalError.Store
-            → Rose (C.faults self.old.log.store) (C.faults self.new.log.store)) }
+            (start + proof_count (length list) start (non_zero_u64_get max)))) }
+        ensures operations { AtList C.Store ⟦<Self as LaidOut>⟧.layout self.old (λ list.
+            IfOk result (λ shown. operation_views U.view U.Key.bytes U.Value.bytes shown.1.items
+            ≡ take (proof_count (length list) start (non_zero_u64_get max)) (drop start list))) }
+        ensures refused { AtList C.Store ⟦<Self as LaidOut>⟧.layout self.old (λ list.
+            IfErr result (λ e.
+            IsDue e (proof_refusal (C.start self.old.log.store) list (length list) start))) }
+        ensures unproved { IfErr result (IsProofError C.Store
+            (proof_reasons self.old.commitment.size start) self.old.log self.new.log) }
         ensures left { IsLeft C.Store ⟦<Self as LaidOut>⟧.layout.hashing self.old self.new }
     {
         let size = self.size();
@@ -117,27 +100,21 @@ impl<
         alloc: Global,
         count: Location<F>,
     ) -> Result<Vec<H::Digest>, Error>
-        ensures offered { (list : List operations.Operation)
-            → ⟦<Self as LaidOut>⟧.stands self.now list
-            → OnOk result (pins_refusal list count ≡ None) }
-        ensures pins { (list : List operations.Operation) → ⟦<Self as LaidOut>⟧.stands self.now list
-            → IfOk result (λ pins.
-            map H.Digest.bytes pins.items ≡ pins_at H.hash F.shape U.form list count) }
-        ensures refused { C.start self.now.log.store ≤ count → (list : List operations.Operation)
-            → ⟦<Self as LaidOut>⟧.stands self.now list
-            → IfErr result (λ e. IsDue e (pins_refusal list count)) }
+        ensures offered { AtList C.Store ⟦<Self as LaidOut>⟧.layout self.now (λ list.
+            OnOk result (pins_refusal list count ≡ None)) }
+        ensures pins { AtList C.Store ⟦<Self as LaidOut>⟧.layout self.now (λ list.
+            IfOk result (λ pins.
+            map H.Digest.bytes pins.items ≡ pins_at H.hash F.shape U.form list count)) }
+        ensures refused { C.start self.now.log.store ≤ count
+            → AtList C.Store ⟦<Self as LaidOut>⟧.layout self.now (λ list.
+            IfErr result (λ e. IsDue e (pins_refusal list count))) }
         ensures range { self.now.commitment.size < count
             → result ≡ Err (Error.Merkle (MerkleError.RangeOutOfBounds count)) }
         ensures held { OnOk result (first_lacked (node_at F.shape self.now.log.tree)
             (peak_positions F.shape count)
             ≡ None) }
-        ensures cause { count ≤ self.now.commitment.size
-            → IfErr result
-            (IsLacked (node_at F.shape self.now.log.tree) (peak_positions F.shape count)) }
-        ensures whole { C.start self.now.log.store ≤ count → count ≤ self.now.commitment.size
-            → IfErr result (λ e. e ≡ Error.Memory) }
-        ensures never { IfErr result (λ e.
-            (e ≢ Error.StaleBatch) × (e ≢ Error.Journal JournalError.Store)) }
+        ensures lacking { IfErr result (IsPinsError F.shape self.now.log.tree
+            (C.start self.now.log.store) self.now.commitment.size count) }
     {
         // The log is kept from where its store is.
         self.log.bounds();

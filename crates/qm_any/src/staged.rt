@@ -1,24 +1,19 @@
 //! Staged batches: keys that were read through a batch, so that they are not looked up again when it is merkleized.
 
-ghost use Rattle.std.specs.Prelude.{◌≡◌, ◌≢◌, ◌⊎◌, ◌≤◌, ◌+◌, ◌++◌, ℕ, ◌==◌, List, true, false, length, map, option_map, IfOk, All, IfErr, OnOk};
+ghost use Rattle.std.specs.Prelude.{◌≡◌, ◌≤◌, ◌+◌, ◌++◌, ◌==◌, true, length, map, option_map, IfOk, All, IfErr, OnOk};
 ghost use Rattle.qm_base.specs.Slots.{slot_views, write_views};
-ghost use Rattle.qm_model.specs.Batches.{Chain, IsKnown, IsOnChain};
-ghost use Rattle.qm_model.specs.Causes.{Rose};
-ghost use Rattle.qm_model.specs.Operations.{Operation};
 ghost use Rattle.qm_model.specs.Slots.{slotted};
 ghost use Rattle.qm_model.specs.Writes.{read_through};
 ghost use Rattle.qm_merkle.specs.Batches.{stops};
-ghost use Rattle.qm_store.specs.Reads.{IsReadError};
 ghost use Rattle.qm_step.specs.Lent.{NoneBelow};
-ghost use Rattle.qm_step.specs.Views.{reads_view, stepped, left_after};
-ghost use Rattle.qm_any.specs.Databases.{IsBegun, IsMade, IsLeft, IsStaged, is_on, staged_keys};
-ghost use Rattle.qm_any.specs.Reasons.{IsMakingError};
-ghost use Rattle.qm_any.specs.Tips.{IsTaken, IsRefused};
-ghost use Rattle.qm_any.specs.Reading.{ReadsThrough, AtBegun};
+ghost use Rattle.qm_step.specs.Views.{reads_view};
+ghost use Rattle.qm_any.specs.Databases.{IsMade, IsLeft, IsStaged, is_on, staged_keys};
+ghost use Rattle.qm_any.specs.Making.{IsMaking, IsUnmade, making_of};
+ghost use Rattle.qm_any.specs.Reading.{IsOfKeptItem, ReadsThrough, AtBegun, AtList, AtStaged, OnBegun, OnStaged};
 
 use crate::batch::{MerkleizedBatch, UnmerkleizedBatch, sealed};
 use crate::db::{Db, LaidOut};
-use qm_base::{ByteString, Digest, Error, Hasher, JournalError, Location, Slot, Write};
+use qm_base::{ByteString, Digest, Error, Hasher, Location, Slot, Write};
 use qm_batch::{Read, Wanted};
 use qm_bits::Chunks;
 use qm_chain::Policy;
@@ -109,47 +104,19 @@ impl<F: Family, D: Digest, U: Update> UnmerkleizedBatch<F, D, U> {
     where
         U: Steps<F, I>,
         ensures fits { OnOk result (is_on db.old.commitment self ≡ true) }
-        ensures made { (list : List Operation) (chain above : Chain)
-            → ⟦<Db<F, C, I, H, U, N> as LaidOut>⟧.stands db.old list
-            → IsBegun ⟦<Db<F, C, I, H, U, N> as LaidOut>⟧.layout.hashing self chain above
-            → IsOnChain list chain
-            → IfOk result (λ b. IsMade ⟦<Db<F, C, I, H, U, N> as LaidOut>⟧.layout.hashing b.value
-            chain (stepped U.form P.rules chain.base self.writes policy.old
-            (option_map U.Value.bytes metadata))) }
-        ensures taken { (list : List Operation) (chain above : Chain)
-            → ⟦<Db<F, C, I, H, U, N> as LaidOut>⟧.stands db.old list
-            → IsBegun ⟦<Db<F, C, I, H, U, N> as LaidOut>⟧.layout.hashing self chain above
-            → IsOnChain list chain
-            → OnOk result (IsTaken U.form chain.base (stepped U.form P.rules chain.base self.writes
-            policy.old (option_map U.Value.bytes metadata))) }
-        ensures refused { (list : List Operation) (chain above : Chain)
-            → ⟦<Db<F, C, I, H, U, N> as LaidOut>⟧.stands db.old list
-            → IsBegun ⟦<Db<F, C, I, H, U, N> as LaidOut>⟧.layout.hashing self chain above
-            → IsOnChain list chain
-            → IfErr result (λ e. IsRefused U.form chain.base (stepped U.form P.rules chain.base
-            self.writes policy.old (option_map U.Value.bytes metadata)) e
-            ⊎ IsReadError C.Store db.old.log db.new.log e) }
-        ensures next { (list : List Operation) (chain above : Chain)
-            → ⟦<Db<F, C, I, H, U, N> as LaidOut>⟧.stands db.old list
-            → IsBegun ⟦<Db<F, C, I, H, U, N> as LaidOut>⟧.layout.hashing self chain above
-            → IsOnChain list chain
-            → OnOk result
-            (policy.new ≡ left_after U.form P.rules chain.base self.writes policy.old) }
+        ensures makes { OnBegun C.Store ⟦<Db<F, C, I, H, U, N> as LaidOut>⟧.layout db.old self
+            (λ chain. IsMaking C.Store U.form
+            (making_of P.rules policy.old self.writes (option_map U.Value.bytes metadata)) chain
+            policy.new db.old.log db.new.log result
+            (λ b. IsMade ⟦<Db<F, C, I, H, U, N> as LaidOut>⟧.layout.hashing b.value chain)) }
         ensures above { IfOk result (λ b.
             All (λ n. b.value.bounds.db.size ≤ n) (stops b.value.tree.leaves b.value.tree.layers)) }
-        ensures stale { IfErr result (λ e.
-            e ≡ Error.StaleBatch → is_on db.old.commitment self ≡ false) }
-        ensures order { IfErr result (λ e.
-            e ≢ Error.Memory → e ≢ Error.StaleBatch → is_on db.old.commitment self ≡ true) }
-        ensures causes { IfErr result (λ e.
-            (e ≡ Error.StaleBatch) ⊎ IsMakingError C.Store db.old.log db.new.log e) }
-        ensures whole { (list : List Operation)
-            → ⟦<Db<F, C, I, H, U, N> as LaidOut>⟧.stands db.old list
-            → NoneBelow db.old.log.tree.start list
+        ensures unmade { IfErr result (IsUnmade C.Store (is_on db.old.commitment self) db.old.log
+            db.new.log) }
+        ensures whole { AtList C.Store ⟦<Db<F, C, I, H, U, N> as LaidOut>⟧.layout db.old (λ list.
+            NoneBelow db.old.log.tree.start list
             → db.old.log.tree.start ≤ self.parent.bounds.inactivity_floor
-            → IfErr result (λ e. (n : ℕ) → e ≢ Error.Journal (JournalError.ItemPruned n)) }
-        ensures cause { IfErr result (λ e. e ≡ Error.Journal JournalError.Store
-            → Rose (C.faults db.old.log.store) (C.faults db.new.log.store)) }
+            → IfErr result IsOfKeptItem) }
         ensures left { IsLeft C.Store ⟦<Db<F, C, I, H, U, N> as LaidOut>⟧.layout.hashing db.old
             db.new }
     {
@@ -177,7 +144,7 @@ impl<F: Family, D: Digest, U: Update> Staged<F, D, U> {
         self.reads.is_empty()
     }
 
-    /// Reads the values of more keys, as `stage` does, and puts them behind the staged ones; a key may be staged again. It
+    /// Reads the values of more keys, as `stage` does, and puts them after the staged ones; a key may be staged again. It
     /// gives their places among these, and is gone also where this is refused.
     pub fn expand<
         C: Store,
@@ -192,18 +159,12 @@ impl<F: Family, D: Digest, U: Update> Staged<F, D, U> {
     ) -> Result<(Range<usize>, Vec<Option<U::Value>>, Self), Error>
         ensures range { IfOk result (λ r. (r.0.start ≡ length (staged_keys self))
             × (r.0.end ≡ length (staged_keys self) + length keys.items)) }
-        ensures values { (list : List Operation) (chain above : Chain)
-            → ⟦<Db<F, C, I, H, U, N> as LaidOut>⟧.stands db.old list
-            → IsStaged ⟦<Db<F, C, I, H, U, N> as LaidOut>⟧.layout.hashing self chain above
-            → IsKnown list above chain.base
-            → IfOk result (λ r. map (option_map U.Value.bytes) r.1.items
-            ≡ map (λ k. read_through chain.base self.batch.writes (U.Key.bytes k)) keys.items) }
-        ensures staged { (list : List Operation) (chain above : Chain)
-            → ⟦<Db<F, C, I, H, U, N> as LaidOut>⟧.stands db.old list
-            → IsStaged ⟦<Db<F, C, I, H, U, N> as LaidOut>⟧.layout.hashing self chain above
-            → IsKnown list above chain.base
-            → IfOk result (λ r.
-            IsStaged ⟦<Db<F, C, I, H, U, N> as LaidOut>⟧.layout.hashing r.2 chain above) }
+        ensures values { AtStaged C.Store ⟦<Db<F, C, I, H, U, N> as LaidOut>⟧.layout db.old self
+            (λ chain above. IfOk result (λ r. map (option_map U.Value.bytes) r.1.items
+            ≡ map (λ k. read_through chain.base self.batch.writes (U.Key.bytes k)) keys.items)) }
+        ensures staged { AtStaged C.Store ⟦<Db<F, C, I, H, U, N> as LaidOut>⟧.layout db.old self
+            (λ chain above. IfOk result (λ r.
+            IsStaged ⟦<Db<F, C, I, H, U, N> as LaidOut>⟧.layout.hashing r.2 chain above)) }
         ensures batch { IfOk result (λ r. r.2.batch ≡ self.batch) }
         ensures keys { IfOk result (λ r.
             staged_keys r.2 ≡ staged_keys self ++ map U.Key.bytes keys.items) }
@@ -217,7 +178,7 @@ impl<F: Family, D: Digest, U: Update> Staged<F, D, U> {
         Ok((range, values, staged))
     }
 
-    // The staged batch, with the reads that were found behind those that it has.
+    // The staged batch, with the reads that were found after those that it has.
     fn with(self, found: Vec<Read<F, U>>) -> Result<Self, AllocError>
         ensures batch { IfOk result (λ s. s.batch ≡ self.batch) }
         ensures reads { IfOk result (λ s.
@@ -253,54 +214,21 @@ impl<F: Family, D: Digest, U: Update> Staged<F, D, U> {
         U: Steps<F, I>,
         requires { length slots.now ≡ length (staged_keys self) }
         ensures fits { OnOk result (is_on db.old.commitment self.batch ≡ true) }
-        ensures made { (list : List Operation) (chain above : Chain)
-            → ⟦<Db<F, C, I, H, U, N> as LaidOut>⟧.stands db.old list
-            → IsStaged ⟦<Db<F, C, I, H, U, N> as LaidOut>⟧.layout.hashing self chain above
-            → IsOnChain list chain
-            → IfOk result (λ b. IsMade ⟦<Db<F, C, I, H, U, N> as LaidOut>⟧.layout.hashing b.value
-            chain (stepped U.form P.rules chain.base (slotted self.batch.writes (staged_keys self)
-            (slot_views U.Value.bytes slots.now) (write_views U.Key.bytes U.Value.bytes others.now))
-            policy.old (option_map U.Value.bytes metadata))) }
-        ensures taken { (list : List Operation) (chain above : Chain)
-            → ⟦<Db<F, C, I, H, U, N> as LaidOut>⟧.stands db.old list
-            → IsStaged ⟦<Db<F, C, I, H, U, N> as LaidOut>⟧.layout.hashing self chain above
-            → IsOnChain list chain
-            → OnOk result (IsTaken U.form chain.base (stepped U.form P.rules chain.base
+        ensures makes { OnStaged C.Store ⟦<Db<F, C, I, H, U, N> as LaidOut>⟧.layout db.old self
+            (λ chain. IsMaking C.Store U.form
+            (making_of P.rules policy.old
             (slotted self.batch.writes (staged_keys self) (slot_views U.Value.bytes slots.now)
-            (write_views U.Key.bytes U.Value.bytes others.now)) policy.old
-            (option_map U.Value.bytes metadata))) }
-        ensures refused { (list : List Operation) (chain above : Chain)
-            → ⟦<Db<F, C, I, H, U, N> as LaidOut>⟧.stands db.old list
-            → IsStaged ⟦<Db<F, C, I, H, U, N> as LaidOut>⟧.layout.hashing self chain above
-            → IsOnChain list chain
-            → IfErr result (λ e. IsRefused U.form chain.base (stepped U.form P.rules chain.base
-            (slotted self.batch.writes (staged_keys self) (slot_views U.Value.bytes slots.now)
-            (write_views U.Key.bytes U.Value.bytes others.now)) policy.old
-            (option_map U.Value.bytes metadata)) e
-            ⊎ IsReadError C.Store db.old.log db.new.log e) }
-        ensures next { (list : List Operation) (chain above : Chain)
-            → ⟦<Db<F, C, I, H, U, N> as LaidOut>⟧.stands db.old list
-            → IsStaged ⟦<Db<F, C, I, H, U, N> as LaidOut>⟧.layout.hashing self chain above
-            → IsOnChain list chain
-            → OnOk result (policy.new
-            ≡ left_after U.form P.rules chain.base (slotted self.batch.writes (staged_keys self)
-            (slot_views U.Value.bytes slots.now) (write_views U.Key.bytes U.Value.bytes others.now))
-            policy.old) }
+            (write_views U.Key.bytes U.Value.bytes others.now)) (option_map U.Value.bytes metadata))
+            chain policy.new db.old.log db.new.log result
+            (λ b. IsMade ⟦<Db<F, C, I, H, U, N> as LaidOut>⟧.layout.hashing b.value chain)) }
         ensures above { IfOk result (λ b.
             All (λ n. b.value.bounds.db.size ≤ n) (stops b.value.tree.leaves b.value.tree.layers)) }
-        ensures stale { IfErr result (λ e.
-            e ≡ Error.StaleBatch → is_on db.old.commitment self.batch ≡ false) }
-        ensures order { IfErr result (λ e.
-            e ≢ Error.Memory → e ≢ Error.StaleBatch → is_on db.old.commitment self.batch ≡ true) }
-        ensures causes { IfErr result (λ e.
-            (e ≡ Error.StaleBatch) ⊎ IsMakingError C.Store db.old.log db.new.log e) }
-        ensures whole { (list : List Operation)
-            → ⟦<Db<F, C, I, H, U, N> as LaidOut>⟧.stands db.old list
-            → NoneBelow db.old.log.tree.start list
+        ensures unmade { IfErr result (IsUnmade C.Store (is_on db.old.commitment self.batch)
+            db.old.log db.new.log) }
+        ensures whole { AtList C.Store ⟦<Db<F, C, I, H, U, N> as LaidOut>⟧.layout db.old (λ list.
+            NoneBelow db.old.log.tree.start list
             → db.old.log.tree.start ≤ self.batch.parent.bounds.inactivity_floor
-            → IfErr result (λ e. (n : ℕ) → e ≢ Error.Journal (JournalError.ItemPruned n)) }
-        ensures cause { IfErr result (λ e. e ≡ Error.Journal JournalError.Store
-            → Rose (C.faults db.old.log.store) (C.faults db.new.log.store)) }
+            → IfErr result IsOfKeptItem) }
         ensures left { IsLeft C.Store ⟦<Db<F, C, I, H, U, N> as LaidOut>⟧.layout.hashing db.old
             db.new }
     {

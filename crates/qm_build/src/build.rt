@@ -28,7 +28,7 @@ pub struct Snapshot {
 }
 
 /// Rebuilds the list of a log from its floor on, in an index that is empty. Each item is read once, in order. Keys
-/// with the same index key are told apart by the items in their bucket, of which so many at most keep their keys in memory;
+/// with the same index key are told apart by the items in their bucket, of which at most `kept_keys` keep their keys in memory;
 /// the others are read again.
 pub fn build_snapshot<
     F: Family,
@@ -65,7 +65,7 @@ pub fn build_snapshot<
     Ok(snapshot)
 }
 
-// Puts in the operation at a location, behind those from the floor up to there.
+// Puts in the operation at a location, after those from the floor up to there.
 fn put<F: Family, I: qm_index::Unordered<Value = Location<F>>, C: Store, H: Hasher, U: Update>(
     index: &mut I,
     log: &mut AuthLog<F, C, H>,

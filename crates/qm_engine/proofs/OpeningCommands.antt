@@ -135,15 +135,17 @@ module _ {X C B S M K V D : Type 0} (members : stores.Ghosts C) (means : meaning
             let opens_so = opens_is accepted ∙ ap opens e in
             let few_so = subst (λ n. n ≤ length s.log.list) e few in
             let behind_so = subst (λ n. s.log.start ≤ n) e behind in
-            let has = k.store.told.has in
-            (record {
-              size_is = length-take-le (suc j) s.log.list few_so;
-              of = All-take (IsOf means.scheme.form) (suc j) s.log.list steady.of_form;
-              good = steady.good bound (suc j) opens_so;
-              items = items-cut means.scheme peakless s.log stored has (suc j) behind_so
-                  ∙ (sym (drop-map (spelling means.scheme.form) s.log.start (take (suc j) s.log.list)) ∙ ap (λ n. drop n (map (spelling means.scheme.form) (take (suc j) s.log.list))) (sym has.start));
-              head = head-cut means.scheme peakless s.log stored has (suc j) behind_so ∙ ap (head_at means.scheme (take (suc j) s.log.list)) (sym has.start);
-            }, steady.ring bound (suc j) opens_so)
+            let has = k.store.told.has in (
+              record {
+                size_is = length-take-le (suc j) s.log.list few_so;
+                of = All-take (IsOf means.scheme.form) (suc j) s.log.list steady.of_form;
+                good = steady.good bound (suc j) opens_so;
+                items = items-cut means.scheme peakless s.log stored has (suc j) behind_so
+                    ∙ (sym (drop-map (spelling means.scheme.form) s.log.start (take (suc j) s.log.list)) ∙ ap (λ n. drop n (map (spelling means.scheme.form) (take (suc j) s.log.list))) (sym has.start));
+                head = head-cut means.scheme peakless s.log stored has (suc j) behind_so ∙ ap (head_at means.scheme (take (suc j) s.log.list)) (sym has.start);
+              },
+              steady.ring bound (suc j) opens_so,
+            )
 
     new_told : (after : C) → model.Turns (members.told (store_given means.inside held)) (members.told after) (λ t new. new ≡ taken means.scheme (selected_size means.scheme bound t) t) → HasLog means.scheme (members.told after) (taken_up list s.log)
     new_told after became =

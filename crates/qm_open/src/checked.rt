@@ -40,8 +40,8 @@ fn check_links<F: Family, C: Store, H: Hasher, U: Update>(
         → IfSome (C.told log.old.store) (λ s.
         list_any is_none (items_within U.form s from log.old.tree.leaves) ≡ true)) }
     ensures read { KeepsLog C.Store F.shape H.Digest.bytes H.hash log.old log.new }
-    ensures error { IfErr result (λ e.
-        IsRebuildError C.Store log.old log.new e ⊎ (e ≡ Error.DataCorrupted Corrupt.LinksFormNoRing)) }
+    ensures error { IfErr result (λ e. IsRebuildError C.Store log.old log.new e
+        ⊎ (e ≡ Error.DataCorrupted Corrupt.LinksFormNoRing)) }
 {
     if !U::is_ordered() {
         return Ok(());

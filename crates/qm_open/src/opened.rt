@@ -33,7 +33,7 @@ pub struct Opened<N: Chunks, F: Family, C: Store, I, H: Hasher, U: Update> {
     pub metadata: Option<U::Value>,
 }
 
-/// The log of a store that ends with the selected commit, whatever the store has behind it, and what its list has beside it.
+/// The log of a store that ends with the selected commit, whatever the store has after it, and what its list has beside it.
 /// Its activity bits begin with `chunks` pruned chunks, which lie below the floor. It reads each item from the store's start on
 /// once, for its leaf, and each from the floor on once more. A refusal gives back the store, which was not changed.
 pub(crate) fn open_at<

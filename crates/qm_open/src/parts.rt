@@ -19,8 +19,8 @@ use qm_store::{AuthLog, Store};
 use std::alloc::{AllocError, Global};
 use std::num::NonZeroUsize;
 
-/// The activity bits of a list, of which those from a floor on are given and those below are clear. So many chunks below the
-/// floor are pruned.
+/// The activity bits of a list, of which those from a floor on are given and those below are clear. The first
+/// `chunks` chunks, which lie below the floor, are pruned.
 pub fn activity_from<N: Chunks>(
     alloc: Global,
     chunks: usize,
@@ -68,8 +68,8 @@ pub(crate) struct Held<N: Chunks, D, V> {
     pub metadata: Option<V>,
 }
 
-/// What a log's list has beside it, of which the index was empty, rebuilt from its floor on. So many chunks of its bits are
-/// pruned. It reads the items from the floor on once, and the last of them once more.
+/// What a log's list has beside it, of which the index was empty, rebuilt from its floor on. The first `chunks` chunks of
+/// its bits are pruned. It reads the items from the floor on once, and the last of them once more.
 pub(crate) fn beside<
     N: Chunks,
     F: Family,

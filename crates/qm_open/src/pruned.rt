@@ -7,11 +7,11 @@ ghost use Rattle.qm_open.specs.Selecting.{bits_of, chunks_of, count_of, is_below
 /// How many chunks of a list's activity bits are pruned.
 #[derive(Clone, Copy, Drop)]
 pub struct Pruned {
-    /// So many chunks.
+    /// The number of pruned chunks.
     pub chunks: u64,
     /// A chunk has a bit for each of 2^height locations.
     pub height: u32,
-    /// How many operations there have to be before so many chunks may go, where that is more than those of the chunks.
+    /// The list size from which that many chunks may be pruned, if it is more than the chunks' own.
     pub threshold: Option<u64>,
 }
 
@@ -26,7 +26,7 @@ pub(crate) fn bits_in(pruned: Option<Pruned>) -> u64
     }
 }
 
-/// Whether a list of this size is too short for so many chunks to be pruned.
+/// Whether a list of this size is too short for the pruned chunks.
 pub(crate) fn is_too_short(pruned: Option<Pruned>, size: u64) -> bool
     ensures { result ≡ is_below_threshold pruned size }
 {
@@ -39,7 +39,7 @@ pub(crate) fn is_too_short(pruned: Option<Pruned>, size: u64) -> bool
     }
 }
 
-/// Whether a store that starts here starts past the chunk behind the pruned ones.
+/// Whether a store that starts here starts past the chunk after the pruned ones.
 pub(crate) fn is_past(pruned: Option<Pruned>, start: u64) -> bool
     requires { AreFew pruned }
     ensures { result ≡ is_past_bits (chunks_of pruned) start (count_of pruned) }

@@ -34,7 +34,7 @@ fn top(end: u64, bound: Option<u64>) -> u64
     }
 }
 
-/// The last commit that a store keeps of a list of at most so many operations. It reads the items behind it, from the last
+/// The last commit that a store keeps of a list within the bound. It reads the items after it, from the last
 /// one on, and its own.
 fn last_commit<F, C: Store, U: Update>(
     alloc: Global,
@@ -113,7 +113,7 @@ fn is_zero(bound: Option<u64>) -> bool
 
 /// The commit that an opening up to a bound selects, where neither the bound nor the commit is refused. None is for an empty
 /// store alone, which an opening makes the fresh list of. Where chunks of activity bits are pruned, the commit is also refused
-/// for these. It reads the items behind the commit, from the last one on, and its own. Head, items and links of the store are
+/// for these. It reads the items after the commit, from the last one on, and its own. Head, items and links of the store are
 /// not looked at.
 pub fn select_commit<F, C: Store, U: Update>(
     alloc: Global,

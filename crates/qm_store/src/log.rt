@@ -344,6 +344,10 @@ impl<F: Family, C: Store, H: Hasher + Drop> AuthLog<F, C, H> {
 }
 
 impl<F: Family, C: Store, H: Hasher> AuthLog<F, C, H> {
+    ghost use Rattle.qm_merkle.specs.contracts.hasher.StandardHasher.{the_row as hasher_row};
+    ghost use Rattle.qm_store.specs.contracts.log.AuthLog.{the_row};
+    ghost use Rattle.std.specs.Borrow.{Lends, sem};
+
     /// Reads the item at a location.
     pub fn read(&mut self, at: u64) -> Result<Vec<u8>, Error>
         requires { at < self.old.tree.leaves }
@@ -651,6 +655,15 @@ impl<F: Family, C: Store, H: Hasher> AuthLog<F, C, H> {
         ensures { result.now ≡ self.now.tree }
     {
         &self.tree
+    }
+
+    /// The log's hasher, with its tree beside it: what else is hashed while the tree is read takes no hasher of its own. The log is
+    /// as it was when they are given back.
+    pub fn split(&mut self) -> (&mut StandardHasher<H>, &Mem<F, H::Digest>)
+        ensures* same { sem 𝓛 (Lends (the_row F.row C.row H.row H.Digest.row F.Family C.Store H.Hasher H.Digest.Digest) (hasher_row H.row) self.entry result.0 (λ _. self.old)) }
+        ensures tree { result.1.now ≡ self.old.tree }
+    {
+        (&mut self.hasher, &self.tree)
     }
 
     /// The store.

@@ -1,13 +1,16 @@
 use Rattle.std.proofs.Common.{◌≡◌, ◌∙◌, ◌↔◌, ◌≤◌, ◌<◌, All, Contains, map, ap, sym, subst, IsSome}
 use Rattle.std.specs.Prelude.{IfSome}
 use Rattle.qm_model.specs.Trees.{digest_of}
-use Rattle.qm_merkle.specs.Batches.{stops}
+use Rattle.qm_merkle.specs.Batches.{layers_at, stops}
 use Rattle.qm_store.specs.KeptTrees.{IsAdding, IsKeptTree}
 use Rattle.qm_store.proofs.Leaves.{leaves-spelled}
 use Rattle.qm_any.specs.Layouts.{hashing_with, spellings}
 use Rattle.qm_any.specs.Databases.{AreAgreed, bases_of}
 use Rattle.qm_any.proofs.Agreed.{boundary-reached}
 use Rattle.qm_any.proofs.batch.MerkleizedBatch.get_node.Goals as goal
+
+pub returns-clause-exact : goal.returns-clause-exact
+returns-clause-exact g c = c.get_node.ensures.exact ∙ ap (λ b. layers_at g.F.Family.shape b.tree.layers c.args.position) c.self.view_is
 
 pub returns-clause-held : goal.returns-clause-held
 returns-clause-held g c = λ hash chain tip made.

@@ -14,7 +14,7 @@ use Rattle.qm_any.specs.Databases.{IsTree, bases_of}
 use Rattle.qm_any.proofs.Known.{contains-mapped, known-base}
 use Rattle.qm_any.proofs.Telling.{three}
 use Rattle.qm_any.proofs.Trees.{known-read, pins-kept}
-use Rattle.qm_any.proofs.Reasons.{on-ok, lacked-fresh, lacked-never}
+use Rattle.qm_any.proofs.Reasons.{on-ok, lacked-node, stale-node}
 use Rattle.qm_any.proofs.batch.MerkleizedBatch.pinned_nodes.Goals as goal
 
 pub returns-in_err-known : goal.returns-in_err-known
@@ -25,11 +25,8 @@ returns-in_err-known g c =
     record {
       pins = λ list chain tip is made known. IfOk-from_err c.from_residual.result _ c.from_residual.ensures.0;
       readable = IfOk-from_err c.from_residual.result _ c.from_residual.ensures.0;
-      stale = rw (exit.1, exit.2) (λ same. off);
-      never = rw (exit.1, exit.2) (inr (inl stale));
-      order = rw (exit.1, exit.2) (λ memory fresh. absurd (fresh stale));
       held = IfOk-from_err c.from_residual.result _ c.from_residual.ensures.0;
-      lacked = rw (exit.1, exit.2) (λ fresh. absurd (fresh stale));
+      lacking = rw (exit.1, exit.2) (stale-node _ _ _ (knows c.args.self.now.bounds c.args.db.now.commitment) off stale);
       whole = λ first list chain tip is made known.
           known-read (list_root (hashing_of g.D.Digest.bytes g.H.Hasher g.F.Family g.U.Update)) c.args.self.now.bounds chain tip list (commitment_view g.D.Digest.bytes c.commitment.result.now) made.bounds (c.commitment.ensures.value ∙ is.commitment) known c.in_err-known.ensures.stale.1;
     }
@@ -49,8 +46,6 @@ returns g c =
     let tree = ap (λ b. b.tree) c.self.view_is in
     let log = ap (λ db. db.log) c.db.view_is in
     let on = subst (λ k. knows c.args.self.now.bounds k ≡ true) c.commitment.ensures.value c.in_ok-known.ensures.readable in
-    let held = held_at shape c.self.inside.tree c.db.inside.log.tree in
-    let needed = peak_positions shape c.start.result in
     let cause = c.pins.ensures.cause in
     record {
       pins = λ list chain tip is made known.
@@ -59,13 +54,10 @@ returns g c =
           subst (λ ds. IfOk c.pins.result (λ pins. map bytes pins.items ≡ ds)) (pins-kept by tip c.start.result ∙ ap (pins_at hash shape g.U.Update.form tip) (c.start.ensures.value ∙ ap (λ k. k.size) made.bounds.base))
           (c.pins.ensures.value (sp list) (sp tip) (map sp (bases_of chain)) logged kept (contains-mapped sp (tip ∷ bases_of chain) list (known-base list chain tip made.linked known)));
       readable = on-ok c.pins.result on;
-      stale = err-then c.pins.result cause (λ e lacked same. absurd (lacked-fresh held needed e lacked same));
-      never = err-then c.pins.result cause (λ e lacked. lacked-never held needed e lacked);
-      order = err-then c.pins.result cause (λ e lacked memory fresh. on);
       held = three (λ (n : ℕ) (t : KeptTree g.row.D.Denot) (l : Log g.row.C.Denot g.row.D.Denot). OnOk c.pins.result (first_lacked (held_at shape t l.tree) (peak_positions shape n) ≡ None)) c.start.ensures.value tree log c.pins.ensures.held;
-      lacked = err-then c.pins.result
+      lacking = err-then c.pins.result
           (three (λ (n : ℕ) (t : KeptTree g.row.D.Denot) (l : Log g.row.C.Denot g.row.D.Denot). IfErr c.pins.result (IsLacked (held_at shape t l.tree) (peak_positions shape n))) c.start.ensures.value tree log cause)
-          (λ e lacked fresh. lacked);
+          (λ e lacked. lacked-node _ _ e (knows c.args.self.now.bounds c.args.db.now.commitment) on lacked);
       whole = λ first list chain tip is made known.
           let kept = subst (λ t. IsTree by t tip (bases_of chain)) (sym tree) made.tree in
           let logged = subst (λ l. IsLog g.C.Store shape bytes hash l (sp list)) (sym log) is.lent.logged in

@@ -16,7 +16,7 @@ use Rattle.qm_any.specs.Databases.{AreAgreed, IsTree, bases_of}
 use Rattle.qm_any.proofs.Known.{contains-mapped, known-base}
 use Rattle.qm_any.proofs.Telling.{three}
 use Rattle.qm_any.proofs.Trees.{known-read, proof-kept}
-use Rattle.qm_any.proofs.Reasons.{on-ok, lacked-fresh, lacked-never}
+use Rattle.qm_any.proofs.Reasons.{on-ok, lacked-node, stale-node}
 use Rattle.qm_any.proofs.batch.MerkleizedBatch.proof.Goals as goal
 
 pub returns-in_err-known : goal.returns-in_err-known
@@ -27,11 +27,8 @@ returns-in_err-known g c =
     record {
       proof = λ list chain tip is made known. IfOk-from_err c.from_residual.result _ c.from_residual.ensures.0;
       readable = IfOk-from_err c.from_residual.result _ c.from_residual.ensures.0;
-      stale = rw (exit.1, exit.2) (λ same. off);
-      never = rw (exit.1, exit.2) (inr (inl stale));
-      order = rw (exit.1, exit.2) (λ memory fresh. absurd (fresh stale));
       held = IfOk-from_err c.from_residual.result _ c.from_residual.ensures.0;
-      lacked = rw (exit.1, exit.2) (λ fresh. absurd (fresh stale));
+      lacking = rw (exit.1, exit.2) (stale-node _ _ _ (knows c.args.self.now.bounds c.args.db.now.commitment) off stale);
       whole = λ first list chain tip is made known.
           known-read (list_root (hashing_of g.D.Digest.bytes g.H.Hasher g.F.Family g.U.Update)) c.args.self.now.bounds chain tip list (commitment_view g.D.Digest.bytes c.commitment.result.now) made.bounds (c.commitment.ensures.value ∙ is.commitment) known c.in_err-known.ensures.stale.1;
     }
@@ -58,8 +55,6 @@ returns g c =
     let on = subst (λ k. knows c.args.self.now.bounds k ≡ true) c.commitment.ensures.value c.in_ok-known.ensures.readable in
     let agreed = subst AreAgreed c.self.view_is c.self.invariant.0 in
     let end = c.leaves-end.ensures ∙ ap (λ t. t.leaves) tree ∙ agreed.leaves in
-    let held = held_at shape c.self.inside.tree c.db.inside.log.tree in
-    let needed = needed_positions shape c.self.inside.tree.leaves c.start-start.result c.leaves-end.result in
     let cause = c.proof.ensures.cause in
     record {
       proof = λ list chain tip is made known.
@@ -72,16 +67,13 @@ returns g c =
           ∙ ap (λ a. ops_proof hash shape g.U.Update.form tip a (length tip)) (c.start-start.ensures.value ∙ ap (λ k. k.size) made.bounds.base))
           (c.proof.ensures.value (sp list) (sp tip) (map sp (bases_of chain)) logged kept (contains-mapped sp (tip ∷ bases_of chain) list (known-base list chain tip made.linked known)));
       readable = on-ok c.proof.result on;
-      stale = err-then c.proof.result cause (λ e lacked same. absurd (lacked-fresh held needed e lacked same));
-      never = err-then c.proof.result cause (λ e lacked. lacked-never held needed e lacked);
-      order = err-then c.proof.result cause (λ e lacked memory fresh. on);
       held =
           three (λ (a b d : ℕ). OnOk c.proof.result (first_lacked (held_at shape c.args.self.now.tree c.args.db.now.log.tree) (needed_positions shape a c.args.self.now.bounds.base.size b) ≡ None)) agreed.leaves end end
           (three (λ (n : ℕ) (t : KeptTree g.row.D.Denot) (l : Log g.row.C.Denot g.row.D.Denot). OnOk c.proof.result (first_lacked (held_at shape t l.tree) (needed_positions shape t.leaves n c.leaves-end.result) ≡ None)) c.start-start.ensures.value tree log c.proof.ensures.held);
-      lacked = err-then c.proof.result
+      lacking = err-then c.proof.result
           (three (λ (a b d : ℕ). IfErr c.proof.result (IsLacked (held_at shape c.args.self.now.tree c.args.db.now.log.tree) (needed_positions shape a c.args.self.now.bounds.base.size b))) agreed.leaves end end
           (three (λ (n : ℕ) (t : KeptTree g.row.D.Denot) (l : Log g.row.C.Denot g.row.D.Denot). IfErr c.proof.result (IsLacked (held_at shape t l.tree) (needed_positions shape t.leaves n c.leaves-end.result))) c.start-start.ensures.value tree log cause))
-          (λ e lacked fresh. lacked);
+          (λ e lacked. lacked-node _ _ e (knows c.args.self.now.bounds c.args.db.now.commitment) on lacked);
       whole = λ first list chain tip is made known.
           let kept = subst (λ t. IsTree by t tip (bases_of chain)) (sym tree) made.tree in
           let logged = subst (λ l. IsLog g.C.Store shape bytes hash l (sp list)) (sym log) is.lent.logged in

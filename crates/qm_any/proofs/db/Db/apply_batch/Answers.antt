@@ -1,7 +1,6 @@
-use Rattle.std.proofs.Common.{◌≡◌, ◌∙◌, true, false, [], ap, refl, sym, subst, inr, map, drop}
+use Rattle.std.proofs.Common.{arith, ◌≡◌, ◌∙◌, ◌≤◌, true, false, [], ap, refl, sym, subst, inr, map}
 use Rattle.std.specs.Prelude.{Contains, if◌then◌else◌}
 use Rattle.qm_model.proofs.Results.{err-then, ok-then}
-use Rattle.qm_model.specs.Forms.{spelling}
 use Rattle.qm_merkle.specs.Batches.{stops}
 use Rattle.qm_chain.specs.Bounds.{is_at}
 use Rattle.qm_step.specs.Views.{changes_view}
@@ -9,7 +8,8 @@ use Rattle.qm_any.specs.Layouts.{layout_of}
 use Rattle.qm_model.specs.StoreModel.{beside_items}
 use Rattle.qm_open.proofs.Checking.{on-ok}
 use Rattle.qm_store.proofs.Told.{appended-beside, part-beside, unchanged-appended-part}
-use Rattle.qm_any.proofs.Applying.{after-both, never-stale, stale-told, stale-or, stale-causes, stale-cause}
+use Rattle.qm_any.specs.Applying.{can_apply, lacked, store_in}
+use Rattle.qm_any.proofs.Applying.{after-both, err-three, never-stale, stale-told, stale-or, stale-causes, stale-cause}
 use Rattle.qm_store.specs.Given.{Appended, AppendedPart, store_given}
 use Rattle.qm_any.proofs.Unapplied.{applied, lacked-spelled, ok-five}
 use Rattle.qm_any.proofs.db.Db.apply_batch.Goals as goal
@@ -33,41 +33,42 @@ returns-in-Ok g c =
       fits =
           let bounds = c.args.batch.now.bounds in
           on-ok c.moved.result (subst (λ k. is_at k bounds.db bounds.ancestors ≡ true) (ap (λ db. db.commitment) c.self.view_is) c.in-Ok.ensures.fits);
-      grown = λ chain tip made.
-          let n = c.self.inside.commitment.size in
-          let items = map (λ v. v.items) c.in-Ok.lacking.items.items in
-          let behind = lacked-spelled g.C.Store (layout_of g.N.Chunks.LEN g.H.Digest.Digest.bytes g.H.Hasher g.F.Family g.U.Update g.I.Unordered) c.args.batch.now chain tip n c.args.self.commitment.size items made
-          (ap (λ db. db.commitment.size) c.self.view_is) c.in-Ok.ensures.among c.in-Ok.ensures.items in
-          ok-then c.moved.result c.moved.ensures.grown (λ next grown. subst (Appended g.C.Store c.args.self.log.store next.log.store) behind grown);
-      start =
-          let start = g.C.Store.start in
-          after-both (λ db. db.log.store) c.moved.result (λ s. start s ≡ start c.args.self.log.store) (ok-then c.moved.result c.moved.ensures.grown (λ next grown. grown.start)) (err-then c.moved.result c.moved.ensures.part (λ r part. part.start));
-      beside =
-          let told = g.C.Store.told in
-          let old = c.args.self.log.store in
-          let items = map (λ v. v.items) c.in-Ok.lacking.items.items in
-          after-both (λ db. db.log.store) c.moved.result (λ s. beside_items (told s) ≡ beside_items (told old))
-          (ok-then c.moved.result c.moved.ensures.grown (λ next grown. appended-beside g.C.Store old next.log.store items grown))
-          (err-then c.moved.result c.moved.ensures.part (λ r part. part-beside g.C.Store old (store_given (λ db. db.log.store) r.given) items part));
-      later = c.moved.ensures.later;
-      stale = err-then c.moved.result c.moved.ensures.causes (λ r causes stale. never-stale r.error causes stale);
-      part = λ chain tip made.
+      appends = λ chain tip made.
           let n = c.self.inside.commitment.size in
           let items = map (λ v. v.items) c.in-Ok.lacking.items.items in
           let behind = lacked-spelled g.C.Store (layout_of g.N.Chunks.LEN g.H.Digest.Digest.bytes g.H.Hasher g.F.Family g.U.Update g.I.Unordered) c.args.batch.now chain tip n c.args.self.commitment.size items made
           (ap (λ db. db.commitment.size) c.self.view_is) c.in-Ok.ensures.among c.in-Ok.ensures.items in
           let bounds = c.args.batch.now.bounds in
-          let fits : is_at c.args.self.commitment bounds.db bounds.ancestors ≡ true = subst (λ k. is_at k bounds.db bounds.ancestors ≡ true) (ap (λ db. db.commitment) c.self.view_is) c.in-Ok.ensures.fits in
-          let more = map (spelling g.U.Update.form) (drop c.args.self.commitment.size tip) in
-          err-then c.moved.result c.moved.ensures.part (λ r part.
-          let after = store_given (λ db. db.log.store) r.given in
-          subst (λ b. AppendedPart g.C.Store c.args.self.log.store after (if b then more else [])) (sym fits)
-          (subst (AppendedPart g.C.Store c.args.self.log.store after) behind part));
-      back = err-then c.moved.result c.moved.ensures.back (λ r back x given.
-          let was = back x given in
-          (was.0, inr was.1));
-      causes = err-then c.moved.result c.moved.ensures.causes (λ r causes. inr causes);
-      cause = c.moved.ensures.cause;
+          let fits : can_apply c.args.self c.args.batch.now ≡ true = subst (λ k. is_at k bounds.db bounds.ancestors ≡ true) (ap (λ db. db.commitment) c.self.view_is) c.in-Ok.ensures.fits in
+          let more = lacked g.U.Update.form c.args.self tip in
+          record {
+            grown = ok-then c.moved.result c.moved.ensures.grown (λ next grown. subst (Appended g.C.Store c.args.self.log.store next.log.store) behind grown);
+            part = err-then c.moved.result c.moved.ensures.part (λ r part.
+                let after = store_given store_in r.given in
+                subst (λ b. AppendedPart g.C.Store c.args.self.log.store after (if b then more else [])) (sym fits)
+                (subst (AppendedPart g.C.Store c.args.self.log.store after) behind part));
+          };
+      rest =
+          let start = g.C.Store.start in
+          let told = g.C.Store.told in
+          let faults = g.C.Store.faults in
+          let old = c.args.self.log.store in
+          let items = map (λ v. v.items) c.in-Ok.lacking.items.items in
+          record {
+            start = after-both store_in c.moved.result (λ s. start s ≡ start old) (ok-then c.moved.result c.moved.ensures.grown (λ next grown. grown.start)) (err-then c.moved.result c.moved.ensures.part (λ r part. part.start));
+            others = after-both store_in c.moved.result (λ s. beside_items (told s) ≡ beside_items (told old))
+                (ok-then c.moved.result c.moved.ensures.grown (λ next grown. appended-beside g.C.Store old next.log.store items grown))
+                (err-then c.moved.result c.moved.ensures.part (λ r part. part-beside g.C.Store old (store_given store_in r.given) items part));
+            later = after-both store_in c.moved.result (λ s. faults old ≤ faults s) c.moved.ensures.later (err-then c.moved.result c.moved.ensures.cause (λ r cause. cause.later));
+          };
+      unapplied = err-three c.moved.result c.moved.ensures.causes c.moved.ensures.back c.moved.ensures.cause (λ r causes back cause. record {
+        stale = λ stale. never-stale r.error causes stale;
+        back = λ x given.
+            let was = back x given in
+            (was.0, inr was.1);
+        causes = inr causes;
+        cause = cause;
+      });
     }
 
 pub returns-in-Err : goal.returns-in-Err
@@ -79,16 +80,15 @@ returns-in-Err g c =
     record {
       stands = λ list chain tip is made on. tt;
       fits = tt;
-      grown = λ chain tip made. tt;
-      start = refl;
-      beside = refl;
-      later = tt;
-      stale = λ stale. (
-        refl,
-        subst (λ k. is_at k bounds.db bounds.ancestors ≡ false) (ap (λ db. db.commitment) c.self.view_is) (stale-told error why stale),
-      );
-      part = λ chain tip made. unchanged-appended-part g.C.Store old old _ (record { start = refl; told = refl });
-      back = λ x given. (cc given, stale-or error why);
-      causes = stale-causes error why;
-      cause = stale-cause error why (g.C.Store.faults old);
+      appends = λ chain tip made. record { grown = tt; part = unchanged-appended-part g.C.Store old old _ (record { start = refl; told = refl }) };
+      rest = record { start = refl; others = refl; later = omega arith };
+      unapplied = record {
+        stale = λ stale. (
+          refl,
+          subst (λ k. is_at k bounds.db bounds.ancestors ≡ false) (ap (λ db. db.commitment) c.self.view_is) (stale-told error why stale),
+        );
+        back = λ x given. (cc given, stale-or error why);
+        causes = stale-causes error why;
+        cause = stale-cause error why (g.C.Store.faults old);
+      };
     }

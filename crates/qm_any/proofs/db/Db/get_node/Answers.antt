@@ -9,6 +9,9 @@ use Rattle.qm_store.specs.Log.{digests_from}
 use Rattle.qm_store.proofs.Leaves.{length-digests_from, leaves-spelled}
 use Rattle.qm_any.proofs.db.Db.get_node.Goals as goal
 
+pub returns-clause-exact : goal.returns-clause-exact
+returns-clause-exact g c = c.get_node.ensures.value ∙ ap (λ t. node_at g.F.Family.shape t c.args.position) (c.tree.ensures ∙ ap (λ db. db.log.tree) c.self.view_is)
+
 pub returns-clause-held : goal.returns-clause-held
 returns-clause-held g c =
     subst (λ t. IsSome c.get_node.result ↔ Holds g.F.Family.shape t c.args.position) (c.tree.ensures ∙ ap (λ db. db.log.tree) c.self.view_is) c.get_node.ensures.held

@@ -31,11 +31,8 @@ returns-in_err-items g c =
     let exit = err_from_is_err_and c.from_residual.result c.from_residual.ensures.1 in
     let list = operation_views g.U.Update.view g.U.Key.ByteString.bytes g.U.Value.ByteString.bytes c.args.operations.now in
     record {
-      leaves = IfOk-from_err c.from_residual.result _ c.from_residual.ensures.0;
-      taken = IfOk-from_err c.from_residual.result _ c.from_residual.ensures.0;
-      stops = IfOk-from_err c.from_residual.result _ c.from_residual.ensures.0;
+      after = IfOk-from_err c.from_residual.result _ c.from_residual.ensures.0;
       tree = λ list base older is kept found. IfOk-from_err c.from_residual.result _ c.from_residual.ensures.0;
-      root = λ list base older is kept found lowest. IfOk-from_err c.from_residual.result _ c.from_residual.ensures.0;
       refused = rw (exit.1, exit.2) (subst (λ n. (c.in_err-items.field-0.0 ≡ errors.Memory) ⊎ IsTooLong (map (spelling g.U.Update.form) list) (n + length c.args.operations.now) c.in_err-items.field-0.0) c.leaves-size.ensures c.in_err-items.ensures.refused);
       same = refl;
     }
@@ -44,11 +41,8 @@ pub returns-in_err-grown : goal.returns-in_err-grown
 returns-in_err-grown g c =
     let exit = err_from_is_err_and c.from_residual-in_err-grown.result c.from_residual-in_err-grown.ensures.1 in
     record {
-      leaves = IfOk-from_err c.from_residual-in_err-grown.result _ c.from_residual-in_err-grown.ensures.0;
-      taken = IfOk-from_err c.from_residual-in_err-grown.result _ c.from_residual-in_err-grown.ensures.0;
-      stops = IfOk-from_err c.from_residual-in_err-grown.result _ c.from_residual-in_err-grown.ensures.0;
+      after = IfOk-from_err c.from_residual-in_err-grown.result _ c.from_residual-in_err-grown.ensures.0;
       tree = λ list base older is kept found. IfOk-from_err c.from_residual-in_err-grown.result _ c.from_residual-in_err-grown.ensures.0;
-      root = λ list base older is kept found lowest. IfOk-from_err c.from_residual-in_err-grown.result _ c.from_residual-in_err-grown.ensures.0;
       refused = rw (exit.1, exit.2) (inl refl);
       same = same-log c.args.self.now (λ (l : Log g.row.C.Denot g.row.H-Digest.Denot). record { entries = g.I.Unordered.entries c.self.inside.index; activity = c.self.inside.activity; log = l; commitment = commitment_view g.H.Digest.Digest.bytes c.self.inside.commitment; floor = c.self.inside.floor; live = c.self.inside.live; metadata = option_map (λ m. g.U.Value.ByteString.bytes m.value) c.self.inside.metadata }) c.grown.new.log c.self.inside.log c.grown.ensures.same c.self.view_is;
     }
@@ -63,16 +57,12 @@ returns g c =
     let count : length c.in_ok-items.items.items ≡ length c.args.operations.now =
     sym (length-map c.in_ok-items.items.items (λ v. v.items)) ∙ ap length c.in_ok-items.ensures.items ∙ length-map list (spelling form) ∙ length-map c.args.operations.now view in
     record {
-      leaves = c.in_ok-grown.ensures.leaves ∙ ap (λ n. c.args.tree.now.leaves + n) (given ∙ count);
-      taken = subst (IsSpelled form list) (ap₂ (λ a b. a + b) c.leaves-size.ensures (sym given) ∙ sym c.in_ok-grown.ensures.leaves) c.in_ok-items.ensures.taken;
-      stops = c.in_ok-grown.ensures.stops;
+      after = record {
+        leaves = c.in_ok-grown.ensures.leaves ∙ ap (λ n. c.args.tree.now.leaves + n) (given ∙ count ∙ sym (length-map c.args.operations.now view));
+        spelled = subst (IsSpelled form list) (ap₂ (λ a b. a + b) c.leaves-size.ensures (sym given) ∙ sym c.in_ok-grown.ensures.leaves) c.in_ok-items.ensures.taken;
+        through = c.in_ok-grown.ensures.stops;
+      };
       tree = λ all base older is kept found.
-          let sp = spellings (hashing_of g.H.Digest.Digest.bytes g.H.Hasher g.F.Family g.U.Update) in
-          let log = subst (λ log. IsLog g.C.Store g.F.Family.shape g.H.Digest.Digest.bytes g.H.Hasher.hash log (sp all)) (sym (ap (λ db. db.log) c.self.view_is)) is.lent.logged in
-          subst (λ xs. IsKeptTree g.H.Digest.Digest.bytes g.H.Hasher.hash g.F.Family.shape c.in_ok-grown.field-0.0 xs (lists_since c.args.boundary (sp base ∷ map sp older)))
-          (ap (λ xs. sp base ++ xs) items ∙ sym (map-append (spelling form) base list))
-          (c.in_ok-grown.ensures.tree (sp all) (sp base) (map sp older) log kept (contains-mapped sp (base ∷ older) all found));
-      root = λ all base older is kept found lowest.
           let by = hashing_of g.H.Digest.Digest.bytes g.H.Hasher g.F.Family g.U.Update in
           let sp = spellings by in
           let log = subst (λ log. IsLog g.C.Store g.F.Family.shape g.H.Digest.Digest.bytes g.H.Hasher.hash log (sp all)) (sym (ap (λ db. db.log) c.self.view_is)) is.lent.logged in
@@ -81,8 +71,14 @@ returns g c =
           let long : size ≡ length (base ++ list) =
           omega (arith, c.leaves-size.ensures, kept.leaves, length-map base (spelling form), c.len.ensures, c.in_ok-items.items.ok.0, count, length-map c.args.operations.now view, length-append base list) in
           let inactive = c.inactive_peaks-inactive.ensures ∙ ap₂ (inactive_peaks g.F.Family.shape) c.new.ensures c.new-2.ensures in
-          c.in_ok-grown.ensures.root (sp all) (sp base) (map sp older) log kept (contains-mapped sp (base ∷ older) all found)
-          ∙ root-kept by (sp base ++ map (λ v. v.items) c.deref.result.now) (base ++ list) c.inactive_peaks-inactive.result size c.args.floor spelled long lowest inactive;
+          record {
+            tree =
+                subst (λ xs. IsKeptTree g.H.Digest.Digest.bytes g.H.Hasher.hash g.F.Family.shape c.in_ok-grown.field-0.0 xs (lists_since c.args.boundary (sp base ∷ map sp older))) spelled
+                (c.in_ok-grown.ensures.tree (sp all) (sp base) (map sp older) log kept (contains-mapped sp (base ∷ older) all found));
+            root = λ lowest.
+                c.in_ok-grown.ensures.root (sp all) (sp base) (map sp older) log kept (contains-mapped sp (base ∷ older) all found)
+                ∙ root-kept by (sp base ++ map (λ v. v.items) c.deref.result.now) (base ++ list) c.inactive_peaks-inactive.result size c.args.floor spelled long lowest inactive;
+          };
       refused = tt;
       same = same-log c.args.self.now (λ (l : Log g.row.C.Denot g.row.H-Digest.Denot). record { entries = g.I.Unordered.entries c.self.inside.index; activity = c.self.inside.activity; log = l; commitment = commitment_view g.H.Digest.Digest.bytes c.self.inside.commitment; floor = c.self.inside.floor; live = c.self.inside.live; metadata = option_map (λ m. g.U.Value.ByteString.bytes m.value) c.self.inside.metadata }) c.grown.new.log c.self.inside.log c.grown.ensures.same c.self.view_is;
     }

@@ -2,19 +2,18 @@ use Rattle.std.proofs.Common.{◌≡◌, ◌≤◌, ◌+◌, take, drop, map, ap
 use Rattle.std.specs.Prelude.{IfErr, OnOk}
 use Rattle.std.specs.NonZero.{non_zero_u64_get}
 use Rattle.qm_model.proofs.Results.{told-here}
-use Rattle.qm_model.specs.Causes.{Rose}
 use Rattle.qm_model.specs.Forms.{spelling}
 use Rattle.qm_model.specs.Proofs.{ops_proof}
 use Rattle.qm_model.specs.Refusals.{proof_count, proof_refusal}
-use Rattle.qm_base.specs.declared.error.Error.TheVariants as errors
-use Rattle.qm_base.specs.declared.error.JournalError.TheVariants as journal
 use Rattle.qm_operations.specs.Views.{operation_views}
 use Rattle.qm_proofs.specs.Proofs.{proof_view}
 use Rattle.qm_store.specs.Log.{IsLog}
 use Rattle.qm_store.specs.Reads.{IsRead}
-use Rattle.qm_store.specs.Refusals.{IsAmong, IsDue}
+use Rattle.qm_store.specs.Refusals.{IsDue}
 use Rattle.qm_build.specs.Reasons.{proof_reasons}
 use Rattle.qm_any.specs.Databases.{Database}
+use Rattle.qm_any.specs.Reasons.{IsProofError}
+use Rattle.qm_any.proofs.Reasons.{proof-error}
 use Rattle.qm_any.proofs.Telling.{three}
 use Rattle.qm_any.proofs.db.Db.historical_proof.Goals as goal
 
@@ -50,9 +49,7 @@ returns g c =
           told-here _ (members.told c.args.self.now.log.store) is.told
           (three (λ n a log. IsLog members shape bytes hash log (map (spelling form) list) → IfSome (members.told log.store) (λ _. IfErr shown (λ e. IsDue e (proof_refusal (members.start log.store) list n a))))
           c.get.ensures c.get-2.ensures here (λ logged. proved.refused list logged is.lent.of) is.lent.logged);
-      causes = three (λ n a log. IfErr shown (λ e. IsAmong e (proof_reasons n a))) c.get.ensures c.get-2.ensures here proved.causes;
-      never = proved.never;
-      cause = subst (λ log. IfErr shown (λ e. e ≡ errors.Journal journal.Store → Rose (members.faults log.store) (members.faults new.store))) here proved.cause;
+      unproved = three (λ n a log. IfErr shown (IsProofError members (proof_reasons n a) log new)) c.get.ensures c.get-2.ensures here (proof-error members _ c.self.inside.log new shown proved.causes proved.never proved.cause);
       left = record {
         rest = ap {A = Database g.row.C.Denot g.row.H-Digest.Denot} (λ db. record db { log = new }) c.self.view_is;
         read = subst (λ log. IsRead members shape bytes hash log new) here proved.read;

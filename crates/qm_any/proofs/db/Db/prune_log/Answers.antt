@@ -13,11 +13,11 @@ returns-then-to-start g c =
     record {
       stands = λ list is.
           let layout = layout_of g.N.Chunks.LEN g.H.Digest.Digest.bytes g.H.Hasher g.F.Family g.U.Update g.I.Unordered in
-          subst (λ db. IsDatabase g.C.Store layout db list) (sym c.over.ensures) (subst (λ db. IsDatabase g.C.Store layout db list) c.apart-log.ensures.whole is);
+          subst (λ db. IsDatabase g.C.Store layout db list) (sym c.over.ensures) (subst (λ db. IsDatabase g.C.Store layout db list) c.into_parts-log.ensures.whole is);
       pruned =
           let hashing = hashing_of g.H.Digest.Digest.bytes g.H.Hasher g.F.Family g.U.Update in
           subst (HasPrunedLog g.C.Store hashing c.args.to c.args.self) (sym c.over.ensures)
-          (has-kept g.C.Store hashing c.args.to c.args.self c.apart-log.result.1 c.apart-log.result.0 c.apart-log.ensures.whole (omega (arith, c.if-to-start.true, c.bounds-start.ensures.start)));
+          (has-kept g.C.Store hashing c.args.to c.args.self c.into_parts-log.result.1 c.into_parts-log.result.0 c.into_parts-log.ensures.whole (omega (arith, c.if-to-start.true, c.bounds-start.ensures.start)));
       refused = tt;
     }
 
@@ -26,24 +26,24 @@ returns g c =
     record {
       stands = λ list is.
           let layout = layout_of g.N.Chunks.LEN g.H.Digest.Digest.bytes g.H.Hasher g.F.Family g.U.Update g.I.Unordered in
-          let beside = c.apart-log.result.1 in
-          let old = c.apart-log.result.0 in
-          let was = subst (λ db. IsDatabase g.C.Store layout db list) c.apart-log.ensures.whole is in
-          ok-over g.C.Store beside c.prune.result c.over-2.result (λ db. IsDatabase g.C.Store layout db list) c.over-2.ensures
+          let state = c.into_parts-log.result.1 in
+          let old = c.into_parts-log.result.0 in
+          let was = subst (λ db. IsDatabase g.C.Store layout db list) c.into_parts-log.ensures.whole is in
+          ok-over g.C.Store state c.prune.result c.over-2.result (λ db. IsDatabase g.C.Store layout db list) c.over-2.ensures
           (ok-two c.prune.result (c.prune.ensures.stands (map (spelling g.U.Update.form) list) was.lent.logged) c.prune.ensures.pruned
-          (λ log stands cut. relogged g.C.Store layout beside old log list (still-told (g.C.Store.told old.store) (g.C.Store.told log.store) (pruned c.args.to cut.0) cut.1) stands was));
+          (λ log stands cut. relogged g.C.Store layout state old log list (still-told (g.C.Store.told old.store) (g.C.Store.told log.store) (pruned c.args.to cut.0) cut.1) stands was));
       pruned =
           let hashing = hashing_of g.H.Digest.Digest.bytes g.H.Hasher g.F.Family g.U.Update in
-          let beside = c.apart-log.result.1 in
-          let old = c.apart-log.result.0 in
-          ok-over g.C.Store beside c.prune.result c.over-2.result (HasPrunedLog g.C.Store hashing c.args.to c.args.self) c.over-2.ensures
+          let state = c.into_parts-log.result.1 in
+          let old = c.into_parts-log.result.0 in
+          ok-over g.C.Store state c.prune.result c.over-2.result (HasPrunedLog g.C.Store hashing c.args.to c.args.self) c.over-2.ensures
           (ok-three c.prune.result c.prune.ensures.start c.prune.ensures.size (ok-two {R = λ log. _ × _} c.prune.result c.prune.ensures.pruned c.prune.ensures.later (λ log cut later. (cut, later)))
-          (λ log first size made. has-pruned g.C.Store hashing c.args.to c.args.self beside old log made.0.0 c.apart-log.ensures.whole (omega (arith, c.if-to-start.false, c.bounds-start.ensures.start)) first size made.0.1 made.0.2 made.1));
+          (λ log first size made. has-pruned g.C.Store hashing c.args.to c.args.self state old log made.0.0 c.into_parts-log.ensures.whole (omega (arith, c.if-to-start.false, c.bounds-start.ensures.start)) first size made.0.1 made.0.2 made.1));
       refused =
           let hashing = hashing_of g.H.Digest.Digest.bytes g.H.Hasher g.F.Family g.U.Update in
-          let beside = c.apart-log.result.1 in
-          let old = c.apart-log.result.0 in
-          err-over g.C.Store beside c.prune.result c.over-2.result (IsGivenUp g.C.Store (λ _. HasLeftPruned g.C.Store hashing (λ s. s) c.args.to c.args.self.log) c.args.self.log.store) c.over-2.ensures
+          let state = c.into_parts-log.result.1 in
+          let old = c.into_parts-log.result.0 in
+          err-over g.C.Store state c.prune.result c.over-2.result (IsGivenUp g.C.Store (λ _. HasLeftPruned g.C.Store hashing (λ s. s) c.args.to c.args.self.log) c.args.self.log.store) c.over-2.ensures
           (err-then c.prune.result c.prune.ensures.refused
-          (λ r refused. cut-given-up g.C.Store hashing c.args.to refused.0 c.args.self beside old r c.apart-log.ensures.whole c.requires.stable (omega (arith, c.if-to-start.false, c.bounds-start.ensures.start)) refused.1 refused.2));
+          (λ r refused. cut-given-up g.C.Store hashing c.args.to refused.0 c.args.self state old r c.into_parts-log.ensures.whole c.requires.stable (omega (arith, c.if-to-start.false, c.bounds-start.ensures.start)) refused.1 refused.2));
     }

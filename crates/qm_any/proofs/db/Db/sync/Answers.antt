@@ -12,26 +12,26 @@ use Rattle.qm_any.proofs.db.Db.sync.Goals as goal
 pub returns-clause-stands : goal.returns-clause-stands
 returns-clause-stands g c = λ list is.
     let layout = layout_of g.N.Chunks.LEN g.H.Digest.Digest.bytes g.H.Hasher g.F.Family g.U.Update g.I.Unordered in
-    let beside = c.apart-log.result.1 in
-    let old = c.apart-log.result.0 in
-    let was = subst (λ db. IsDatabase g.C.Store layout db list) c.apart-log.ensures.whole is in
-    ok-over g.C.Store beside c.sync.result c.over.result (λ db. IsDatabase g.C.Store layout db list) c.over.ensures
+    let state = c.into_parts-log.result.1 in
+    let old = c.into_parts-log.result.0 in
+    let was = subst (λ db. IsDatabase g.C.Store layout db list) c.into_parts-log.ensures.whole is in
+    ok-over g.C.Store state c.sync.result c.over.result (λ db. IsDatabase g.C.Store layout db list) c.over.ensures
     (ok-two c.sync.result (c.sync.ensures.stands (map (spelling g.U.Update.form) list) was.lent.logged) c.sync.ensures.synced
-    (λ log stands become. relogged g.C.Store layout beside old log list (still-told (g.C.Store.told old.store) (g.C.Store.told log.store) settled become.told) stands was))
+    (λ log stands become. relogged g.C.Store layout state old log list (still-told (g.C.Store.told old.store) (g.C.Store.told log.store) settled become.told) stands was))
 
 pub returns-clause-synced : goal.returns-clause-synced
 returns-clause-synced g c =
     let hashing = hashing_of g.H.Digest.Digest.bytes g.H.Hasher g.F.Family g.U.Update in
-    let beside = c.apart-log.result.1 in
-    let old = c.apart-log.result.0 in
-    ok-over g.C.Store beside c.sync.result c.over.result (HasLasted g.C.Store hashing settled c.args.self) c.over.ensures
+    let state = c.into_parts-log.result.1 in
+    let old = c.into_parts-log.result.0 in
+    ok-over g.C.Store state c.sync.result c.over.result (HasLasted g.C.Store hashing settled c.args.self) c.over.ensures
     (ok-four c.sync.result (ok-each (IsLog g.C.Store hashing.shape hashing.bytes hashing.hash old) (λ items log. IsLog g.C.Store hashing.shape hashing.bytes hashing.hash log items) c.sync.result c.sync.ensures.stands) c.sync.ensures.tree c.sync.ensures.synced c.sync.ensures.later
-    (λ log stands tree become later. lasted g.C.Store hashing settled c.args.self beside old log c.apart-log.ensures.whole stands tree become later))
+    (λ log stands tree become later. lasted g.C.Store hashing settled c.args.self state old log c.into_parts-log.ensures.whole stands tree become later))
 
 pub returns-clause-refused : goal.returns-clause-refused
 returns-clause-refused g c =
-    let beside = c.apart-log.result.1 in
-    let old = c.apart-log.result.0 in
-    err-over g.C.Store beside c.sync.result c.over.result (IsGivenUp g.C.Store (HasLeftStable g.C.Store) c.args.self.log.store) c.over.ensures
+    let state = c.into_parts-log.result.1 in
+    let old = c.into_parts-log.result.0 in
+    err-over g.C.Store state c.sync.result c.over.result (IsGivenUp g.C.Store (HasLeftStable g.C.Store) c.args.self.log.store) c.over.ensures
     (err-both c.sync.result c.sync.ensures.refused c.sync.ensures.given
-    (λ r refused never. given-up g.C.Store (HasLeftStable g.C.Store) c.args.self beside old r c.apart-log.ensures.whole refused never))
+    (λ r refused never. given-up g.C.Store (HasLeftStable g.C.Store) c.args.self state old r c.into_parts-log.ensures.whole refused never))

@@ -1,10 +1,11 @@
-use Rattle.std.proofs.Common.{◌≡◌, ◌∙◌, ◌≤◌, ◌+◌, ◌⊎◌, ◌∷◌, ◌++◌, false, ap, ap₂, arith, length, map, option_map, subst, sym, inl, inr}
+use Rattle.std.proofs.Common.{ℕ, List, ◌≡◌, ◌∙◌, ◌≤◌, ◌+◌, ◌⊎◌, ◌∷◌, ◌++◌, false, ap, ap₂, arith, length, map, option_map, subst, sym, inl, inr}
 use Rattle.std.proofs.lemmas.Result.{IfOk-from_err, err_from_is_err_and}
 use Rattle.std.proofs.lemmas.List.{length-map}
 use Rattle.std.specs.Prelude.{Contains}
-use Rattle.qm_merkle.specs.Batches.{stops, stops_since, lists_since}
+use Rattle.qm_merkle.specs.Batches.{stops, lists_since}
 use Rattle.qm_model.specs.Forms.{spelling}
 use Rattle.qm_model.specs.Live.{floor}
+use Rattle.qm_model.specs.Operations.{Operation}
 use Rattle.qm_model.specs.Slots.{slotted}
 use Rattle.qm_base.specs.Slots.{slot_views, write_views}
 use Rattle.qm_model.proofs.Results.{err-then, ok-then}
@@ -15,11 +16,12 @@ use Rattle.qm_store.specs.KeptTrees.{KeptTree, IsKeptTree}
 use Rattle.qm_step.specs.Views.{IsPlan, left_after, stepped}
 use Rattle.qm_any.specs.Layouts.{hashing_with, list_root, spellings}
 use Rattle.qm_any.specs.Databases.{IsLeft, IsMade, IsTree, bases_of, is_on, kept_by}
-use Rattle.qm_any.specs.Tips.{IsSpelled, IsTooLong}
+use Rattle.qm_any.specs.Tips.{IsSpelled, IsTooLong, IsTreeAfter}
 use Rattle.qm_any.proofs.Agreed.{child-above, child-reached}
 use Rattle.qm_any.proofs.Reading.{left-database, left-none}
 use Rattle.qm_any.proofs.Reasons.{on-ok}
 use Rattle.qm_any.proofs.Staging.{slotted-reads, staged-reads}
+use Rattle.qm_any.proofs.Telling.{three}
 use Rattle.qm_any.proofs.Unmade.{child-found, child-on, child-stepped, made-leaves, on-same, plan-taken, unplaced, unplaced-kept, unplaced-refused, unread, unsealed, unspelled, unspelled-kept, unspelled-refused}
 use Rattle.qm_any.proofs.staged.Staged.merkleize.Goals as goal
 
@@ -34,16 +36,15 @@ returns-in_err-child g c =
     let unmade = unplaced g.C.Store (is_on c.args.db.now.commitment c.args.self.batch) c.args.db.now.log c.args.db.now.log e refusal in
     record {
       fits = IfOk-from_err c.from_residual.result _ c.from_residual.ensures.0;
-      made = λ list chain above is staged on. IfOk-from_err c.from_residual.result _ c.from_residual.ensures.0;
-      taken = λ list chain above is staged on. IfOk-from_err c.from_residual.result _ c.from_residual.ensures.0;
-      refused = λ list chain above is staged on. rw (exit.1, exit.2) (inl (unplaced-refused g.U.Update.form chain.base _ (is_on c.args.db.now.commitment c.args.self.batch) e refusal));
-      next = λ list chain above is staged on. IfOk-from_err c.from_residual.result _ c.from_residual.ensures.0;
+      makes = λ list chain above is staged on. record {
+        made = IfOk-from_err c.from_residual.result _ c.from_residual.ensures.0;
+        taken = IfOk-from_err c.from_residual.result _ c.from_residual.ensures.0;
+        next = IfOk-from_err c.from_residual.result _ c.from_residual.ensures.0;
+        refused = rw (exit.1, exit.2) (inl (unplaced-refused g.U.Update.form chain.base _ (is_on c.args.db.now.commitment c.args.self.batch) e refusal));
+      };
       above = IfOk-from_err c.from_residual.result _ c.from_residual.ensures.0;
-      stale = rw (exit.1, exit.2) unmade.stale;
-      order = rw (exit.1, exit.2) unmade.order;
-      causes = rw (exit.1, exit.2) unmade.causes;
+      unmade = rw (exit.1, exit.2) unmade;
       whole = λ list is none low. rw (exit.1, exit.2) (unplaced-kept (is_on c.args.db.now.commitment c.args.self.batch) e refusal);
-      cause = rw (exit.1, exit.2) unmade.cause;
       left = left-none g.C.Store (hashing_with g.D.Digest.bytes g.H.Hasher.hash g.F.Family.shape g.U.Update.form) c.args.db.now;
     }
 
@@ -57,18 +58,17 @@ returns-in_err-plan g c =
     let unmade = unread g.C.Store (is_on c.args.db.now.commitment c.args.self.batch) c.args.db.now.log c.plan.new.self.log _ (sym same ∙ (c.in_ok-child.ensures.placed).on) failed in
     record {
       fits = IfOk-from_err c.from_residual-in_err-plan.result _ c.from_residual-in_err-plan.ensures.0;
-      made = λ list chain above is staged on. IfOk-from_err c.from_residual-in_err-plan.result _ c.from_residual-in_err-plan.ensures.0;
-      taken = λ list chain above is staged on. IfOk-from_err c.from_residual-in_err-plan.result _ c.from_residual-in_err-plan.ensures.0;
-      refused = λ list chain above is staged on. rw (exit.1, exit.2) (inr failed);
-      next = λ list chain above is staged on. IfOk-from_err c.from_residual-in_err-plan.result _ c.from_residual-in_err-plan.ensures.0;
+      makes = λ list chain above is staged on. record {
+        made = IfOk-from_err c.from_residual-in_err-plan.result _ c.from_residual-in_err-plan.ensures.0;
+        taken = IfOk-from_err c.from_residual-in_err-plan.result _ c.from_residual-in_err-plan.ensures.0;
+        next = IfOk-from_err c.from_residual-in_err-plan.result _ c.from_residual-in_err-plan.ensures.0;
+        refused = rw (exit.1, exit.2) (inr failed);
+      };
       above = IfOk-from_err c.from_residual-in_err-plan.result _ c.from_residual-in_err-plan.ensures.0;
-      stale = rw (exit.1, exit.2) unmade.stale;
-      order = rw (exit.1, exit.2) unmade.order;
-      causes = rw (exit.1, exit.2) unmade.causes;
+      unmade = rw (exit.1, exit.2) unmade;
       whole = λ list is none low.
           let floor = ap (λ b. b.floor) c.base.ensures.value ∙ ap (λ m. m.bounds.inactivity_floor) (c.parts-keep.ensures.parent ∙ ap (λ b. b.parent) batch) in
           rw (exit.1, exit.2) (c.in_err-plan.ensures.whole list is none (subst (λ n. c.args.db.now.log.tree.start ≤ n) (sym floor) low));
-      cause = rw (exit.1, exit.2) unmade.cause;
       left = c.in_err-plan.ensures.left;
     }
 
@@ -85,32 +85,31 @@ returns-in_err-tree g c =
     let unmade = unspelled g.C.Store (is_on c.args.db.now.commitment c.args.self.batch) c.args.db.now.log c.grown.new.self.log e (map (spelling g.U.Update.form) c.in_ok-plan.plan.operations) size (sym same ∙ (c.in_ok-child.ensures.placed).on) refusal in
     record {
       fits = IfOk-from_err c.from_residual-in_err-tree.result _ c.from_residual-in_err-tree.ensures.0;
-      made = λ list chain above is staged on. IfOk-from_err c.from_residual-in_err-tree.result _ c.from_residual-in_err-tree.ensures.0;
-      taken = λ list chain above is staged on. IfOk-from_err c.from_residual-in_err-tree.result _ c.from_residual-in_err-tree.ensures.0;
-      refused = λ list chain above is staged on.
-          let key = g.U.Key.ByteString.bytes in
-          let value = g.U.Value.ByteString.bytes in
-          let view = g.U.Update.view in
-          let form = g.U.Update.form in
-          let batch = ap (λ s. s.batch) c.self.view_is in
-          let parent = c.parts-keep.ensures.parent ∙ ap (λ b. b.parent) batch in
-          let reads = ap (λ s. s.reads) c.self.view_is in
-          let meta = option_map value c.args.metadata in
-          let writes = slotted-reads view key value _ c.args.self.batch.writes c.deref.result.now c.self.inside.reads.items c.args.self.reads c.args.slots.now c.args.others.now (c.parts-keep.ensures.writes ∙ ap (λ b. b.writes) batch) c.deref.ensures.value reads in
-          let found = child-found c.args.self.batch c.parts-keep.result.0.now _ list chain above c.base.ensures.value parent staged.begun on in
-          let plan = subst (λ ws. IsPlan c.in_ok-plan.plan chain.base (stepped form g.P.Policy.rules chain.base ws c.args.policy.now meta)) writes
-          (c.in_ok-plan.ensures.plan list chain.base is found ((staged.begun).parent).ring (staged-reads view key chain.base c.deref.result.now c.self.inside.reads.items c.args.self.reads c.deref.ensures.value reads staged.reads)) in
-          let count : size ≡ length chain.base + length c.in_ok-plan.plan.operations =
-          ap₂ (λ a b. a + b) (ap (λ t. t.leaves) (c.tree.ensures.value ∙ ap (λ m. m.tree) parent) ∙ made-leaves c.args.self.batch.parent above chain.base (staged.begun).parent)
-          (sym (length-map c.deref-2.result.now (operation_view view key value)) ∙ ap length given) in
-          rw (exit.1, exit.2) (inl (unspelled-refused form c.in_ok-plan.plan chain.base _ size e plan count refusal));
-      next = λ list chain above is staged on. IfOk-from_err c.from_residual-in_err-tree.result _ c.from_residual-in_err-tree.ensures.0;
+      makes = λ list chain above is staged on. record {
+        made = IfOk-from_err c.from_residual-in_err-tree.result _ c.from_residual-in_err-tree.ensures.0;
+        taken = IfOk-from_err c.from_residual-in_err-tree.result _ c.from_residual-in_err-tree.ensures.0;
+        next = IfOk-from_err c.from_residual-in_err-tree.result _ c.from_residual-in_err-tree.ensures.0;
+        refused =
+            let key = g.U.Key.ByteString.bytes in
+            let value = g.U.Value.ByteString.bytes in
+            let view = g.U.Update.view in
+            let form = g.U.Update.form in
+            let batch = ap (λ s. s.batch) c.self.view_is in
+            let parent = c.parts-keep.ensures.parent ∙ ap (λ b. b.parent) batch in
+            let reads = ap (λ s. s.reads) c.self.view_is in
+            let meta = option_map value c.args.metadata in
+            let writes = slotted-reads view key value _ c.args.self.batch.writes c.deref.result.now c.self.inside.reads.items c.args.self.reads c.args.slots.now c.args.others.now (c.parts-keep.ensures.writes ∙ ap (λ b. b.writes) batch) c.deref.ensures.value reads in
+            let found = child-found c.args.self.batch c.parts-keep.result.0.now _ list chain above c.base.ensures.value parent staged.begun on in
+            let plan = subst (λ ws. IsPlan c.in_ok-plan.plan chain.base (stepped form g.P.Policy.rules chain.base ws c.args.policy.now meta)) writes
+            (c.in_ok-plan.ensures.plan list chain.base is found ((staged.begun).parent).ring (staged-reads view key chain.base c.deref.result.now c.self.inside.reads.items c.args.self.reads c.deref.ensures.value reads staged.reads)).0 in
+            let count : size ≡ length chain.base + length c.in_ok-plan.plan.operations =
+            ap₂ (λ a b. a + b) (ap (λ t. t.leaves) (c.tree.ensures.value ∙ ap (λ m. m.tree) parent) ∙ made-leaves c.args.self.batch.parent above chain.base (staged.begun).parent)
+            (sym (length-map c.deref-2.result.now (operation_view view key value)) ∙ ap length given) in
+            rw (exit.1, exit.2) (inl (unspelled-refused form c.in_ok-plan.plan chain.base _ size e plan count refusal));
+      };
       above = IfOk-from_err c.from_residual-in_err-tree.result _ c.from_residual-in_err-tree.ensures.0;
-      stale = rw (exit.1, exit.2) unmade.stale;
-      order = rw (exit.1, exit.2) unmade.order;
-      causes = rw (exit.1, exit.2) unmade.causes;
+      unmade = rw (exit.1, exit.2) unmade;
       whole = λ list is none low. rw (exit.1, exit.2) (unspelled-kept (map (spelling g.U.Update.form) c.in_ok-plan.plan.operations) size e refusal);
-      cause = rw (exit.1, exit.2) unmade.cause;
       left = subst (IsLeft g.C.Store (hashing_with g.D.Digest.bytes g.H.Hasher.hash g.F.Family.shape g.U.Update.form) c.args.db.now) (sym c.grown.ensures.same) c.in_ok-plan.ensures.left;
     }
 
@@ -133,32 +132,22 @@ grown-requires-clause-boundary g c =
     let above = child-above c.parts-keep.result.0.now c.tree.ensures.agreed c.parts-keep.result.1 (commitment_view g.D.Digest.bytes c.commitment.result.now) c.parts-keep.ensures.few (c.in_ok-child.ensures.placed).on in
     omega (arith, size, low, above)
 
-pub sealed-requires-clause-boundary : goal.sealed-requires-clause-boundary
-sealed-requires-clause-boundary g c = (c.in_ok-child.ensures.placed).boundary
+pub sealed-requires-clause-placed : goal.sealed-requires-clause-placed
+sealed-requires-clause-placed g c = ((c.in_ok-child.ensures.placed).boundary, (c.in_ok-child.ensures.placed).tips)
 
-pub sealed-requires-clause-tips : goal.sealed-requires-clause-tips
-sealed-requires-clause-tips g c = (c.in_ok-child.ensures.placed).tips
-
-pub sealed-requires-clause-count : goal.sealed-requires-clause-count
-sealed-requires-clause-count g c =
-    let view = operation_view g.U.Update.view g.U.Key.ByteString.bytes g.U.Value.ByteString.bytes in
-    let given = ap (map view) c.deref-2.ensures.value ∙ ap (λ p. p.operations) c.plan-2.view_is in
-    sym (c.in_ok-tree.ensures.leaves ∙ ap₂ (λ a b. a + b) (ap (λ t. t.leaves) c.tree.ensures.value) (sym (length-map c.deref-2.result.now view) ∙ ap length given))
+pub sealed-requires-clause-after : goal.sealed-requires-clause-after
+sealed-requires-clause-after g c =
+    let given = ap (operation_views g.U.Update.view g.U.Key.ByteString.bytes g.U.Value.ByteString.bytes) c.deref-2.ensures.value ∙ ap (λ p. p.operations) c.plan-2.view_is in
+    three (λ (t : KeptTree g.row.D.Denot) (ops : List Operation) (n : ℕ). IsTreeAfter g.U.Update.form t ops n c.in_ok-tree.tree) c.tree.ensures.value given (ap (λ k. k.size) (c.in_ok-child.ensures.placed).boundary) c.in_ok-tree.ensures.after
 
 pub sealed-requires-clause-live : goal.sealed-requires-clause-live
 sealed-requires-clause-live g c =
-    let view = operation_view g.U.Update.view g.U.Key.ByteString.bytes g.U.Value.ByteString.bytes in
-    let given = sym (length-map c.deref-2.result.now view) ∙ ap length (ap (map view) c.deref-2.ensures.value ∙ ap (λ p. p.operations) c.plan-2.view_is) in
-    let leaves = c.in_ok-tree.ensures.leaves in
+    let given = ap length (ap (operation_views g.U.Update.view g.U.Key.ByteString.bytes g.U.Value.ByteString.bytes) c.deref-2.ensures.value ∙ ap (λ p. p.operations) c.plan-2.view_is) in
+    let leaves = (c.in_ok-tree.ensures.after).leaves in
     let live = c.in_ok-plan.ensures.live in
     let known = ap (λ b. b.size) c.base.ensures.value in
     let agreed = c.tree.ensures.agreed in
     omega (arith, given, leaves, live, known, ap (λ t. t.leaves) c.tree.ensures.value, agreed.leaves)
-
-pub sealed-requires-clause-stops : goal.sealed-requires-clause-stops
-sealed-requires-clause-stops g c =
-    let boundary = ap (λ k. k.size) (c.in_ok-child.ensures.placed).boundary in
-    c.in_ok-tree.ensures.stops ∙ ap₂ (λ n (t : KeptTree g.row.D.Denot). c.in_ok-tree.tree.leaves ∷ stops_since n (stops t.leaves t.layers)) boundary c.tree.ensures.value
 
 pub returns : goal.returns
 returns g c =
@@ -168,77 +157,49 @@ returns g c =
     let here = sym same ∙ (c.in_ok-child.ensures.placed).on in
     record {
       fits = on-ok c.sealed.result here;
-      made = λ list chain above is staged on.
+      makes = λ list chain above is staged on.
           let key = g.U.Key.ByteString.bytes in
           let value = g.U.Value.ByteString.bytes in
           let view = g.U.Update.view in
           let form = g.U.Update.form in
-          let batch = ap (λ s. s.batch) c.self.view_is in
           let parent = c.parts-keep.ensures.parent ∙ ap (λ b. b.parent) batch in
           let reads = ap (λ s. s.reads) c.self.view_is in
           let meta = option_map value c.args.metadata in
           let writes = slotted-reads view key value _ c.args.self.batch.writes c.deref.result.now c.self.inside.reads.items c.args.self.reads c.args.slots.now c.args.others.now (c.parts-keep.ensures.writes ∙ ap (λ b. b.writes) batch) c.deref.ensures.value reads in
           let found = child-found c.args.self.batch c.parts-keep.result.0.now _ list chain above c.base.ensures.value parent staged.begun on in
-          let plan = subst (λ ws. IsPlan c.in_ok-plan.plan chain.base (stepped form g.P.Policy.rules chain.base ws c.args.policy.now meta)) writes
-          (c.in_ok-plan.ensures.plan list chain.base is found ((staged.begun).parent).ring (staged-reads view key chain.base c.deref.result.now c.self.inside.reads.items c.args.self.reads c.deref.ensures.value reads staged.reads)) in
+          let planned = c.in_ok-plan.ensures.plan list chain.base is found ((staged.begun).parent).ring (staged-reads view key chain.base c.deref.result.now c.self.inside.reads.items c.args.self.reads c.deref.ensures.value reads staged.reads) in
+          let plan = subst (λ ws. IsPlan c.in_ok-plan.plan chain.base (stepped form g.P.Policy.rules chain.base ws c.args.policy.now meta)) writes planned.0 in
           let given = ap (operation_views view key value) c.deref-2.ensures.value ∙ ap (λ p. p.operations) c.plan-2.view_is in
-          let spelt = subst (λ ops. IsSpelled form ops c.in_ok-tree.tree.leaves) given c.in_ok-tree.ensures.taken in
-          let bytes = g.D.Digest.bytes in
-          let hash = g.H.Hasher.hash in
-          let shape = g.F.Family.shape in
-          let hashing = hashing_with bytes hash shape form in
-          let base = chain.base in
-          let begun = subst (λ m. IsMade hashing m above base) (sym parent) (staged.begun).parent in
-          let kept = (staged.begun).kept ∙ ap (λ k. kept_by k above base) (sym (c.parts-keep.ensures.keep ∙ ap (λ b. b.keep) batch)) in
-          let stands = left-database g.C.Store (record { hashing = hashing; chunk = g.N.Chunks.LEN; index_key = g.I.Unordered.index_key }) c.args.db.now c.plan.new.self list c.in_ok-plan.ensures.left is in
-          let among = child-on c.parts-keep.result.0.now c.parts-keep.result.1 chain above c.parts-keep.ensures.few begun kept list on in
-          let before = subst (λ t. IsTree hashing t base (bases_of above)) (sym c.tree.ensures.value) begun.tree in
-          let tree = subst (λ ops. IsKeptTree bytes hash shape c.in_ok-tree.tree (spellings hashing (base ++ ops)) (lists_since c.in_ok-child.child.boundary.size (map (spellings hashing) (base ∷ bases_of above)))) given
-          (c.in_ok-tree.ensures.tree list base (bases_of above) stands before among) in
-          let rooted = c.in_ok-tree.ensures.root list base (bases_of above) stands before among in
-          let low = c.get-floor.ensures ∙ ap (λ p. p.floor) c.plan-2.view_is in
-          ok-then c.sealed.result c.sealed.ensures.value (λ b made. subst (λ m. IsMade hashing m chain (stepped form g.P.Policy.rules base (slotted c.args.self.batch.writes (map (λ r. r.0) c.args.self.reads) (slot_views value c.args.slots.now) (write_views key value c.args.others.now)) c.args.policy.now meta)) (sym made)
-          (child-stepped c.parts-keep.result.0.now c.parts-keep.result.1 chain above c.parts-keep.ensures.few begun kept g.P.Policy.rules c.args.policy.now _ meta c.in_ok-plan.plan c.in_ok-tree.tree (bytes c.in_ok-tree.root) c.in_ok-child.child.boundary.size _ plan spelt tree
-          (ap (λ k. k.size) (c.in_ok-child.ensures.placed).boundary)
-          (λ lowest. rooted (low ∙ lowest ∙ ap (λ ops. floor (base ++ ops)) (sym given)) ∙ ap (λ ops. list_root hashing (base ++ ops)) given)
-          c.in_ok-child.ensures.metadata));
-      taken = λ list chain above is staged on.
-          let key = g.U.Key.ByteString.bytes in
-          let value = g.U.Value.ByteString.bytes in
-          let view = g.U.Update.view in
-          let form = g.U.Update.form in
-          let batch = ap (λ s. s.batch) c.self.view_is in
-          let parent = c.parts-keep.ensures.parent ∙ ap (λ b. b.parent) batch in
-          let reads = ap (λ s. s.reads) c.self.view_is in
-          let meta = option_map value c.args.metadata in
-          let writes = slotted-reads view key value _ c.args.self.batch.writes c.deref.result.now c.self.inside.reads.items c.args.self.reads c.args.slots.now c.args.others.now (c.parts-keep.ensures.writes ∙ ap (λ b. b.writes) batch) c.deref.ensures.value reads in
-          let found = child-found c.args.self.batch c.parts-keep.result.0.now _ list chain above c.base.ensures.value parent staged.begun on in
-          let plan = subst (λ ws. IsPlan c.in_ok-plan.plan chain.base (stepped form g.P.Policy.rules chain.base ws c.args.policy.now meta)) writes
-          (c.in_ok-plan.ensures.plan list chain.base is found ((staged.begun).parent).ring (staged-reads view key chain.base c.deref.result.now c.self.inside.reads.items c.args.self.reads c.deref.ensures.value reads staged.reads)) in
-          let given = ap (operation_views view key value) c.deref-2.ensures.value ∙ ap (λ p. p.operations) c.plan-2.view_is in
-          let spelt = subst (λ ops. IsSpelled form ops c.in_ok-tree.tree.leaves) given c.in_ok-tree.ensures.taken in
-          let count : c.in_ok-tree.tree.leaves ≡ length chain.base + length c.in_ok-plan.plan.operations =
-          c.in_ok-tree.ensures.leaves ∙ ap₂ (λ a b. a + b) (ap (λ t. t.leaves) (c.tree.ensures.value ∙ ap (λ m. m.tree) parent) ∙ made-leaves c.args.self.batch.parent above chain.base (staged.begun).parent)
-          (sym (length-map c.deref-2.result.now (operation_view view key value)) ∙ ap length given) in
-          on-ok c.sealed.result (plan-taken form c.in_ok-plan.plan chain.base _ c.in_ok-tree.tree.leaves plan spelt count);
-      refused = λ list chain above is staged on. err-then c.sealed.result c.sealed.ensures.memory (λ e memory. inl (inl memory));
-      next = λ list chain above is staged on.
-          let key = g.U.Key.ByteString.bytes in
-          let value = g.U.Value.ByteString.bytes in
-          let view = g.U.Update.view in
-          let form = g.U.Update.form in
-          let batch = ap (λ s. s.batch) c.self.view_is in
-          let parent = c.parts-keep.ensures.parent ∙ ap (λ b. b.parent) batch in
-          let reads = ap (λ s. s.reads) c.self.view_is in
-          let writes = slotted-reads view key value _ c.args.self.batch.writes c.deref.result.now c.self.inside.reads.items c.args.self.reads c.args.slots.now c.args.others.now (c.parts-keep.ensures.writes ∙ ap (λ b. b.writes) batch) c.deref.ensures.value reads in
-          let found = child-found c.args.self.batch c.parts-keep.result.0.now _ list chain above c.base.ensures.value parent staged.begun on in
-          on-ok c.sealed.result (subst (λ ws. c.plan.new.policy ≡ left_after form g.P.Policy.rules chain.base ws c.args.policy.now) writes
-          (c.in_ok-plan.ensures.next list chain.base is found ((staged.begun).parent).ring (staged-reads view key chain.base c.deref.result.now c.self.inside.reads.items c.args.self.reads c.deref.ensures.value reads staged.reads)));
+          let spelt = subst (λ ops. IsSpelled form ops c.in_ok-tree.tree.leaves) given (c.in_ok-tree.ensures.after).spelled in
+          record {
+            made =
+                let bytes = g.D.Digest.bytes in
+                let hash = g.H.Hasher.hash in
+                let shape = g.F.Family.shape in
+                let hashing = hashing_with bytes hash shape form in
+                let base = chain.base in
+                let begun = subst (λ m. IsMade hashing m above base) (sym parent) (staged.begun).parent in
+                let kept = (staged.begun).kept ∙ ap (λ k. kept_by k above base) (sym (c.parts-keep.ensures.keep ∙ ap (λ b. b.keep) batch)) in
+                let stands = left-database g.C.Store (record { hashing = hashing; chunk = g.N.Chunks.LEN; index_key = g.I.Unordered.index_key }) c.args.db.now c.plan.new.self list c.in_ok-plan.ensures.left is in
+                let among = child-on c.parts-keep.result.0.now c.parts-keep.result.1 chain above c.parts-keep.ensures.few begun kept list on in
+                let before = subst (λ t. IsTree hashing t base (bases_of above)) (sym c.tree.ensures.value) begun.tree in
+                let both = c.in_ok-tree.ensures.tree list base (bases_of above) stands before among in
+                let tree = subst (λ ops. IsKeptTree bytes hash shape c.in_ok-tree.tree (spellings hashing (base ++ ops)) (lists_since c.in_ok-child.child.boundary.size (map (spellings hashing) (base ∷ bases_of above)))) given both.tree in
+                let low = c.get-floor.ensures ∙ ap (λ p. p.floor) c.plan-2.view_is in
+                ok-then c.sealed.result c.sealed.ensures.value (λ b made. subst (λ m. IsMade hashing m chain (stepped form g.P.Policy.rules base (slotted c.args.self.batch.writes (map (λ r. r.0) c.args.self.reads) (slot_views value c.args.slots.now) (write_views key value c.args.others.now)) c.args.policy.now meta)) (sym made)
+                (child-stepped c.parts-keep.result.0.now c.parts-keep.result.1 chain above c.parts-keep.ensures.few begun kept g.P.Policy.rules c.args.policy.now _ meta c.in_ok-plan.plan c.in_ok-tree.tree (bytes c.in_ok-tree.root) c.in_ok-child.child.boundary.size _ plan spelt tree
+                (ap (λ k. k.size) (c.in_ok-child.ensures.placed).boundary)
+                (λ lowest. both.root (low ∙ lowest ∙ ap (λ ops. floor (base ++ ops)) (sym given)) ∙ ap (λ ops. list_root hashing (base ++ ops)) given)
+                c.in_ok-child.ensures.metadata));
+            taken =
+                let count : c.in_ok-tree.tree.leaves ≡ length chain.base + length c.in_ok-plan.plan.operations =
+                (c.in_ok-tree.ensures.after).leaves ∙ ap₂ (λ a b. a + b) (ap (λ t. t.leaves) (c.tree.ensures.value ∙ ap (λ m. m.tree) parent) ∙ made-leaves c.args.self.batch.parent above chain.base (staged.begun).parent) (ap length given) in
+                on-ok c.sealed.result (plan-taken form c.in_ok-plan.plan chain.base _ c.in_ok-tree.tree.leaves plan spelt count);
+            next = on-ok c.sealed.result (subst (λ ws. c.plan.new.policy ≡ left_after form g.P.Policy.rules chain.base ws c.args.policy.now) writes planned.1);
+            refused = err-then c.sealed.result c.sealed.ensures.memory (λ e memory. inl (inl memory));
+          };
       above = c.sealed.ensures.above;
-      stale = err-then c.sealed.result c.sealed.ensures.memory (λ e memory. (unsealed g.C.Store (is_on c.args.db.now.commitment c.args.self.batch) c.args.db.now.log c.grown.new.self.log e here memory).stale);
-      order = err-then c.sealed.result c.sealed.ensures.memory (λ e memory. (unsealed g.C.Store (is_on c.args.db.now.commitment c.args.self.batch) c.args.db.now.log c.grown.new.self.log e here memory).order);
-      causes = err-then c.sealed.result c.sealed.ensures.memory (λ e memory. (unsealed g.C.Store (is_on c.args.db.now.commitment c.args.self.batch) c.args.db.now.log c.grown.new.self.log e here memory).causes);
+      unmade = err-then c.sealed.result c.sealed.ensures.memory (λ e memory. unsealed g.C.Store (is_on c.args.db.now.commitment c.args.self.batch) c.args.db.now.log c.grown.new.self.log e here memory);
       whole = λ list is none low. err-then c.sealed.result c.sealed.ensures.memory (λ e memory n pruned. absurd (cc (memory, pruned)));
-      cause = err-then c.sealed.result c.sealed.ensures.memory (λ e memory. (unsealed g.C.Store (is_on c.args.db.now.commitment c.args.self.batch) c.args.db.now.log c.grown.new.self.log e here memory).cause);
       left = subst (IsLeft g.C.Store (hashing_with g.D.Digest.bytes g.H.Hasher.hash g.F.Family.shape g.U.Update.form) c.args.db.now) (sym c.grown.ensures.same) c.in_ok-plan.ensures.left;
     }

@@ -42,16 +42,16 @@ returns g c =
           (ap₂ (λ w m. stepped g.U.Update.form g.P.Policy.rules chain.base w c.args.policy.now m) batch.1 meta)
           (on-begun hashing list chain above old.commitment begun (subst (λ (b : Begun _). b.keep ≤ suc (length b.parent.bounds.ancestors)) c.batch.view_is c.batch.invariant) is.commitment batch.0)
           said.fits
-          (said.made list chain above is batch.0)
-          (said.taken list chain above is batch.0)
-          (said.refused list chain above is batch.0)
-          said.stale
-          said.order
+          (λ here. (said.makes list chain above is batch.0 here).made)
+          (λ here. (said.makes list chain above is batch.0 here).taken)
+          (λ here. (said.makes list chain above is batch.0 here).refused)
+          (err-then r said.unmade (λ e why. why.stale))
+          (err-then r said.unmade (λ e why. why.order))
           (err-then r (kept-from g.C.Store layout old r begun.parent.bounds.inactivity_floor said.whole) (λ e kept tells low. kept list is tells (subst (λ n. floor list ≤ n) (sym (batch.0).parent.lowest) low)));
       reads = record {
         same = λ list is. left-database g.C.Store layout old new list said.left is;
         numbered = λ n is. tt;
         store = left-store g.C.Store hashing old new said.left;
-        faults = record { later = (said.left).read.keeps.later; failed = err-of r (Journal Store) _ said.cause };
+        faults = record { later = (said.left).read.keeps.later; failed = err-of r (Journal Store) _ (err-then r said.unmade (λ e why. why.cause)) };
       };
     }

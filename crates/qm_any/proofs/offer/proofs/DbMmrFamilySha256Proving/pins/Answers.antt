@@ -1,6 +1,6 @@
 use Rattle.std.proofs.Common.{◌≡◌, ◌∙◌, ap, subst, map, None}
 use Rattle.std.specs.Prelude.{IfErr, IfOk}
-use Rattle.qm_model.proofs.Results.{err-each, ok-each, ok-then}
+use Rattle.qm_model.proofs.Results.{err-each, err-then, ok-each, ok-then}
 use Rattle.qm_model.specs.Proofs.{pins_at}
 use Rattle.qm_model.specs.Held.{pins_lacked}
 use Rattle.qm_any.specs.Databases.{IsDatabase}
@@ -36,4 +36,4 @@ returns-clause-refused g c =
     let found = c.pinned_nodes_at.result in
     err-each (IsDatabase g.C.Store (sha256_layout mmr g.N.Chunks.LEN g.U.Update.form g.I.Unordered.index_key) db) (λ list e. IsDue e (pins_lacked mmr start list c.args.at)) found
     (λ list is. subst (λ n. IfErr found (λ e. IsDue e (pins_lacked mmr start list n))) c.new.ensures
-    (pins-due digest_bytes sha256 mmr mmr_births mmr_is_family mmr_has_peaks g.C.Store g.U.Update.form g.N.Chunks.LEN g.I.Unordered.index_key db list is c.bounds.ensures.few c.new.result found c.pinned_nodes_at.ensures.range c.pinned_nodes_at.ensures.cause))
+    (pins-due digest_bytes sha256 mmr mmr_births mmr_is_family mmr_has_peaks g.C.Store g.U.Update.form g.N.Chunks.LEN g.I.Unordered.index_key db list is c.bounds.ensures.few c.new.result found c.pinned_nodes_at.ensures.range (λ within. err-then found c.pinned_nodes_at.ensures.lacking (λ e why. why.lacked within))))

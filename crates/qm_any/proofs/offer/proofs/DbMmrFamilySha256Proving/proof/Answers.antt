@@ -40,11 +40,11 @@ returns-in-Err-clause-failure g c = λ list chain tip is batch.
     let can = knows-readable (sha256_hashing mmr g.U.Update.form) list chain tip db.commitment made.bounds is.commitment batch.bounds in
     let told = λ (P : Made _ → Type 0). subst P c.deref-2.ensures in
     record {
-      stale = λ stale. unknown (list_root (sha256_hashing mmr g.U.Update.form)) list chain tip (sym can ∙ told (λ b. knows b.bounds db.commitment ≡ false) (c.in-Err.ensures.stale stale));
+      stale = λ stale. unknown (list_root (sha256_hashing mmr g.U.Update.form)) list chain tip (sym can ∙ told (λ b. knows b.bounds db.commitment ≡ false) ((c.in-Err.ensures.lacking).stale stale));
       refused = λ fresh known.
           proof-due digest_bytes sha256 mmr mmr_births mmr_is_family mmr_has_peaks g.C.Store form g.N.Chunks.LEN g.I.Unordered.index_key db list is made chain tip batch (subst AreAgreed c.deref.ensures c.bounds.ensures.agreed) (can ∙ readable-known (list_root (sha256_hashing mmr g.U.Update.form)) list chain tip known) c.in-Err.error
-          (told (λ b. IsLacked (held_at mmr b.tree db.log.tree) (needed_positions mmr b.bounds.tip.size b.bounds.base.size b.bounds.tip.size) c.in-Err.error) (c.in-Err.ensures.lacked fresh));
-      order = λ fresh other. sym can ∙ told (λ b. knows b.bounds db.commitment ≡ true) (c.in-Err.ensures.order other fresh);
+          (told (λ b. IsLacked (held_at mmr b.tree db.log.tree) (needed_positions mmr b.bounds.tip.size b.bounds.base.size b.bounds.tip.size) c.in-Err.error) ((c.in-Err.ensures.lacking).lacked fresh));
+      order = λ fresh other. sym can ∙ told (λ b. knows b.bounds db.commitment ≡ true) ((c.in-Err.ensures.lacking).order other fresh);
     }
 
 pub returns-in-Err-pinned_nodes-clause-failure : goal.returns-in-Err-pinned_nodes-clause-failure
@@ -56,9 +56,9 @@ returns-in-Err-pinned_nodes-clause-failure g c = λ list chain tip is batch.
     let told = λ (P : Made _ → Type 0). subst P c.deref-in-Ok.ensures in
     let held = subst (λ (b : Made _). first_lacked (held_at mmr b.tree db.log.tree) (needed_positions mmr b.bounds.tip.size b.bounds.base.size b.bounds.tip.size) ≡ None) c.deref-2.ensures c.in-Ok.ensures.held in
     record {
-      stale = λ stale. unknown (list_root (sha256_hashing mmr g.U.Update.form)) list chain tip (sym can ∙ told (λ b. knows b.bounds db.commitment ≡ false) (c.in-Err-pinned_nodes.ensures.stale stale));
+      stale = λ stale. unknown (list_root (sha256_hashing mmr g.U.Update.form)) list chain tip (sym can ∙ told (λ b. knows b.bounds db.commitment ≡ false) ((c.in-Err-pinned_nodes.ensures.lacking).stale stale));
       refused = λ fresh known.
           peaks-due digest_bytes sha256 mmr mmr_births mmr_is_family mmr_has_peaks g.C.Store form g.N.Chunks.LEN g.I.Unordered.index_key db list is made chain tip batch (subst AreAgreed c.deref.ensures c.bounds.ensures.agreed) (can ∙ readable-known (list_root (sha256_hashing mmr g.U.Update.form)) list chain tip known) c.in-Err-pinned_nodes.error held
-          (told (λ b. IsLacked (held_at mmr b.tree db.log.tree) (peak_positions mmr b.bounds.base.size) c.in-Err-pinned_nodes.error) (c.in-Err-pinned_nodes.ensures.lacked fresh));
-      order = λ fresh other. sym can ∙ told (λ b. knows b.bounds db.commitment ≡ true) (c.in-Err-pinned_nodes.ensures.order other fresh);
+          (told (λ b. IsLacked (held_at mmr b.tree db.log.tree) (peak_positions mmr b.bounds.base.size) c.in-Err-pinned_nodes.error) ((c.in-Err-pinned_nodes.ensures.lacking).lacked fresh));
+      order = λ fresh other. sym can ∙ told (λ b. knows b.bounds db.commitment ≡ true) ((c.in-Err-pinned_nodes.ensures.lacking).order other fresh);
     }

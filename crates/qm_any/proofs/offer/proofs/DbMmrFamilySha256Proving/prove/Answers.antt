@@ -33,7 +33,7 @@ returns-in_err-proof-clause-reads g c =
       same = λ list is. left-database g.C.Store (sha256_layout mmr g.N.Chunks.LEN g.U.Update.form g.I.Unordered.index_key) c.args.self.now c.historical_proof.new.self list c.historical_proof.ensures.left is;
       numbered = λ n is. tt;
       store = left-store g.C.Store (sha256_hashing mmr g.U.Update.form) c.args.self.now c.historical_proof.new.self c.historical_proof.ensures.left;
-      faults = record { later = (c.historical_proof.ensures.left).read.keeps.later; failed = λ fault. c.in_err-proof.ensures.cause (err-exit c.from_residual.result exit.0 _ _ exit.1 exit.2 fault) };
+      faults = record { later = (c.historical_proof.ensures.left).read.keeps.later; failed = λ fault. (c.in_err-proof.ensures.unproved).cause (err-exit c.from_residual.result exit.0 _ _ exit.1 exit.2 fault) };
     }
 
 pub returns-in_err-operations-clause-reads : goal.returns-in_err-operations-clause-reads
