@@ -1,6 +1,7 @@
 -- What opens a database over sha256, and what makes one last or ends it, as an offer says it.
-use Rattle.std.proofs.Common.{arith, ◌≡◌, ◌⊎◌, inl, inr, ◌≤◌, ◌<◌, ℕ, List, length, map, Option, Some, None, ap, subst}
-use Rattle.std.specs.Prelude.{◌^◌}
+use Rattle.std.proofs.Common.{arith, ◌≡◌, ◌⊎◌, inl, inr, ◌≤◌, ◌<◌, ℕ, zero, suc, Bool, true, false, List, [], ◌∷◌, length, map, Option, Some, None, IfSome, refl, sym, ap, ◌∙◌, subst}
+use Rattle.std.specs.Prelude.{◌^◌, nat_lt, if◌then◌else◌, option_map, option_and_then}
+use Rattle.std.specs.Option.{option_or}
 use Rattle.qm_model.specs.Families.{Births, IsFamily, HasPeaks}
 use Rattle.qm_model.specs.Trees.{Shape}
 use Rattle.std.specs.Prelude.{Result, Ok, Err, IfOk, IfErr}
@@ -20,7 +21,8 @@ use Rattle.qm_store.specs.Given.{store_after, store_given}
 use Rattle.qm_store.specs.Refusals.{refusal_of}
 use Rattle.qm_any.specs.Lasting.{cut_to, IsHeadAt}
 use Rattle.qm_any.specs.Databases.{Database, IsDatabase}
-use Rattle.qm_model.specs.Taken.{head_at, pruned_from, LeavesPruning}
+use Rattle.qm_model.specs.Schemes.{layout_of}
+use Rattle.qm_model.specs.Taken.{IsTaken, selected_size, head_at, taken, StaysBeside, after_prune, LeavesOpening, LeavesSync, LeavesPrune}
 use Rattle.qm_any.proofs.OfferedHeads.{head-is, scheme}
 use Rattle.qm_any.specs.Offered.{sha256_hashing}
 
@@ -38,17 +40,56 @@ pub untold : (e : Error) → (e ≡ errors.Memory) ⊎ (e ≡ errors.Journal jou
 untold e (inl memory) = ap refusal_of memory
 untold e (inr fault) = ap refusal_of fault
 
--- what a prune makes of a store, its start being the tree's
-pub pruned-same : (o new : Option Stored) (first start to : ℕ) (head : Bytes) → first ≡ start → Becomes o new (λ s. cut_to first to head (settled s)) → Becomes o new (pruned_from start to head)
-pruned-same o new first start to head is became = subst (λ n. Becomes o new (λ s. cut_to n to head (settled s))) is became
+-- Calls of any databases write no metadata, so that what they make of a store and leave of it is said of whatever list.
+module _ (shape : Shape) (form : Form) where
+  -- what stands beside the items is as it was
+  abbrev AreBeside : Stored → Stored → Type 0
+  AreBeside s t = (t.metadata ≡ s.metadata) × (t.ends ≡ s.ends)
 
--- what a failed one leaves
-pub left-stable : (o new : Option Stored) (start : ℕ) (IsHead : Bytes → Type 0) (to : ℕ) → Turns o new (λ s. ReadsAs s.stable (IsImage s)) → Turns o new (LeavesPruning start IsHead to)
-left-stable o new start IsHead to is = turned-each o new _ _ (λ s t left. inl left) is
+  stays-beside : (o new : Option Stored) (R : Stored → Stored → Type 0) → ((s t : Stored) → R s t → AreBeside s t) → Turns o new R → Turns o new (StaysBeside (scheme shape form))
+  stays-beside o new R each is = turned-each o new R (StaysBeside (scheme shape form)) (λ s t r. let same = each s t r in record { metadata = same.0; ends = same.1 }) is
 
-pub left-pruned : (o new : Option Stored) (start : ℕ) (IsHead : Bytes → Type 0) (to : ℕ) (head : Bytes) → start < to → IsHead head → Turns o new (λ s. ReadsAs (settled s).stable (IsOldOrNew (pruned to head) (settled s)))
-    → Turns o new (LeavesPruning start IsHead to)
-left-pruned o new start IsHead to head past heads is = turned-each o new _ _ (λ s t left. inr (past, head, heads, left)) is
+  read-beside : (n : ℕ) (Left : Stored → Type 0) (s t : Stored) → ((image : Stored) → Left image → AreBeside s image) → ReadsAs n Left t → AreBeside s t
+  read-beside n Left s t each r = let same = each r.image r.left in (ap (λ x. x.metadata) r.reads ∙ same.0, ap (λ x. x.ends) r.reads ∙ same.1)
+
+  image-beside : (s image : Stored) → IsImage s image → AreBeside s image
+  image-beside s image i = (ap (λ x. x.metadata) i.same, ap (λ x. x.ends) i.same)
+
+  pub settled-beside : (o new : Option Stored) → Becomes o new settled → Turns o new (StaysBeside (scheme shape form))
+  settled-beside o new is = stays-beside o new _ (λ s t e. (ap (λ x. x.metadata) e, ap (λ x. x.ends) e)) is
+
+  pub imaged-beside : (o new : Option Stored) → Turns o new (λ s. ReadsAs s.stable (IsImage s)) → Turns o new (StaysBeside (scheme shape form))
+  imaged-beside o new is = stays-beside o new _ (λ s t r. read-beside s.stable (IsImage s) s t (image-beside s) r) is
+
+  -- what a failed sync leaves
+  pub left-synced : (list : List Operation) (o new : Option Stored) → Turns o new (λ s. ReadsAs s.stable (IsImage s)) → Turns o new (LeavesSync (scheme shape form) list)
+  left-synced list o new is = turned-each o new _ _ (λ s t left. inl left) is
+
+  -- what a prune makes of a store, its start being the tree's
+  pub pruned-same : (o new : Option Stored) (first start to : ℕ) (head : Bytes) → first ≡ start → Becomes o new (λ s. cut_to first to head (settled s)) → (list : List Operation) → Becomes o new (after_prune (scheme shape form) list start to head)
+  pruned-same o new first start to head is became list = subst (λ n. Becomes o new (λ s. cut_to n to head (settled s))) is became
+
+  pub pruned-beside : (o new : Option Stored) (first to : ℕ) (head : Bytes) → Becomes o new (λ s. cut_to first to head (settled s)) → Turns o new (StaysBeside (scheme shape form))
+  pruned-beside o new first to head is = stays-beside o new _ (λ s t e. by s t (nat_lt first to) e) is
+    where
+      by : (s t : Stored) (b : Bool) → t ≡ (if b then pruned to head (settled s) else settled s) → AreBeside s t
+      by s t true e = (ap (λ x. x.metadata) e, ap (λ x. x.ends) e)
+      by s t false e = (ap (λ x. x.metadata) e, ap (λ x. x.ends) e)
+
+  -- what a failed one leaves
+  pub left-stable : (list : List Operation) (o new : Option Stored) (start : ℕ) (IsHead : Bytes → Type 0) (to : ℕ) → Turns o new (λ s. ReadsAs s.stable (IsImage s)) → Turns o new (LeavesPrune (scheme shape form) list start IsHead to)
+  left-stable list o new start IsHead to is = turned-each o new _ _ (λ s t left. inl left) is
+
+  pub left-pruned : (list : List Operation) (o new : Option Stored) (start : ℕ) (IsHead : Bytes → Type 0) (to : ℕ) (head : Bytes) → start < to → IsHead head → Turns o new (λ s. ReadsAs (settled s).stable (IsOldOrNew (pruned to head) (settled s)))
+      → Turns o new (LeavesPrune (scheme shape form) list start IsHead to)
+  left-pruned list o new start IsHead to head past heads is = turned-each o new _ _ (λ s t left. inr (inr (past, head, heads, left))) is
+
+  pub unpruned-beside : (o new : Option Stored) (to : ℕ) (head : Bytes) → Turns o new (λ s. ReadsAs (settled s).stable (IsOldOrNew (pruned to head) (settled s))) → Turns o new (StaysBeside (scheme shape form))
+  unpruned-beside o new to head is = stays-beside o new _ (λ s t r. read-beside (settled s).stable (IsOldOrNew (pruned to head) (settled s)) s t (either s) r) is
+    where
+      either : (s image : Stored) → IsOldOrNew (pruned to head) (settled s) image → AreBeside s image
+      either s image (inl i) = image-beside (settled s) image i
+      either s image (inr i) = image-beside (pruned to head (settled s)) image i
 
 module _ (shape : Shape) (births : Births) (family : IsFamily shape births) (peaked : HasPeaks shape) {C : Type 0} (members : store.Ghosts C) (form : Form) (chunk : ℕ) (index_key : Bytes → ℕ) (db : Database C Sha256Digest) (to : ℕ) where
   -- a head over the log's items is that of its list

@@ -1,6 +1,6 @@
 //! What a database offers to a run.
 
-ghost use Rattle.std.specs.Prelude.{◌≡◌, ⊤, length, refl};
+ghost use Rattle.std.specs.Prelude.{◌≡◌, ⊤, length};
 ghost use Rattle.std.proofs.Common.{ap, le_refl};
 ghost use Rattle.qm_model.specs.Live.{floor};
 ghost use Rattle.qm_merkle.proofs.Standing.{peaks-none};
@@ -87,6 +87,10 @@ impl<
         U::is_ordered()
     }
 
+    fn is_current() -> bool {
+        false
+    }
+
     fn info(&self) -> Numbers {
         let (start, size) = self.bounds();
         Numbers {
@@ -109,7 +113,7 @@ impl<
         }
     }
 
-    ghost plain = { refl };
+    ghost unchecked = { tt };
 
     ghost bare = { peaks-none mmr mmr_births mmr_is_family mmr_has_peaks };
 }

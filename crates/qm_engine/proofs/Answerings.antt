@@ -183,10 +183,10 @@ line_goes members means old new more rest before text (Some c) chosen did s betw
     goes-between members means policies old new more rest c (λ s. text ≡ with_line before (turn means.scheme policies s c).0) chosen did s between
 
 -- between two lines of a sound run: what the next one may leave is a store that databases leave
-pub line-own : {X C B S M : Type 0} (members : stores.Ghosts C) (means : meaning.Ghosts X C B S M) → means.scheme.grafts ≡ None → (session : Session X C B S M) (rest : List ℕ) (o : Option (Line Policy)) (left : Option Stored) (s : State) → IfSome left (λ t. t.stable ≤ end_of t)
+pub line-own : {X C B S M : Type 0} (members : stores.Ghosts C) (means : meaning.Ghosts X C B S M) (session : Session X C B S M) (rest : List ℕ) (o : Option (Line Policy)) (left : Option Stored) (s : State) → IfSome left (λ t. t.stable ≤ end_of t)
     → Between members means policies session rest s → Apart means.scheme.root s.had → IsLeft means.scheme left s.log (after_line means.scheme policies s o).log → IsOwnLeft means.scheme policies left s.log (after_line means.scheme policies s o).log
-line-own members means plain session rest None left s stable between apart is = owned means.scheme policies plain s.log s.log between.sound.kept between.sound.kept (inl (Begins-self s.log.list)) left stable is
-line-own members means plain session rest (Some line) left s stable between apart is = own-left members means policies plain session rest line left s stable between apart is
+line-own members means session rest None left s stable between apart is = owned means.scheme policies s.log s.log between.sound.kept between.sound.kept (inl (Begins-self s.log.list)) left stable is
+line-own members means session rest (Some line) left s stable between apart is = own-left members means policies session rest line left s stable between apart is
 
 -- what holds, where there is none; and what follows, where there is one
 pub none-any : {X : Type 0} (o : Option X) {P : Type 0} → P → IfNone o P

@@ -46,7 +46,7 @@ use Rattle.qm_engine.specs.Stores.{HasLog, IsLeft}
 use Rattle.qm_engine.specs.Session.{SlotIs, Holds}
 use Rattle.qm_engine.proofs.Tables.{push_at, set_at, set_set}
 use Rattle.qm_store.specs.Given.{Appended, TellsFrom}
-use Rattle.qm_engine.proofs.LastingStores.{IsBare, has-appended, left_appended}
+use Rattle.qm_engine.proofs.LastingStores.{IsBare, Counts, has-appended, left_appended}
 use Rattle.qm_engine.proofs.Commands.{some_is, some-map, choice, none_some, refuses, by_error, HeldIs-more, SlotIs-more, numbered-held, with_held, with_list, with_told_writing, slots_set, lengths_set, Keeps, Holds-used, Turns}
 
 -- a list on a batch's chain begins its base
@@ -222,7 +222,7 @@ module _ {X C B S M K V D : Type 0} (members : stores.Ghosts C) (means : meaning
 
   -- an apply that was accepted
   applied_in : (peakless : IsBare means.scheme) (x after : X) (table : List (Slot B S M)) (opened : ℕ) (h : ℕ) (batch : M) (size : ℕ) (s : State) (list : List Operation)
-      → Holds members means (Database x) table opened s → Contains s.had list → s.log.list ≡ list
+      → Holds members means (Database x) table opened s → Counts means.scheme s.log → Contains s.had list → s.log.list ≡ list
       → s.log.start ≤ floor list → ((newer : List Operation) → Contains s.had newer → Begins list newer → floor list ≤ floor newer)
       → ((n : ℕ) → means.numbered x n → means.numbered after n)
       → ((chain : Chain) (tip : List Operation) → means.is_merkleized batch chain tip → fits root (commitment root list) chain ≡ true)
@@ -231,7 +231,7 @@ module _ {X C B S M K V D : Type 0} (members : stores.Ghosts C) (means : meaning
       → ((l : List Operation) → means.stands after l → size ≡ length l)
       → (a : Slot B S M) (b : machine.Slot) → SlotIs members means s.had a b → IsSoundSlot s.had b → merkleized_of a ≡ Some batch
       → Goes (Reply (replies.Applied size)) (Database after) table opened (apply_in means.scheme s h list b)
-  applied_in peakless x after table opened h batch size s list k in_had log_is low floors same_number fit_of did grown sized (Merkleized w) (machine.merkleized chain tip) is sound e =
+  applied_in peakless x after table opened h batch size s list k counts in_had log_is low floors same_number fit_of did grown sized (Merkleized w) (machine.merkleized chain tip) is sound e =
       let same : w ≡ batch = cc in
       let batch_is : means.is_merkleized batch chain tip = subst (λ v. means.is_merkleized v chain tip) same is.0 in
       choice (fits root (commitment root list) chain) (lines.Applied (length tip), record s { database = Some tip; log = record s.log { list = tip } }) (refuse s refusals.StaleBatch) (Goes (Reply (replies.Applied size)) (Database after) table opened)
@@ -247,7 +247,7 @@ module _ {X C B S M K V D : Type 0} (members : stores.Ghosts C) (means : meaning
           store = record {
             start = more.start ∙ k.store.start;
             told = subst (λ xs. HasLog means.scheme (members.told (means.inside after)) (record s.log { list = xs })) whole
-                (has-appended means.scheme peakless (members.told (means.inside x)) (members.told (means.inside after)) s.log (drop (length list) tip) k.store.told (omega (arith, k.start, k.within)) more.told);
+                (has-appended means.scheme peakless (members.told (means.inside x)) (members.told (means.inside after)) s.log (drop (length list) tip) counts k.store.told (omega (arith, k.start, k.within)) more.told);
           };
           start = k.start;
           low = le_trans low (floors tip is.2 begins);
@@ -258,8 +258,8 @@ module _ {X C B S M K V D : Type 0} (members : stores.Ghosts C) (means : meaning
         },
       ))
       (λ unfit. absurd (let fit = fit_of chain tip batch_is in cc))
-  applied_in peakless x after table opened h batch size s list k in_had log_is low floors same_number fit_of did grown sized (Merkleized w) b is sound e = absurd is
-  applied_in peakless x after table opened h batch size s list k in_had log_is low floors same_number fit_of did grown sized a b is sound e = absurd (cc)
+  applied_in peakless x after table opened h batch size s list k counts in_had log_is low floors same_number fit_of did grown sized (Merkleized w) b is sound e = absurd is
+  applied_in peakless x after table opened h batch size s list k counts in_had log_is low floors same_number fit_of did grown sized a b is sound e = absurd (cc)
 
   -- one that found the batch left behind
   unapplied_in : (x : X) (table : List (Slot B S M)) (opened : ℕ) (h : ℕ) (batch : M) (s : State) (list : List Operation)
@@ -286,7 +286,7 @@ module _ {X C B S M K V D : Type 0} (members : stores.Ghosts C) (means : meaning
       → Goes (Reply (replies.Applied size)) (Database after) table opened (machine.apply means.scheme s h)
   apply_ok peakless x after table opened h batch size s k sound same_number fit did grown sized e =
       with_held members means x s.had s.database s (λ list. apply_in means.scheme s h list (slot_at s.table h)) (Goes (Reply (replies.Applied size)) (Database after) table opened) k.database
-      (λ list is stands in_had. applied_in peakless x after table opened h batch size s list k in_had (sound.held list is).0
+      (λ list is stands in_had. applied_in peakless x after table opened h batch size s list k sound.counts in_had (sound.held list is).0
       (some_is s.database list (λ l. s.log.start ≤ floor l) is k.low) (λ newer in_newer begins. sound.floors list newer in_had in_newer begins) same_number (λ chain tip. fit list chain tip stands) (λ chain tip. did list chain tip stands) (λ chain tip. grown list chain tip stands) sized
       (get_or table h Gone) (slot_at s.table h) (k.slots h) (sound.slots h) e)
 
@@ -307,22 +307,22 @@ module _ {X C B S M K V D : Type 0} (members : stores.Ghosts C) (means : meaning
 
   -- what an apply leaves in the store
   left_in : (peakless : IsBare means.scheme) (x : X) (left : Option Stored) (table : List (Slot B S M)) (opened : ℕ) (h : ℕ) (batch : M) (s : State) (list : List Operation)
-      → Holds members means (Database x) table opened s → Contains s.had list → s.log.list ≡ list → Apart root s.had
+      → Holds members means (Database x) table opened s → Counts means.scheme s.log → Contains s.had list → s.log.list ≡ list → Apart root s.had
       → ((chain : Chain) (tip : List Operation) → means.is_merkleized batch chain tip → (fits root (commitment root list) chain ≡ true → IsOnChain list chain)
       → model.Grows (members.told (means.inside x)) left (cond (fits root (commitment root list) chain) (map (spelling means.scheme.form) (drop (length list) tip)) []))
       → (a : Slot B S M) (b : machine.Slot) → SlotIs members means s.had a b → merkleized_of a ≡ Some batch
       → IsLeft means.scheme left s.log ((apply_in means.scheme s h list b).1).log
-  left_in peakless x left table opened h batch s list k in_had log_is apart grown (Merkleized w) (machine.merkleized chain tip) is e =
+  left_in peakless x left table opened h batch s list k counts in_had log_is apart grown (Merkleized w) (machine.merkleized chain tip) is e =
       let same : w ≡ batch = cc in
       let batch_is : means.is_merkleized batch chain tip = subst (λ v. means.is_merkleized v chain tip) same is.0 in
       by_fit (fits root (commitment root list) chain) (grown chain tip batch_is (λ fit. on_chain-fits root s.had list chain apart in_had is.1 fit))
     where
       by_fit : (t : Bool) → model.Grows (members.told (means.inside x)) left (cond t (map (spelling means.scheme.form) (drop (length list) tip)) [])
           → IsLeft means.scheme left s.log ((cond t (lines.Applied (length tip), record s { database = Some tip; log = record s.log { list = tip } }) (refuse s refusals.StaleBatch)).1).log
-      by_fit true part = left_appended means.scheme peakless (members.told (means.inside x)) left s.log (record s.log { list = tip }) (drop (length list) tip) k.store.told k.start k.within (ap (λ xs. drop (length xs) tip) log_is) (leaves-now _ _ _ _ part)
-      by_fit false part = left_appended means.scheme peakless (members.told (means.inside x)) left s.log s.log [] k.store.told k.start k.within (drop_all (length s.log.list) s.log.list (le_refl (length s.log.list))) (leaves-now _ _ _ _ part)
-  left_in peakless x left table opened h batch s list k in_had log_is apart grown (Merkleized w) b is e = absurd is
-  left_in peakless x left table opened h batch s list k in_had log_is apart grown a b is e = absurd (cc)
+      by_fit true part = left_appended means.scheme peakless (members.told (means.inside x)) left s.log (record s.log { list = tip }) (drop (length list) tip) counts k.store.told k.start k.within (ap (λ xs. drop (length xs) tip) log_is) (leaves-now _ _ _ _ part)
+      by_fit false part = left_appended means.scheme peakless (members.told (means.inside x)) left s.log s.log [] counts k.store.told k.start k.within (drop_all (length s.log.list) s.log.list (le_refl (length s.log.list))) (leaves-now _ _ _ _ part)
+  left_in peakless x left table opened h batch s list k counts in_had log_is apart grown (Merkleized w) b is e = absurd is
+  left_in peakless x left table opened h batch s list k counts in_had log_is apart grown a b is e = absurd (cc)
 
   pub apply_left : (peakless : IsBare means.scheme) (x : X) (left : Option Stored) (table : List (Slot B S M)) (opened : ℕ) (h : ℕ) (batch : M) (s : State)
       → Holds members means (Database x) table opened s → IsSteady means.scheme s → Apart root s.had
@@ -332,4 +332,4 @@ module _ {X C B S M K V D : Type 0} (members : stores.Ghosts C) (means : meaning
       → IsLeft means.scheme left s.log ((machine.apply means.scheme s h).1).log
   apply_left peakless x left table opened h batch s k sound apart grown e =
       with_held members means x s.had s.database s (λ list. apply_in means.scheme s h list (slot_at s.table h)) (λ next. IsLeft means.scheme left s.log (next.1).log) k.database
-      (λ list is stands in_had. left_in peakless x left table opened h batch s list k in_had (sound.held list is).0 apart (λ chain tip. grown list chain tip stands) (get_or table h Gone) (slot_at s.table h) (k.slots h) e)
+      (λ list is stands in_had. left_in peakless x left table opened h batch s list k sound.counts in_had (sound.held list is).0 apart (λ chain tip. grown list chain tip stands) (get_or table h Gone) (slot_at s.table h) (k.slots h) e)

@@ -1,13 +1,16 @@
 -- What may be left of a log by a command that fails is a log that databases leave.
 use Rattle.std.proofs.Common.{◌≡◌, ◌⊎◌, inl, inr, ℕ, suc, zero, ◌+◌, ◌≤◌, Bool, true, false, cond, List, [], ◌∷◌, ◌++◌, length, take, drop, Option, Some, None, refl, sym, ap, ◌∙◌, subst, arith, le_refl, append-nil}
-use Rattle.std.specs.Prelude.{All, ◌&&◌, option_map, ◌==◌, min, max, nat_lt, ◌<◌, slice_index_or}
+use Rattle.std.specs.Prelude.{All, ◌&&◌, ◌*◌, ◌^◌, ◌==◌, min, max, nat_lt, ◌<◌, slice_index_or}
 use Rattle.std.proofs.Math.Seq.{take-add}
 use Rattle.std.proofs.Math.Nat.{le_trans}
 use Rattle.std.proofs.lemmas.Bool.{ltb-false, ltb-true}
+use Rattle.std.proofs.lemmas.Nat.{mul-le, pow_pos}
 use Rattle.std.proofs.lemmas.List.Elements.{All-take}
 use Rattle.qm_model.specs.Operations.{Bytes, Operation, fresh}
 use Rattle.qm_model.specs.Forms.{IsOf}
-use Rattle.qm_model.specs.Live.{floor}
+use Rattle.qm_model.specs.Live.{Live, floor, live, live_of}
+use Rattle.qm_model.specs.Checks.{Checks}
+use Rattle.qm_model.specs.Grafted.{boundary}
 use Rattle.qm_model.specs.Walk.{Rules}
 use Rattle.qm_model.specs.Writes.{Write}
 use Rattle.qm_model.specs.Slots.{slotted}
@@ -15,32 +18,28 @@ use Rattle.qm_model.specs.Slots as slots
 use Rattle.qm_model.specs.Step.{Made, step, ordered, unordered}
 use Rattle.qm_model.specs.Batches.{Chain, Apart, Begins, commitment, fits, readable}
 use Rattle.qm_model.specs.Own.{Log, taken_up, ArePrompt, ArePruned, IsPartMade, IsKept, Takes, OpensParts, ended_part}
-use Rattle.qm_model.specs.Opening.{Opening, refuses, opens, opening, opened_list}
+use Rattle.qm_model.specs.Opening.{Chunks, Opening, refuses, opens, opening, opened_list}
 use Rattle.qm_model.specs.Ranges.{key_above, key_below}
 use Rattle.qm_model.specs.Refused.{Refused}
-use Rattle.qm_model.specs.Refusals.{tip_refusal, proof_refusal}
+use Rattle.qm_model.specs.Refusals.{tip_refusal, proof_refusal, range_refusal}
 use Rattle.qm_model.proofs.Chains.{take-least, Begins-self, Begins-length, Begins-through, known-begins, on_chain-fits}
-use Rattle.qm_model.proofs.Openings.{unordered-parts, ordered-parts}
-use Rattle.qm_machine.specs.Lines.{Line, Open, Batch, Child, Tip, Put, Del, Merkleize, Stage, Expand, Resolve, Apply, Ops, Get, Many, Next, Prev, Span, Range, Keys, Info, BatchInfo, Root, BatchRoot, BatchProof, Meta, Prove, Pins, Current, Prune, Commit, Sync, Close, Destroy, Crash, Answer}
+use Rattle.qm_model.proofs.Boundaries.{quotient-rises}
+use Rattle.qm_model.proofs.Openings.{Keeps, unordered-keeps, ordered-keeps, unordered-parts, ordered-parts, begins_take, begins_both, floor-rises, length-rises, pruned-rises}
+use Rattle.qm_machine.specs.Lines.{Line, Open, Batch, Child, Tip, Put, Del, Merkleize, Stage, Expand, Resolve, Apply, Ops, Get, Many, Next, Prev, Span, Range, Keys, Info, BatchInfo, Root, BatchRoot, BatchProof, Meta, Prove, Pins, Question, Held, Absent, Witness, Current, Prune, Commit, Sync, Close, Destroy, Crash, Answer}
 use Rattle.qm_machine.specs.Lines as lines
-use Rattle.qm_machine.specs.Machine.{State, Slot, gone, writing, staged, merkleized, turn, slot_at, start_child, put_in, list_operations, with_database, closed, commit, opened_as, found_in, unless, merkleize_tip, merkleize_writes, merkleize_in, resolve_in, apply_in, if_readable, if_staged, stage_in, expand_in, read_in, read, if_ordered, if_any, if_current, answered, beside_in, beside_of, info_in, root_in, proof_in, pruned, prune_in}
+use Rattle.qm_machine.specs.Machine.{State, Slot, gone, writing, staged, merkleized, turn, slot_at, start_child, put_in, list_operations, with_database, closed, commit, opened_as, found_in, unless, merkleize_tip, merkleize_writes, merkleize_in, resolve_in, apply_in, if_readable, if_staged, stage_in, expand_in, read_in, read, if_ordered, if_any, if_current, if_absences, held_at, absent_at, if_checked, asked, answered, beside_in, beside_of, info_in, root_in, proof_in, pruned, prune_in}
 use Rattle.qm_model.specs.Schemes.{Grafts, Scheme, HasBounds, takes, chunks_of, kind_of, engine_of, layout_of}
 use Rattle.qm_model.specs.Held.{pins_lacked, proof_lacked}
 use Rattle.qm_machine.specs.Sound.{IsSoundSlot, IsSound}
-use Rattle.qm_engine.specs.Stores.{MayBe, grown, cut, moved, emptied, least}
-use Rattle.qm_machine.proofs.Sounds.{left-kept, settled-kept, pruned-kept, restarted-kept, empty-kept, grown-kept}
+use Rattle.qm_engine.specs.Stores.{MayBe, grown, cut, counted, moved, emptied, least}
+use Rattle.qm_machine.proofs.Sounds.{settled-kept, pruned-kept, restarted-kept, empty-kept, grown-kept}
 
 -- The log after a command follows the one before: its list begins with the list before, or is a beginning of that, and then it is
--- empty, or of no lower start.
+-- empty, or of no lower start and no fewer pruned chunks.
 abbrev pub Followed : Log → Log → Type 0
-Followed before after = Begins before.list after.list ⊎ (Begins after.list before.list × ((after.list ≡ []) ⊎ (before.start ≤ after.start)))
+Followed before after = Begins before.list after.list ⊎ (Begins after.list before.list × ((after.list ≡ []) ⊎ ((before.start ≤ after.start) × (before.chunks ≤ after.chunks))))
 
 -- Beginnings.
-
-begins_take : (n : ℕ) (list : List Operation) → Begins (take n list) list
-begins_take zero list = refl
-begins_take (suc n) [] = refl
-begins_take (suc n) (op ∷ list) = ap (λ ops. op ∷ ops) (begins_take n list)
 
 drop_all : (n : ℕ) (list : List Operation) → length list ≤ n → drop n list ≡ []
 drop_all zero [] low = refl
@@ -69,11 +68,7 @@ no_part : (list shorter : List Operation) (count : ℕ) → Begins shorter list 
 no_part list shorter count begins =
     ap (λ ops. list ++ take count ops) (drop_all (length list) shorter (Begins-length shorter list begins)) ∙ (ap (λ ops. list ++ ops) (take_nothing count) ∙ append-nil list)
 
-module _ (m : Scheme) {P : Type 0} (rules : Rules P) (plain : m.grafts ≡ None) where
-  -- no chunks are pruned, since there are none
-  no-chunks : (log : Log) → ArePruned (engine_of m rules) (chunks_of m) log
-  no-chunks log = subst (λ c. ArePruned (engine_of m rules) c log) (sym (ap (option_map (λ (g : Grafts). g.chunks)) plain)) tt
-
+module _ (m : Scheme) {P : Type 0} (rules : Rules P) where
   -- databases leave this log
   abbrev Kept : Log → Type 0
   Kept log = IsKept (engine_of m rules) log
@@ -81,6 +76,17 @@ module _ (m : Scheme) {P : Type 0} (rules : Rules P) (plain : m.grafts ≡ None)
   -- this list is a beginning of one that steps made
   abbrev PartMade : List Operation → Type 0
   PartMade list = IsPartMade (engine_of m rules) list
+
+  -- databases leave as many chunks of this log pruned
+  abbrev Pruned : Log → Type 0
+  Pruned log = ArePruned (engine_of m rules) (chunks_of m) log
+
+  keeps : Keeps (kind_of m) rules
+  keeps = by m.form.ordered
+    where
+      by : (b : Bool) → Keeps (cond b ordered unordered) rules
+      by true = ordered-keeps rules
+      by false = unordered-keeps rules
 
   part-made : (n : ℕ) (list : List Operation) → PartMade list → PartMade (take n list)
   part-made n list made = record {
@@ -90,27 +96,32 @@ module _ (m : Scheme) {P : Type 0} (rules : Rules P) (plain : m.grafts ≡ None)
     of_form = All-take (IsOf m.form) n list made.of_form;
   }
 
-  -- the floor of what is settled does not fall where more is stable
-  floor-rises : (list : List Operation) (a b : ℕ) → PartMade list → a ≤ b → b ≤ length list → floor (ended_part (take a list)) ≤ floor (ended_part (take b list))
-  floor-rises list a b made low within =
-      let log : Log = record { list = list; start = floor (ended_part (take a list)); chunks = 0; stable = a } in
-      let kept : Kept log = record { made = made; start = le_refl log.start; stable = le_trans low within; chunks = no-chunks log } in
-      subst (λ ops. log.start ≤ floor (ended_part ops)) (take-least b b list (le_refl b)) (left-kept m rules log b kept low within).start
+  -- what is pruned tells nothing of a list but of what is stable of it
+  pruned-alike : (log : Log) (list : List Operation) (n : ℕ) → take log.stable log.list ≡ take n list → Pruned log → Pruned (record log { list = list; stable = n })
+  pruned-alike log list n same = by (chunks_of m)
+    where
+      by : (chunks : Option Chunks) → ArePruned (engine_of m rules) chunks log → ArePruned (engine_of m rules) chunks (record log { list = list; stable = n })
+      by None is = tt
+      by (Some c) is = (is.0, subst (λ ops. log.chunks * 2 ^ c.height ≤ boundary m.shape c.height (ended_part ops)) same is.1)
 
-  -- so a start stays low enough
-  stays-kept : (list : List Operation) (start chunks known stable : ℕ) → PartMade list → start ≤ floor (ended_part (take known list)) → known ≤ stable → stable ≤ length list
-      → Kept (record { list = list; start = start; chunks = chunks; stable = stable })
-  stays-kept list start chunks known stable made low more within = record {
-    made = made;
-    start = le_trans low (floor-rises list known stable made more within);
-    stable = within;
-    chunks = no-chunks _;
-  }
+  -- where more is stable, no less is settled, and of no lower floor
+  stays-kept : (log : Log) (stable : ℕ) → PartMade log.list → log.start ≤ floor (ended_part (take log.stable log.list)) → Pruned log → log.stable ≤ stable → stable ≤ length log.list → Kept (record log { stable = stable })
+  stays-kept log stable made low pruned_is more within =
+      let front = begins_both log.stable stable log.list more in
+      let rise : floor (ended_part (take log.stable log.list)) ≤ floor (ended_part (take stable log.list)) = floor-rises keeps (take log.stable log.list) (take stable log.list) made.whole made.made front
+      (Begins-through (take stable log.list) log.list made.whole (begins_take stable log.list) made.begins) in
+      record {
+        made = made;
+        start = le_trans low rise;
+        stable = within;
+        chunks = pruned-rises keeps m.hash (layout_of m) (chunks_of m) log log.list stable rise (length-rises (take log.stable log.list) (take stable log.list) front) pruned_is;
+      }
 
   -- a log with a longer list, of which no less is stable
   onward-kept : (log : Log) (list : List Operation) (stable : ℕ) → Kept log → PartMade list → Begins log.list list → log.stable ≤ stable → stable ≤ length list → Kept (record log { list = list; stable = stable })
   onward-kept log list stable kept made begins more within =
-      stays-kept list log.start log.chunks log.stable stable made (subst (λ ops. log.start ≤ floor (ended_part ops)) (same_front log.stable log.list list begins kept.stable) kept.start) more within
+      let same = same_front log.stable log.list list begins kept.stable in
+      stays-kept (record log { list = list }) stable made (subst (λ ops. log.start ≤ floor (ended_part ops)) same kept.start) (pruned-alike log list log.stable same kept.chunks) more within
 
   -- What a failed command leaves.
 
@@ -130,16 +141,23 @@ module _ (m : Scheme) {P : Type 0} (rules : Rules P) (plain : m.grafts ≡ None)
       subst (λ list. Kept (record before { list = list; stable = stable })) (sym is)
       (onward-kept before before.list stable kept kept.made (Begins-self before.list) more (subst (λ list. stable ≤ length list) is within))
 
-  -- where this much of a log's list is stable, no settled commit needs an operation below the start
+  -- where this much of a log's list is stable, no settled commit needs an operation below the start, and as many chunks may be pruned
   abbrev IsLow : Log → ℕ → Type 0
-  IsLow log n = log.start ≤ floor (ended_part (take n log.list))
+  IsLow log n = (log.start ≤ floor (ended_part (take n log.list))) × Pruned (record log { stable = n })
 
   -- where the command keeps less of the list than was stable, it is so of what is stable after it
   low-after : (before after : Log) → Kept before → Kept after → Followed before after → (length after.list == 0) ≡ false → length after.list < before.stable → IsLow before after.stable
   low-after before after kept next (inl begins) some short = let size = Begins-length before.list after.list begins in let low = kept.stable in absurd (omega (arith, size, low, short))
   low-after before after kept next (inr (begins, inl none)) some short = absurd (cc)
-  low-after before after kept next (inr (begins, inr low)) some short =
-      subst (λ ops. before.start ≤ floor (ended_part ops)) (same_front after.stable after.list before.list begins next.stable) (le_trans low next.start)
+  low-after before after kept next (inr (begins, inr (low, few))) some short =
+      (subst (λ ops. before.start ≤ floor (ended_part ops)) same (le_trans low next.start), by (chunks_of m) kept.chunks next.chunks)
+    where
+      same : take after.stable after.list ≡ take after.stable before.list
+      same = same_front after.stable after.list before.list begins next.stable
+
+      by : (chunks : Option Chunks) → ArePruned (engine_of m rules) chunks before → ArePruned (engine_of m rules) chunks after → ArePruned (engine_of m rules) chunks (record before { stable = after.stable })
+      by None old new = tt
+      by (Some c) old new = (old.0, le_trans (mul-le before.chunks (2 ^ c.height) after.chunks (2 ^ c.height) few (le_refl (2 ^ c.height))) (subst (λ ops. after.chunks * 2 ^ c.height ≤ boundary m.shape c.height (ended_part ops)) same new.1))
 
   -- it is so of some size up to this one
   abbrev HasLow : Log → ℕ → Type 0
@@ -150,14 +168,14 @@ module _ (m : Scheme) {P : Type 0} (rules : Rules P) (plain : m.grafts ≡ None)
   low-least before after kept next followed = by (length after.list == 0) refl
     where
       shorter : (b : Bool) → nat_lt (length after.list) before.stable ≡ b → (length after.list == 0) ≡ false → HasLow before (min before.stable (length after.list))
-      shorter false long some = let is = ltb-false (length after.list) before.stable long in (before.stable, omega (arith, is), kept.start)
+      shorter false long some = let is = ltb-false (length after.list) before.stable long in (before.stable, omega (arith, is), (kept.start, kept.chunks))
       shorter true short some =
           let is = ltb-true (length after.list) before.stable short in
           let low = next.stable in
           (after.stable, omega (arith, is, low), low-after before after kept next followed some is)
 
       by : (b : Bool) → (length after.list == 0) ≡ b → HasLow before (cond b before.stable (min before.stable (length after.list)))
-      by true none = (before.stable, le_refl before.stable, kept.start)
+      by true none = (before.stable, le_refl before.stable, (kept.start, kept.chunks))
       by false some = shorter (nat_lt (length after.list) before.stable) refl some
 
   -- a beginning of the list before
@@ -166,13 +184,19 @@ module _ (m : Scheme) {P : Type 0} (rules : Rules P) (plain : m.grafts ≡ None)
   cut-kept-part before after to stable kept next followed long enough within =
       let (known, few, low) = low-least before after kept next followed in
       let least_known : known ≤ to = le_trans few long in
-      stays-kept (take to before.list) before.start before.chunks known stable (part-made to before.list kept.made)
-      (subst (λ ops. before.start ≤ floor (ended_part ops)) (sym (take-least known to before.list least_known)) low) (le_trans few enough) within
+      let same = sym (take-least known to before.list least_known) in
+      stays-kept (record before { list = take to before.list; stable = known }) stable (part-made to before.list kept.made)
+      (subst (λ ops. before.start ≤ floor (ended_part ops)) same low.0) (pruned-alike (record before { stable = known }) (take to before.list) known same low.1) (le_trans few enough) within
 
   -- whatever may be left
   pub may-kept : (before after log : Log) → IsKept (engine_of m rules) before → IsKept (engine_of m rules) after → Followed before after → MayBe before after log → log.stable ≤ length log.list → IsKept (engine_of m rules) log
   may-kept before after _ kept next followed (grown count stable more) within = grown-kept-part before after count stable kept next followed more within
   may-kept before after _ kept next followed (cut to stable final long enough) within = cut-kept-part before after to stable kept next followed long enough within
+  may-kept before after _ kept next followed (counted more starts) within = record { made = next.made; start = le_trans starts next.start; stable = next.stable; chunks = by (chunks_of m) next.chunks }
+    where
+      by : (chunks : Option Chunks) → ArePruned (engine_of m rules) chunks after → ArePruned (engine_of m rules) chunks (record after { start = before.start })
+      by None is = tt
+      by (Some c) is = (le_trans (quotient-rises before.start after.start (2 ^ c.height) (pow_pos c.height) starts) is.0, is.1)
   may-kept before after _ kept next followed (moved past) within = next
   may-kept before after _ kept next followed (emptied none) within = empty-kept m rules
 
@@ -217,9 +241,38 @@ module _ (m : Scheme) {P : Type 0} (rules : Rules P) (plain : m.grafts ≡ None)
   any_only s None offered stays = stays
   any_only s (Some g) offered stays = refl
 
+  current_only : (s : State) (grafts : Option Grafts) (offered : Grafts → Answer × State) → ((g : Grafts) → Stays s (offered g)) → Stays s (if_current s grafts offered)
+  current_only s None offered stays = refl
+  current_only s (Some g) offered stays = stays g
+
   unless_due : (s : State) (due : Option Refused) (answer : Answer) → Stays s (unless s due answer)
   unless_due s None answer = refl
   unless_due s (Some r) answer = refl
+
+  held_stays : (s : State) (checks : Checks) (list : List Operation) (found : Option Live) → Stays s (held_at s checks list found)
+  held_stays s checks list None = refl
+  held_stays s checks list (Some e) = refl
+
+  absent_stays : (s : State) (proved : ℕ × Bool) (found : Option Live) → Stays s (absent_at s proved found)
+  absent_stays s proved None = refl
+  absent_stays s proved (Some e) = refl
+
+  absences_stay : (s : State) (check : Option (List Operation → Bytes → ℕ × Bool)) (key : Bytes) → Stays s (if_absences s check (λ c. with_database s s.database (λ list. absent_at s (c list key) (live_of (live list) key))))
+  absences_stay s None key = refl
+  absences_stay s (Some c) key = listed s s.database _ (λ list. absent_stays s (c list key) (live_of (live list) key))
+
+  asked_stays : (s : State) (g : Grafts) (checks : Checks) (question : Question) → Stays s (asked s g checks question)
+  asked_stays s g checks (Held key) = listed s s.database _ (λ list. held_stays s checks list (live_of (live list) key))
+  asked_stays s g checks (Absent key) = absences_stay s checks.absent key
+  asked_stays s g checks (lines.Chunks start max) = listed s s.database _ (λ list. unless_due s (range_refusal g.chunks.height s.log.chunks s.log.start list start) _)
+  asked_stays s g checks Witness = listed s s.database _ (λ list. refl)
+
+  answered_stays : (s : State) (g : Grafts) (question : Question) → Stays s (answered s g question)
+  answered_stays s g question = by g.checks
+    where
+      by : (checks : Option Checks) → Stays s (if_checked s checks (λ checks. asked s g checks question))
+      by None = refl
+      by (Some checks) = asked_stays s g checks question
 
   child_stays : (s : State) (h : ℕ) (keep : Option ℕ) (slot : Slot) → Stays s (start_child s h keep slot)
   child_stays s h keep (merkleized chain tip) = refl
@@ -330,7 +383,7 @@ module _ (m : Scheme) {P : Type 0} (rules : Rules P) (plain : m.grafts ≡ None)
 
   -- a beginning of the list, or of an empty store the fresh list
   opened-part : (log : Log) (list : List Operation) → Begins list log.list ⊎ ((log.list ≡ []) × (list ≡ fresh)) → Followed log (taken_up list log)
-  opened-part log list (inl begins) = inr (begins, inr (le_refl log.start))
+  opened-part log list (inl begins) = inr (begins, inr (le_refl log.start, le_refl log.chunks))
   opened-part log list (inr (none, new)) = inl (subst (λ ops. Begins ops list) (sym none) refl)
 
   opened_follows : ArePrompt (chunks_of m) m.shape → (s : State) (bound : Option ℕ) (o : Opening) → opening (layout_of m) (found_in m s.log) bound ≡ o → IsSound m rules s → Follows s (opened_as (closed s) o)
@@ -377,7 +430,7 @@ module _ (m : Scheme) {P : Type 0} (rules : Rules P) (plain : m.grafts ≡ None)
   crash_follows : (s : State) (keep : ℕ) → IsSound m rules s → Follows s (turn m rules s (Crash keep))
   crash_follows s keep is =
       let chosen = slice_index_or s.choices 0 0 in
-      (restarted-kept m rules chosen s.log is.kept, inr (begins_take (max s.log.stable (min (length s.log.list) chosen)) s.log.list, inr (le_refl s.log.start)))
+      (restarted-kept m rules chosen s.log is.kept, inr (begins_take (max s.log.stable (min (length s.log.list) chosen)) s.log.list, inr (le_refl s.log.start, le_refl s.log.chunks)))
 
   -- whichever command it is
   pub turn-followed : HasBounds m → (s : State) (line : Line P) → IsSound m rules s → Apart m.root s.had
@@ -411,7 +464,7 @@ module _ (m : Scheme) {P : Type 0} (rules : Rules P) (plain : m.grafts ≡ None)
   turn-followed bounds s Meta is apart formed = stays s _ is (listed s s.database _ (λ list. refl))
   turn-followed bounds s (Prove size start count) is apart formed = stays s _ is (listed s s.database _ (λ list. unless_due s (proof_refusal s.log.start list size start) _))
   turn-followed bounds s (Pins n) is apart formed = stays s _ is (listed s s.database _ (λ list. unless_due s (pins_lacked m.shape s.log.start list n) _))
-  turn-followed bounds s (Current question) is apart formed = stays s _ is (subst (λ grafts. Stays s (if_current s grafts (λ g. answered s g question))) (sym plain) refl)
+  turn-followed bounds s (Current question) is apart formed = stays s _ is (current_only s m.grafts (λ g. answered s g question) (λ g. answered_stays s g question))
   turn-followed bounds s (Prune to) is apart formed = with_list s s.database _ is (λ list e. prune_follows bounds s to list e is)
   turn-followed bounds s Commit is apart formed = commit_follows s is
   turn-followed bounds s Sync is apart formed = commit_follows s is

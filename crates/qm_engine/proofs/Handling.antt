@@ -1,6 +1,8 @@
 -- What a command does that leaves all but the items of its store, as what any command does.
 use Rattle.std.proofs.Common.{◌≡◌, ◌≢◌, inl, [], List, ℕ, Option, Some, None, arith, refl, ap, sym, ◌∙◌, append-nil}
 use Rattle.qm_model.specs.Operations.{Bytes}
+use Rattle.qm_model.specs.Opening.{Chunks}
+use Rattle.qm_model.specs.Schemes.{chunks_of}
 use Rattle.qm_model.specs.StoreModel.{Stored, Turns, beside_items, without_items}
 use Rattle.qm_machine.specs.Lines.{Line, Answer}
 use Rattle.qm_machine.specs.Machine.{State}
@@ -13,8 +15,9 @@ use Rattle.qm_engine.specs.declared.table.Slot.{Slot}
 use Rattle.qm_engine.specs.declared.session.Turn.{Turn}
 use Rattle.qm_engine.specs.declared.session.Turn.TheVariants.{Reply, Memory, StoreFault}
 use Rattle.qm_engine.specs.Stores.{IsBeside}
-use Rattle.qm_engine.specs.Session.{Obeys, ObeysSteady, ObeysHeld, LeavesHeld, IfReply, Uses, Handles, HandlesLine, IsChosen, Performs, PerformsHeld}
+use Rattle.qm_engine.specs.Session.{Obeys, ObeysSteady, ObeysHeldSteady, LeavesHeldSteady, IfReply, Uses, Handles, HandlesLine, IsChosen, Performs, PerformsHeld}
 use Rattle.qm_engine.proofs.Commands.{left_none, stored-same}
+use Rattle.qm_engine.proofs.LastingStores.{stay-same}
 
 -- it keeps what the machine does
 pub obeys_steady : {X C B S M K V D : Type 0} (members : stores.Ghosts C) (means : meaning.Ghosts X C B S M) (key : K → Bytes) (value : V → Bytes) (digest : D → Bytes) (old new : Session X C B S M) (turn : Turn K V D) (next : State → Answer × State)
@@ -22,20 +25,20 @@ pub obeys_steady : {X C B S M K V D : Type 0} (members : stores.Ghosts C) (means
 obeys_steady members means key value digest old new turn next obeys = λ s k sound more rest told choices. obeys s k
 
 -- and what stands beside the items
-pub beside-items : (o new : Option Stored) → beside_items new ≡ beside_items o → Turns o new (IsBeside [])
-beside-items None None e = refl
-beside-items None (Some t) e = absurd (cc)
-beside-items (Some s) None e = absurd (cc)
-beside-items (Some s) (Some t) e =
+pub beside-items : (chunks : Option Chunks) (o new : Option Stored) → beside_items new ≡ beside_items o → Turns o new (IsBeside chunks [])
+beside-items chunks None None e = refl
+beside-items chunks None (Some t) e = absurd (cc)
+beside-items chunks (Some s) None e = absurd (cc)
+beside-items chunks (Some s) (Some t) e =
     let same : without_items t ≡ without_items s = cc in
-    record { metadata = inl (ap (λ x. x.metadata) same); ends = ap (λ x. x.ends) same ∙ sym (append-nil s.ends) }
+    record { metadata = inl (stay-same chunks s.metadata t.metadata (ap (λ x. x.metadata) same)); ends = ap (λ x. x.ends) same ∙ sym (append-nil s.ends) }
 
-pub uses_handles : {C K V D : Type 0} (members : stores.Ghosts C) (old new : C) (turn : Turn K V D) → Uses members old new turn → Handles members old new turn
-uses_handles members old new turn uses = record { beside = beside-items (members.told old) (members.told new) uses.beside; later = uses.later; fault = uses.fault }
+pub uses_handles : {C K V D : Type 0} (chunks : Option Chunks) (members : stores.Ghosts C) (old new : C) (turn : Turn K V D) → Uses members old new turn → Handles chunks members old new turn
+uses_handles chunks members old new turn uses = record { beside = beside-items chunks (members.told old) (members.told new) uses.beside; later = uses.later; fault = uses.fault }
 
 -- a command that takes no choice
-pub handles_line : {C K V D P : Type 0} (members : stores.Ghosts C) (line : Line P) (old new : C) (turn : Turn K V D) → IsChosen line [] → Handles members old new turn → HandlesLine members line old new turn
-handles_line members line old new turn chosen handles = record {
+pub handles_line : {C K V D P : Type 0} (chunks : Option Chunks) (members : stores.Ghosts C) (line : Line P) (old new : C) (turn : Turn K V D) → IsChosen line [] → Handles chunks members old new turn → HandlesLine chunks members line old new turn
+handles_line chunks members line old new turn chosen handles = record {
   more = [];
   beside = handles.beside;
   chosen = if_reply turn chosen;
@@ -48,8 +51,8 @@ handles_line members line old new turn chosen handles = record {
     if_reply Memory chosen = tt
     if_reply StoreFault chosen = tt
 
-pub uses_line : {C K V D P : Type 0} (members : stores.Ghosts C) (line : Line P) (old new : C) (turn : Turn K V D) → IsChosen line [] → Uses members old new turn → HandlesLine members line old new turn
-uses_line members line old new turn chosen uses = handles_line members line old new turn chosen (uses_handles members old new turn uses)
+pub uses_line : {C K V D P : Type 0} (chunks : Option Chunks) (members : stores.Ghosts C) (line : Line P) (old new : C) (turn : Turn K V D) → IsChosen line [] → Uses members old new turn → HandlesLine chunks members line old new turn
+uses_line chunks members line old new turn chosen uses = handles_line chunks members line old new turn chosen (uses_handles chunks members old new turn uses)
 
 module _ {X C B S M K V D P : Type 0} {members : stores.Ghosts C} {means : meaning.Ghosts X C B S M} {key : K → Bytes} {value : V → Bytes} {digest : D → Bytes} {line : Line P} {next : State → Answer × State} where
   -- A command that reads: its store has what it had.
@@ -61,7 +64,7 @@ module _ {X C B S M K V D P : Type 0} {members : stores.Ghosts C} {means : meani
   performs-reading {old} {new} {turn} chosen obeys same uses opened = record {
     machine = obeys;
     left = λ s k sound apart. left_none means.scheme s.log _ _ (stored-same members means.scheme _ _ s.log same k.store).told;
-    handles = uses_line members line _ _ turn chosen uses;
+    handles = uses_line (chunks_of means.scheme) members line _ _ turn chosen uses;
     opened = omega arith;
   }
 
@@ -84,15 +87,15 @@ module _ {X C B S M K V D P : Type 0} {members : stores.Ghosts C} {means : meani
       → Obeys members means key value digest session session turn next → turn ≢ StoreFault → Performs members means key value digest line next session session turn
   performs-telling chosen obeys never = performs-beside chosen obeys refl never
 
-  -- One that takes what is held, steady or not, goes by no choice and counts no opening.
+  -- One that takes what is held goes by no choice and counts no opening.
   pub performs-held : {table : List (Slot B S M)} {opened : ℕ} {old new : Given X C} {turn : Turn K V D} → IsChosen line []
-      → ObeysHeld members means key value digest table opened old new turn next
-      → LeavesHeld members means table opened old new next
-      → Handles members (store_given means.inside old) (store_given means.inside new) turn
+      → ObeysHeldSteady members means key value digest table opened old opened new turn next
+      → LeavesHeldSteady members means table opened old new next
+      → Handles (chunks_of means.scheme) members (store_given means.inside old) (store_given means.inside new) turn
       → PerformsHeld members means key value digest line next table opened old opened new turn
   performs-held {old} {new} {turn} chosen machine left handles = record {
-    machine = λ s k sound more rest told choices. machine s k;
-    left = λ s k sound apart. left s k apart;
-    handles = handles_line members line (store_given means.inside old) (store_given means.inside new) turn chosen handles;
+    machine = machine;
+    left = left;
+    handles = handles_line (chunks_of means.scheme) members line (store_given means.inside old) (store_given means.inside new) turn chosen handles;
     opened = omega arith;
   }

@@ -1,18 +1,21 @@
 -- The commands that make a store last, and that open and end a database.
-use Rattle.std.proofs.Common.{◌≡◌, ◌⊎◌, inl, inr, ℕ, ◌≤◌, ◌<◌, Bool, true, false, cond, List, [], ◌∷◌, ◌++◌, length, take, Option, Some, None, Result, Ok, Err, IfSome, IfOk, IfErr, arith, refl, sym, ◌∙◌, ap, subst, le_refl, append-nil, length-take-le}
+use Rattle.std.proofs.Common.{◌≡◌, ◌⊎◌, inl, inr, ℕ, ◌≤◌, ◌<◌, cond, List, [], ◌∷◌, ◌++◌, length, take, Option, Some, None, Result, Ok, Err, IfSome, IfOk, IfErr, arith, refl, sym, ◌∙◌, ap, subst, le_refl, append-nil, length-take-le}
 use Rattle.std.specs.Prelude.{slice_index_or, min, max, nat_lt, ◌^◌}
 use Rattle.std.proofs.lemmas.Bool.{cases_lt, lt-ltb, le-ltb}
 use Rattle.qm_model.specs.Causes.{Rose}
 use Rattle.qm_model.specs.Live.{floor}
 use Rattle.qm_model.specs.Operations.{Bytes, Operation}
 use Rattle.qm_model.specs.Own.{Log, no_log}
+use Rattle.qm_model.specs.Own as own
+use Rattle.qm_model.specs.Opening.{Chunks}
+use Rattle.qm_model.specs.Policies.{policies}
 use Rattle.qm_model.specs.Refused as refusals
-use Rattle.qm_model.specs.StoreModel.{Stored, settled, destroyed, IsImage, IsOldOrNew, ReadsAs, DestroyLeaves, HasRestarted, Becomes}
+use Rattle.qm_model.specs.StoreModel.{Stored, settled, destroyed, IsImage, ReadsAs, DestroyLeaves, HasRestarted, Becomes}
 use Rattle.qm_model.specs.StoreModel as model
 use Rattle.qm_machine.specs.Lines.{Answer}
 use Rattle.qm_machine.specs.Lines as lines
 use Rattle.qm_machine.specs.Machine.{State, with_database}
-use Rattle.qm_model.specs.Schemes.{Scheme}
+use Rattle.qm_model.specs.Schemes.{Grafts, Scheme, chunks_of, engine_of}
 use Rattle.qm_machine.specs.Machine as machine
 use Rattle.qm_machine.specs.Sound.{IsSteady}
 use Rattle.qm_base.specs.declared.error.Error.{Error}
@@ -37,11 +40,11 @@ use Rattle.qm_engine.specs.declared.table.Slot.{Slot}
 use Rattle.qm_engine.specs.declared.session.Turn.{Turn}
 use Rattle.qm_engine.specs.declared.session.Turn.TheVariants.{Reply, StoreFault}
 use Rattle.qm_engine.specs.Turn.{turn_of_error, turn_of_tree, given_after, turn_settled}
-use Rattle.qm_offer.specs.Words.{IsSettling, IsHeadOf, IsPruned, IsUnpruned, IsGivenUp}
+use Rattle.qm_offer.specs.Words.{WritesOf, IsSettling, IsHeadOf, IsPruned, IsUnpruned, IsGivenUp}
 use Rattle.qm_engine.specs.Stores.{HasLog, IsBeside, IsLeft, moved, emptied}
-use Rattle.qm_model.specs.Taken.{head_at, pruned_from, LeavesPruning}
+use Rattle.qm_model.specs.Taken.{head_at, StaysBeside, synced, after_prune, LeavesSync}
 use Rattle.qm_engine.specs.Session.{HeldIs, Holds, Handles, HandlesLine}
-use Rattle.qm_engine.proofs.LastingStores.{IsBare, became, turned-each, turns-same, turns-beside, has-settled, has-emptied, has-pruned, has-restarted, left_imaged, left_restarted, left_destroyed, left_pruned}
+use Rattle.qm_engine.proofs.LastingStores.{IsBare, became, turned-each, turns-same, turns-beside, stay-same, stays-beside, stored-settled, stored-synced, stored-after, has-become, has-emptied, has-restarted, before-start, may-before, left_imaged, left_restarted, left_destroyed, left_synced, left_pruned}
 use Rattle.qm_engine.proofs.Commands.{left_none, left_stable, no_refusal, numbered-held, with_held, with_list, Turns}
 
 -- an error that is a fault of the store tells so
@@ -74,14 +77,17 @@ left_moved : (m : Scheme) → IsBare m → (left : Option Stored) (before : Log)
 left_moved m bare left before to within has = by (cases_lt before.start to)
   where
     by : (before.start < to) ⊎ (to ≤ before.start) → IsLeft m left before (machine.pruned m.grafts to before)
-    by (inl behind) = record { log = machine.pruned m.grafts to before; has = has; may = moved (omega (arith, behind)) }
-    by (inr short) =
-        left_stable m left before (machine.pruned m.grafts to before) (length before.list) within
-        (subst (λ n. HasLog m left (record (machine.settled before) { start = n })) (omega (arith, short)) (subst (λ g. HasLog m left (machine.pruned g to before)) bare.1 has))
+    by (inl later) = record { log = machine.pruned m.grafts to before; has = has; may = moved (omega (arith, later)) }
+    by (inr here) = record { log = before-start m to before; has = subst (λ n. HasLog m left (record (before-start m to before) { start = n })) (omega (arith, here)) has; may = may-before m bare before to within }
+
+-- a database writes metadata of the list that it stands for, if of any
+writes-of : {X C B S M : Type 0} (means : meaning.Ghosts X C B S M) (grafts : Option Grafts) (x : X) (list : List Operation) → means.stands x list → WritesOf means grafts x list
+writes-of means None x list stands = tt
+writes-of means (Some g) x list stands = stands
 
 -- a command that does nothing to the store, and is not told as its fault
-pub same_handles : {C K V D : Type 0} (members : stores.Ghosts C) (c : C) (answer : reply.Reply K V D) → Handles {K = K} {V = V} {D = D} members c c (Reply answer)
-same_handles members c answer = record { beside = turns-same (members.told c) (members.told c) refl; later = le_refl (members.faults c); fault = λ e. absurd (cc) }
+pub same_handles : {C K V D : Type 0} (chunks : Option Chunks) (members : stores.Ghosts C) (c : C) (answer : reply.Reply K V D) → Handles {K = K} {V = V} {D = D} chunks members c c (Reply answer)
+same_handles chunks members c answer = record { beside = turns-same chunks (members.told c) (members.told c) refl; later = le_refl (members.faults c); fault = λ e. absurd (cc) }
 
 module _ {X C B S M K V D : Type 0} (members : stores.Ghosts C) (means : meaning.Ghosts X C B S M) (key : K → Bytes) (value : V → Bytes) (digest : D → Bytes) where
   abbrev root : List Operation → Bytes
@@ -111,12 +117,31 @@ module _ {X C B S M K V D : Type 0} (members : stores.Ghosts C) (means : meaning
   imaged-beside : (s t : Stored) → ReadsAs s.stable (IsImage s) t → (t.metadata ≡ s.metadata) × (t.ends ≡ s.ends)
   imaged-beside s t r = let i = r.left in (ap (λ x. x.metadata) r.reads ∙ ap (λ x. x.metadata) i.same, ap (λ x. x.ends) r.reads ∙ ap (λ x. x.ends) i.same)
 
-  -- A commit or a sync of a database.
-  module _ (x : X) (settling : Result X (Refusal X C)) (table : List (Slot B S M)) (opened : ℕ) (s : State) (k : Holds members means (Database x) table opened s) (done : IsSettling means members x settling) (peakless : IsBare means.scheme) where
+  -- A call that failed gives up the store.
+  given-up_handles : (x : X) (r : Refusal X C) (Left : C → Type 0) → (up : IsGivenUp means members x Left r) → model.Turns (members.told (means.inside x)) (members.told up.store) (StaysBeside means.scheme)
+      → Handles (chunks_of means.scheme) members (means.inside x) (store_given means.inside r.given) (turn_of_error {K = K} {V = V} {D = D} r.error)
+  given-up_handles x r Left up beside =
+      subst (λ given. Handles {K = K} {V = V} {D = D} (chunks_of means.scheme) members (means.inside x) (store_given means.inside given) (turn_of_error r.error)) (sym up.given)
+      record {
+        beside = stays-beside means.scheme (members.told (means.inside x)) (members.told up.store) beside;
+        later = up.cause.later;
+        fault = λ e. up.cause.failed (fault-told r.error e);
+      }
+
+  -- A commit or a sync of a database, which makes such a store of its list.
+  module _ (x : X) (After : List Operation → Stored → Stored) (Left : List Operation → Stored → Stored → Type 0) (settling : Result X (Refusal X C)) (table : List (Slot B S M)) (opened : ℕ) (s : State) (k : Holds members means (Database x) table opened s)
+      (done : IsSettling means members After Left x settling)
+      (settles : (list : List Operation) → s.database ≡ Some list → (t : Stored) → own.IsStored (engine_of means.scheme policies) s.log t → own.IsStored (engine_of means.scheme policies) (machine.settled s.log) (After list t))
+      (peakless : IsBare means.scheme) where
+    settled_told : (after : X) → IsSettling means members After Left x (Ok after) → (list : List Operation) → s.database ≡ Some list → means.stands x list → HasLog means.scheme (members.told (means.inside after)) (machine.settled s.log)
+    settled_told after done list is stands =
+        has-become means.scheme peakless (members.told (means.inside x)) (members.told (means.inside after)) s.log (machine.settled s.log) (After list) k.store.told
+        (done.store.told list (writes-of means means.scheme.grafts x list stands)) (settles list is)
+
     pub settled_turn : Goes (turn_settled settling) (given_after settling) table opened (machine.commit s)
     settled_turn = by settling done
       where
-        by : (settling : Result X (Refusal X C)) → IsSettling means members x settling → Goes (turn_settled settling) (given_after settling) table opened (machine.commit s)
+        by : (settling : Result X (Refusal X C)) → IsSettling means members After Left x settling → Goes (turn_settled settling) (given_after settling) table opened (machine.commit s)
         by (Err r) done = no_refusal r.error _ (done.failed).never
         by (Ok after) done =
             with_held members means x s.had s.database s (λ list. (lines.Done, record s { log = machine.settled s.log })) (Goes (Reply replies.Done) (Database after) table opened) k.database
@@ -124,7 +149,7 @@ module _ {X C B S M K V D : Type 0} (members : stores.Ghosts C) (means : meaning
               refl,
               record {
                 database = subst (HeldIs members means s.opened s.had (Database after)) (sym is) (done.stands list stands, in_had, done.numbered s.opened (numbered-held members means s.opened x s.had s.database k.database));
-                store = record { start = done.start ∙ k.store.start; told = has-settled means.scheme peakless (members.told (means.inside x)) (members.told (means.inside after)) s.log k.store.told (omega (arith, k.start, k.within)) done.told };
+                store = record { start = done.start ∙ k.store.start; told = settled_told after done list is stands };
                 start = omega (arith, k.start, k.within);
                 low = k.low;
                 within = le_refl (length s.log.list);
@@ -134,35 +159,46 @@ module _ {X C B S M K V D : Type 0} (members : stores.Ghosts C) (means : meaning
               },
             ))
 
-    pub settled_left : IsLeft means.scheme (members.told (store_given means.inside (given_after settling))) s.log ((machine.commit s).1).log
-    settled_left = with_held members means x s.had s.database s (λ list. (lines.Done, record s { log = machine.settled s.log })) (λ next. IsLeft means.scheme (members.told (store_given means.inside (given_after settling))) s.log (next.1).log) k.database
-        (λ list is stands in_had. by settling done)
+    pub settled_left : ((list : List Operation) → s.database ≡ Some list → (left : Option Stored) → model.Turns (members.told (means.inside x)) left (Left list) → IsLeft means.scheme left s.log (machine.settled s.log))
+        → IsLeft means.scheme (members.told (store_given means.inside (given_after settling))) s.log ((machine.commit s).1).log
+    settled_left failing = with_held members means x s.had s.database s (λ list. (lines.Done, record s { log = machine.settled s.log })) (λ next. IsLeft means.scheme (members.told (store_given means.inside (given_after settling))) s.log (next.1).log) k.database
+        (λ list is stands in_had. by settling done list is stands)
       where
-        by : (settling : Result X (Refusal X C)) → IsSettling means members x settling → IsLeft means.scheme (members.told (store_given means.inside (given_after settling))) s.log (machine.settled s.log)
-        by (Ok after) done = left_whole
-          where
-            has : HasLog means.scheme (members.told (means.inside after)) (machine.settled s.log)
-            has = has-settled means.scheme peakless (members.told (means.inside x)) (members.told (means.inside after)) s.log k.store.told (omega (arith, k.start, k.within)) done.told
-
-            left_whole : IsLeft means.scheme (members.told (means.inside after)) s.log (machine.settled s.log)
-            left_whole = left_stable means.scheme (members.told (means.inside after)) s.log (machine.settled s.log) (length s.log.list) k.within has
-        by (Err r) done =
+        by : (settling : Result X (Refusal X C)) → IsSettling means members After Left x settling → (list : List Operation) → s.database ≡ Some list → means.stands x list → IsLeft means.scheme (members.told (store_given means.inside (given_after settling))) s.log (machine.settled s.log)
+        by (Ok after) done list is stands =
+            left_stable means.scheme (members.told (means.inside after)) s.log (machine.settled s.log) (length s.log.list) k.within (settled_told after done list is stands)
+        by (Err r) done list is stands =
             subst (λ given. IsLeft means.scheme (members.told (store_given means.inside given)) s.log (machine.settled s.log)) (sym done.failed.given)
-            (left_imaged means.scheme peakless (members.told (means.inside x)) (members.told done.failed.store) s.log (machine.settled s.log) k.store.told k.start k.within refl done.failed.told)
+            (failing list is (members.told done.failed.store) (done.failed.left.told list (writes-of means means.scheme.grafts x list stands)))
 
-  pub settled_handles : (x : X) (settling : Result X (Refusal X C)) → IsSettling means members x settling → Handles members (means.inside x) (store_given means.inside (given_after settling)) (turn_settled {K = K} {V = V} {D = D} settling)
-  settled_handles x (Ok after) done = record {
-    beside = (turns-beside (members.told (means.inside x)) (members.told (means.inside after)) _ (λ s t e. (ap (λ y. y.metadata) e, ap (λ y. y.ends) e)) (became _ _ settled (λ s t. t ≡ settled s) (λ s. refl) done.told));
+  -- Of a database, what a commit makes of its store, and a sync, and what is left of one that failed.
+  module _ (x : X) (table : List (Slot B S M)) (opened : ℕ) (s : State) (k : Holds members means (Database x) table opened s) (peakless : IsBare means.scheme) where
+    pub commit-settles : (list : List Operation) → s.database ≡ Some list → (t : Stored) → own.IsStored (engine_of means.scheme policies) s.log t → own.IsStored (engine_of means.scheme policies) (machine.settled s.log) (settled t)
+    commit-settles list is t has = stored-settled means.scheme peakless s.log t has (omega (arith, k.start, k.within))
+
+    module _ (steady : IsSteady means.scheme s) where
+      pub commit-left : (list : List Operation) → s.database ≡ Some list → (left : Option Stored) → model.Turns (members.told (means.inside x)) left (λ t. ReadsAs t.stable (IsImage t)) → IsLeft means.scheme left s.log (machine.settled s.log)
+      commit-left list is left made =
+          left_imaged means.scheme peakless (members.told (means.inside x)) left s.log (machine.settled s.log) steady.counts k.store.told k.start k.within refl made
+
+      pub sync-settles : (list : List Operation) → s.database ≡ Some list → (t : Stored) → own.IsStored (engine_of means.scheme policies) s.log t → own.IsStored (engine_of means.scheme policies) (machine.settled s.log) (synced means.scheme list t)
+      sync-settles list is t has =
+          subst (λ ops. own.IsStored (engine_of means.scheme policies) (machine.settled s.log) (synced means.scheme ops t)) (steady.held list is).0
+          (stored-synced means.scheme peakless means.bounds.over s.log t has (omega (arith, k.start, k.within)) steady.few)
+
+      pub sync-left : (list : List Operation) → s.database ≡ Some list → (left : Option Stored) → model.Turns (members.told (means.inside x)) left (LeavesSync means.scheme list) → IsLeft means.scheme left s.log (machine.settled s.log)
+      sync-left list is left made =
+          left_synced means.scheme peakless means.bounds.over (members.told (means.inside x)) left s.log steady.counts k.store.told k.start k.within steady.few
+          (subst (λ ops. model.Turns (members.told (means.inside x)) left (LeavesSync means.scheme ops)) (sym (steady.held list is).0) made)
+
+  pub settled_handles : (x : X) (After : List Operation → Stored → Stored) (Left : List Operation → Stored → Stored → Type 0) (settling : Result X (Refusal X C)) → IsSettling means members After Left x settling
+      → Handles (chunks_of means.scheme) members (means.inside x) (store_given means.inside (given_after settling)) (turn_settled {K = K} {V = V} {D = D} settling)
+  settled_handles x After Left (Ok after) done = record {
+    beside = stays-beside means.scheme (members.told (means.inside x)) (members.told (means.inside after)) done.store.beside;
     later = done.later;
     fault = λ e. absurd (cc);
   }
-  settled_handles x (Err r) done =
-      subst (λ given. Handles {K = K} {V = V} {D = D} members (means.inside x) (store_given means.inside given) (turn_of_error r.error)) (sym done.failed.given)
-      record {
-        beside = (turns-beside (members.told (means.inside x)) (members.told done.failed.store) _ imaged-beside done.failed.told);
-        later = done.failed.cause.later;
-        fault = λ e. done.failed.cause.failed (fault-told r.error e);
-      }
+  settled_handles x After Left (Err r) done = given-up_handles x r _ done.failed done.failed.left.beside
 
   -- A prune of a database.
   module _ (x : X) (pruning : Result X (Refusal X C)) (table : List (Slot B S M)) (opened : ℕ) (s : State) (k : Holds members means (Database x) table opened s) (steady : IsSteady means.scheme s) (to : ℕ) (peakless : IsBare means.scheme) where
@@ -189,9 +225,11 @@ module _ {X C B S M K V D : Type 0} (members : stores.Ghosts C) (means : meaning
 
       pruned_told : (after : X) → IsPruned means members to x after → HasLog means.scheme (members.told (means.inside after)) (machine.pruned means.scheme.grafts to s.log)
       pruned_told after done =
-          has-pruned means.scheme peakless (members.told (means.inside x)) (members.told (means.inside after)) s.log to done.head k.store.told (omega (arith, k.start, k.within))
-          (λ behind. head_is done.head (done.heads (subst (λ n. n < to) (sym k.store.start) behind)))
-          (subst (λ n. Becomes (members.told (means.inside x)) (members.told (means.inside after)) (pruned_from n to done.head)) k.store.start done.told)
+          let first = members.start (means.inside x) in
+          has-become means.scheme peakless (members.told (means.inside x)) (members.told (means.inside after)) s.log (machine.pruned means.scheme.grafts to s.log) (after_prune means.scheme s.log.list first to done.head) k.store.told
+          (done.store.told s.log.list (writes-of means means.scheme.grafts x s.log.list (subst (means.stands x) (sym same-list) stands)))
+          (λ t has. stored-after means.scheme peakless means.bounds.over s.log t has (omega (arith, k.start, k.within)) steady.few first to done.head k.store.start far
+          (λ later. head_is done.head (done.heads (subst (λ n. n < to) (sym k.store.start) later))))
 
     -- or refuses to, past the boundary
     refused_as : (list : List Operation) (bound : ℕ) → bound < to → bound ≡ means.scheme.boundary list → (Q : Answer × State → Type 0) → Q (lines.Refuses (refusals.PruneBeyondMinRequired to bound), s) → Q (machine.prune_in means.scheme s to list)
@@ -253,41 +291,21 @@ module _ {X C B S M K V D : Type 0} (members : stores.Ghosts C) (means : meaning
             (with_held members means x s.had s.database s (λ list. machine.prune_in means.scheme s to list) (Left up.store) k.database
             (λ list is stands in_had. let within = fits list stands in
             pruned_as list is stands within (Left up.store)
-            (left_pruned means.scheme peakless (members.told (means.inside x)) (members.told up.store) s.log (members.start (means.inside x)) to (IsHeadOf means x to) k.store.start k.store.told k.start k.within (far list is stands within) (head_is list is stands within) up.told)))
-
-  -- what a prune leaves as it is
-  pruned-beside : (start to : ℕ) (head : Bytes) (s t : Stored) → t ≡ pruned_from start to head s → (t.metadata ≡ s.metadata) × (t.ends ≡ s.ends)
-  pruned-beside start to head s t is = by (nat_lt start to) is
-    where
-      by : (b : Bool) → t ≡ cond b (model.pruned to head (settled s)) (settled s) → (t.metadata ≡ s.metadata) × (t.ends ≡ s.ends)
-      by true is = (ap (λ x. x.metadata) is, ap (λ x. x.ends) is)
-      by false is = (ap (λ x. x.metadata) is, ap (λ x. x.ends) is)
-
-  unpruned-beside : (start : ℕ) (IsHead : Bytes → Type 0) (to : ℕ) (s t : Stored) → LeavesPruning start IsHead to s t → (t.metadata ≡ s.metadata) × (t.ends ≡ s.ends)
-  unpruned-beside start IsHead to s t (inl r) = imaged-beside s t r
-  unpruned-beside start IsHead to s t (inr (behind, head, is_head, r)) = by r.left
-    where
-      by : IsOldOrNew (model.pruned to head) (settled s) r.image → (t.metadata ≡ s.metadata) × (t.ends ≡ s.ends)
-      by (inl i) = (ap (λ x. x.metadata) r.reads ∙ ap (λ x. x.metadata) i.same, ap (λ x. x.ends) r.reads ∙ ap (λ x. x.ends) i.same)
-      by (inr i) = (ap (λ x. x.metadata) r.reads ∙ ap (λ x. x.metadata) i.same, ap (λ x. x.ends) r.reads ∙ ap (λ x. x.ends) i.same)
+            (left_pruned means.scheme peakless means.bounds.over (members.told (means.inside x)) (members.told up.store) s.log steady.counts k.store.told k.start k.within steady.few (members.start (means.inside x)) to (IsHeadOf means x to) k.store.start
+            (far list is stands within) (head_is list is stands within)
+            (up.left.told s.log.list (writes-of means means.scheme.grafts x s.log.list (subst (means.stands x) (sym (same-list list is stands within)) stands))))))
 
   pub pruned_handles : (x : X) (to : ℕ) (pruning : Result X (Refusal X C)) → IfOk pruning (IsPruned means members to x) → IfErr pruning (IsUnpruned means members to x)
-      → Handles members (means.inside x) (store_given means.inside (given_after pruning)) (turn_settled {K = K} {V = V} {D = D} pruning)
+      → Handles (chunks_of means.scheme) members (means.inside x) (store_given means.inside (given_after pruning)) (turn_settled {K = K} {V = V} {D = D} pruning)
   pruned_handles x to (Ok after) done denied = record {
-    beside = (turns-beside (members.told (means.inside x)) (members.told (means.inside after)) _ (pruned-beside (members.start (means.inside x)) to done.head) done.told);
+    beside = stays-beside means.scheme (members.told (means.inside x)) (members.told (means.inside after)) done.store.beside;
     later = done.later;
     fault = λ e. absurd (cc);
   }
   pruned_handles x to (Err r) done (inl (bound, past, bound_is, given, error)) =
-      subst (λ g. Handles {K = K} {V = V} {D = D} members (means.inside x) (store_given means.inside g) (turn_of_error r.error)) (sym given)
-      (subst (λ e. Handles {K = K} {V = V} {D = D} members (means.inside x) (means.inside x) (turn_of_error e)) (sym error) (same_handles members (means.inside x) _))
-  pruned_handles x to (Err r) done (inr (fits, up)) =
-      subst (λ g. Handles {K = K} {V = V} {D = D} members (means.inside x) (store_given means.inside g) (turn_of_error r.error)) (sym up.given)
-      record {
-        beside = (turns-beside (members.told (means.inside x)) (members.told up.store) _ (unpruned-beside (members.start (means.inside x)) (IsHeadOf means x to) to) up.told);
-        later = up.cause.later;
-        fault = λ e. up.cause.failed (fault-told r.error e);
-      }
+      subst (λ g. Handles {K = K} {V = V} {D = D} (chunks_of means.scheme) members (means.inside x) (store_given means.inside g) (turn_of_error r.error)) (sym given)
+      (subst (λ e. Handles {K = K} {V = V} {D = D} (chunks_of means.scheme) members (means.inside x) (means.inside x) (turn_of_error e)) (sym error) (same_handles (chunks_of means.scheme) members (means.inside x) _))
+  pruned_handles x to (Err r) done (inr (fits, up)) = given-up_handles x r _ up up.left.beside
 
   -- A database is closed.
   pub closed_turn : (x : X) (table : List (Slot B S M)) (opened : ℕ) (s : State) → Holds members means (Database x) table opened s
@@ -329,41 +347,43 @@ module _ {X C B S M K V D : Type 0} (members : stores.Ghosts C) (means : meaning
     pub undestroyed_turn : (given : Given X C) (error : Error) → refusal_of error ≡ None → Goes (turn_of_error error) given table opened (machine.destroy s)
     undestroyed_turn given error never = no_refusal error _ never
 
-    pub undestroyed_left : (refusal : Refusal X C) → IsGivenUp means members x DestroyLeaves refusal → IsLeft means.scheme (members.told (store_given means.inside refusal.given)) s.log ((machine.destroy s).1).log
-    undestroyed_left refusal failed =
+    pub undestroyed_left : IsSteady means.scheme s → (refusal : Refusal X C) → IsGivenUp means members x (λ c. model.Turns (members.told (means.inside x)) (members.told c) DestroyLeaves) refusal → IsLeft means.scheme (members.told (store_given means.inside refusal.given)) s.log ((machine.destroy s).1).log
+    undestroyed_left steady refusal failed =
         subst (λ given. IsLeft means.scheme (members.told (store_given means.inside given)) s.log ((machine.destroy s).1).log) (sym failed.given)
         (with_held members means x s.had s.database s (λ list. (lines.Done, record (machine.closed s) { log = no_log })) (λ next. IsLeft means.scheme (members.told failed.store) s.log (next.1).log) k.database
-        (λ list is stands in_had. left_destroyed means.scheme peakless (members.told (means.inside x)) (members.told failed.store) s.log k.store.told k.start k.within failed.told))
+        (λ list is stands in_had. left_destroyed means.scheme peakless (members.told (means.inside x)) (members.told failed.store) s.log steady.counts k.store.told k.start k.within failed.left))
 
-  destroy-beside : (s t : Stored) → DestroyLeaves s t → (t ≡ t) × IsBeside [] s t
-  destroy-beside s t (inl r) = let same = imaged-beside s t r in (refl, record { metadata = inl same.0; ends = same.1 ∙ sym (append-nil s.ends) })
-  destroy-beside s t (inr r) =
+  destroy-beside : (chunks : Option Chunks) (s t : Stored) → DestroyLeaves s t → IsBeside chunks [] s t
+  destroy-beside chunks s t (inl r) = let same = imaged-beside s t r in record { metadata = inl (stay-same chunks s.metadata t.metadata same.0); ends = same.1 ∙ sym (append-nil s.ends) }
+  destroy-beside chunks s t (inr r) =
       let i = r.left in
-      (refl, record { metadata = inr (ap (λ x. x.metadata) r.reads ∙ ap (λ x. x.metadata) i.same); ends = ap (λ x. x.ends) r.reads ∙ (ap (λ x. x.ends) i.same ∙ sym (append-nil s.ends)) })
+      record { metadata = inr (stay-same chunks [] t.metadata (ap (λ x. x.metadata) r.reads ∙ ap (λ x. x.metadata) i.same)); ends = ap (λ x. x.ends) r.reads ∙ (ap (λ x. x.ends) i.same ∙ sym (append-nil s.ends)) }
 
-  pub destroyed_handles : (x : X) (c : C) → Becomes (members.told (means.inside x)) (members.told c) destroyed → members.faults (means.inside x) ≤ members.faults c → Handles {K = K} {V = V} {D = D} members (means.inside x) c (Reply replies.Done)
+  pub destroyed_handles : (x : X) (c : C) → Becomes (members.told (means.inside x)) (members.told c) destroyed → members.faults (means.inside x) ≤ members.faults c
+      → Handles {K = K} {V = V} {D = D} (chunks_of means.scheme) members (means.inside x) c (Reply replies.Done)
   destroyed_handles x c made later = record {
-    beside = (became (members.told (means.inside x)) (members.told c) destroyed (IsBeside []) (λ s. record { metadata = inr refl; ends = sym (append-nil s.ends) }) made);
+    beside = became (members.told (means.inside x)) (members.told c) destroyed (IsBeside (chunks_of means.scheme) []) (λ s. record { metadata = inr (stay-same (chunks_of means.scheme) [] [] refl); ends = sym (append-nil s.ends) }) made;
     later = later;
     fault = λ e. absurd (cc);
   }
 
-  pub undestroyed_handles : (x : X) (refusal : Refusal X C) → IsGivenUp means members x DestroyLeaves refusal → Handles members (means.inside x) (store_given means.inside refusal.given) (turn_of_error {K = K} {V = V} {D = D} refusal.error)
+  pub undestroyed_handles : (x : X) (refusal : Refusal X C) → IsGivenUp means members x (λ c. model.Turns (members.told (means.inside x)) (members.told c) DestroyLeaves) refusal
+      → Handles (chunks_of means.scheme) members (means.inside x) (store_given means.inside refusal.given) (turn_of_error {K = K} {V = V} {D = D} refusal.error)
   undestroyed_handles x refusal failed =
-      subst (λ given. Handles {K = K} {V = V} {D = D} members (means.inside x) (store_given means.inside given) (turn_of_error refusal.error)) (sym failed.given)
+      subst (λ given. Handles {K = K} {V = V} {D = D} (chunks_of means.scheme) members (means.inside x) (store_given means.inside given) (turn_of_error refusal.error)) (sym failed.given)
       record {
-        beside = (turned-each (members.told (means.inside x)) (members.told failed.store) DestroyLeaves (IsBeside []) (λ s t r. (destroy-beside s t r).1) failed.told);
+        beside = turned-each (members.told (means.inside x)) (members.told failed.store) DestroyLeaves (IsBeside (chunks_of means.scheme) []) (destroy-beside (chunks_of means.scheme)) failed.left;
         later = failed.cause.later;
         fault = λ e. failed.cause.failed (fault-told refusal.error e);
       }
 
   -- A crash.
-  module _ (held : Given X C) (table : List (Slot B S M)) (opened : ℕ) (s : State) (k : Holds members means held table opened s) (c : C) (peakless : IsBare means.scheme) where
+  module _ (held : Given X C) (table : List (Slot B S M)) (opened : ℕ) (s : State) (k : Holds members means held table opened s) (steady : IsSteady means.scheme s) (c : C) (peakless : IsBare means.scheme) where
     -- the store chose the first of the ends to come
     pub crashed_turn : (more rest : List ℕ) → model.Turns (members.told (store_given means.inside held)) (members.told c) HasRestarted → members.start c ≡ members.start (store_given means.inside held)
-        → model.Turns (members.told (store_given means.inside held)) (members.told c) (IsBeside more) → s.choices ≡ more ++ rest → Goes (Reply replies.Done) (Store c) table opened (machine.crash s)
+        → model.Turns (members.told (store_given means.inside held)) (members.told c) (IsBeside (chunks_of means.scheme) more) → s.choices ≡ more ++ rest → Goes (Reply replies.Done) (Store c) table opened (machine.crash s)
     crashed_turn more rest made start told choices apart =
-        let r = has-restarted means.scheme peakless (members.told (store_given means.inside held)) (members.told c) s.log more rest k.store.told k.start k.within made told in
+        let r = has-restarted means.scheme peakless (members.told (store_given means.inside held)) (members.told c) s.log more rest steady.counts k.store.told k.start k.within made told in
         let chosen : slice_index_or s.choices 0 0 ≡ r.0 = ap (λ xs. slice_index_or xs 0 0) (choices ∙ ap (λ xs. xs ++ rest) r.3) in
         let low = r.1 in
         let high = r.2 in
@@ -385,30 +405,30 @@ module _ {X C B S M K V D : Type 0} (members : stores.Ghosts C) (means : meaning
     at-end chosen log within = omega (arith, length-take-le (max log.stable (min (length log.list) chosen)) log.list (omega (arith, within)))
 
     pub crashed_left : model.Turns (members.told (store_given means.inside held)) (members.told c) HasRestarted → IsLeft means.scheme (members.told c) s.log ((machine.crash s).1).log
-    crashed_left made = left_restarted means.scheme peakless (members.told (store_given means.inside held)) (members.told c) s.log ((machine.crash s).1).log k.store.told k.start k.within (at-end _ s.log k.within) made
+    crashed_left made = left_restarted means.scheme peakless (members.told (store_given means.inside held)) (members.told c) s.log ((machine.crash s).1).log steady.counts k.store.told k.start k.within (at-end _ s.log k.within) made
 
     pub uncrashed_left : model.Turns (members.told (store_given means.inside held)) (members.told c) (λ t. ReadsAs t.stable (IsImage t)) → IsLeft means.scheme (members.told c) s.log ((machine.crash s).1).log
-    uncrashed_left made = left_imaged means.scheme peakless (members.told (store_given means.inside held)) (members.told c) s.log ((machine.crash s).1).log k.store.told k.start k.within (at-end _ s.log k.within) made
+    uncrashed_left made = left_imaged means.scheme peakless (members.told (store_given means.inside held)) (members.told c) s.log ((machine.crash s).1).log steady.counts k.store.told k.start k.within (at-end _ s.log k.within) made
 
-  restarted-beside : (o new : Option Stored) → model.Turns o new HasRestarted → (to : ℕ) × model.Turns o new (IsBeside (to ∷ []))
-  restarted-beside None new is = (0, is)
-  restarted-beside (Some s) None is = absurd is
-  restarted-beside (Some s) (Some t) is = (is.to, record { metadata = inl (ap (λ x. x.metadata) is.same); ends = ap (λ x. x.ends) is.same })
+  restarted-beside : (chunks : Option Chunks) (o new : Option Stored) → model.Turns o new HasRestarted → (to : ℕ) × model.Turns o new (IsBeside chunks (to ∷ []))
+  restarted-beside chunks None new is = (0, is)
+  restarted-beside chunks (Some s) None is = absurd is
+  restarted-beside chunks (Some s) (Some t) is = (is.to, record { metadata = inl (stay-same chunks s.metadata t.metadata (ap (λ x. x.metadata) is.same)); ends = ap (λ x. x.ends) is.same })
 
   pub crashed_handles : {P : Type 0} (keep : ℕ) (old c : C) → model.Turns (members.told old) (members.told c) HasRestarted → members.faults old ≤ members.faults c
-      → HandlesLine {K = K} {V = V} {D = D} {P = P} members (lines.Crash keep) old c (Reply replies.Done)
+      → HandlesLine {K = K} {V = V} {D = D} {P = P} (chunks_of means.scheme) members (lines.Crash keep) old c (Reply replies.Done)
   crashed_handles keep old c made later =
-      let chosen = restarted-beside (members.told old) (members.told c) made in
+      let chosen = restarted-beside (chunks_of means.scheme) (members.told old) (members.told c) made in
       record { more = chosen.0 ∷ []; beside = chosen.1; chosen = λ rest. refl; later = later; fault = λ e. absurd (cc) }
 
   pub uncrashed_turn : (given : Given X C) (table : List (Slot B S M)) (opened : ℕ) (s : State) (e : StoreError) (error : Error) → error ≡ log_error e → Goes (turn_of_error error) given table opened (machine.crash s)
   uncrashed_turn given table opened s e error is = no_refusal error _ (ap refusal_of is ∙ none_refused e)
 
   pub uncrashed_handles : {P : Type 0} (keep : ℕ) (old c : C) (e : StoreError) (error : Error) → error ≡ log_error e → model.Turns (members.told old) (members.told c) (λ t. ReadsAs t.stable (IsImage t)) → members.faults old ≤ members.faults c → (e ≡ store.Failed → Rose (members.faults old) (members.faults c))
-      → HandlesLine {P = P} members (lines.Crash keep) old c (turn_of_error {K = K} {V = V} {D = D} error)
+      → HandlesLine {P = P} (chunks_of means.scheme) members (lines.Crash keep) old c (turn_of_error {K = K} {V = V} {D = D} error)
   uncrashed_handles keep old c e error is made later rose = record {
     more = [];
-    beside = turns-beside (members.told old) (members.told c) _ imaged-beside made;
+    beside = turns-beside (chunks_of means.scheme) (members.told old) (members.told c) _ imaged-beside made;
     chosen = no_refusal error _ (ap refusal_of is ∙ none_refused e);
     later = later;
     fault = λ told. rose (failed e (sym is ∙ fault-told error told));

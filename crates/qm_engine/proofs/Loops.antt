@@ -7,6 +7,7 @@ use Rattle.qm_model.specs.Own.{Log, IsKept, IsOwn}
 use Rattle.qm_model.specs.StoreModel.{Stored, end_of, Turns}
 use Rattle.qm_model.specs.Walk.{Rules}
 use Rattle.qm_model.specs.Policies.{policies}
+use Rattle.qm_model.specs.Opening.{Chunks}
 use Rattle.qm_model.specs.Batches.{Apart, Chain}
 use Rattle.qm_machine.specs.Lines.{Line, Answer}
 use Rattle.qm_machine.specs.Machine.{State, initial, slot_at, turn, answers, state_after}
@@ -165,18 +166,18 @@ module _ {X C B S M : Type 0} (members : stores.Ghosts C) (means : meaning.Ghost
       by (Staged b) is = absurd is
 
   -- what a command may leave there is one that databases leave
-  pub own-left : means.scheme.grafts ≡ None → (session : Session X C B S M) (rest : List ℕ) (line : Line P) (left : Option Stored) (s : State) → IfSome left (λ t. t.stable ≤ end_of t) → Between members means rules session rest s → Apart means.scheme.root s.had
+  pub own-left : (session : Session X C B S M) (rest : List ℕ) (line : Line P) (left : Option Stored) (s : State) → IfSome left (λ t. t.stable ≤ end_of t) → Between members means rules session rest s → Apart means.scheme.root s.had
       → IsLeft means.scheme left s.log ((turn means.scheme rules s line).1).log → IsOwnLeft means.scheme rules left s.log ((turn means.scheme rules s line).1).log
-  own-left plain session rest line left s stable between apart is =
-      let next = turn-followed means.scheme rules plain means.bounds s line between.sound apart (tips-formed session s between.stands) in
-      owned means.scheme rules plain s.log ((turn means.scheme rules s line).1).log between.sound.kept next.0 next.1 left stable is
+  own-left session rest line left s stable between apart is =
+      let next = turn-followed means.scheme rules means.bounds s line between.sound apart (tips-formed session s between.stands) in
+      owned means.scheme rules s.log ((turn means.scheme rules s line).1).log between.sound.kept next.0 next.1 left stable is
 
 -- The choices that a run's store made, by its parts.
 
-pub none-more : (o new : Option Stored) (stored : Stored) (more : List ℕ) → o ≡ Some stored → new ≡ o → Turns o new (IsBeside more) → more ≡ []
-none-more o new stored more is same told =
-    turns-told more [] stored (Some stored) (subst (λ p. Turns (Some stored) p (IsBeside more)) (same ∙ is) (subst (λ p. Turns p new (IsBeside more)) is told)) (beside-self stored)
+pub none-more : (chunks : Option Chunks) (o new : Option Stored) (stored : Stored) (more : List ℕ) → o ≡ Some stored → new ≡ o → Turns o new (IsBeside chunks more) → more ≡ []
+none-more chunks o new stored more is same told =
+    turns-told chunks more [] stored (Some stored) (subst (λ p. Turns (Some stored) p (IsBeside chunks more)) (same ∙ is) (subst (λ p. Turns p new (IsBeside chunks more)) is told)) (beside-self chunks stored)
 
-pub more-parts : (o p q : Option Stored) (stored : Stored) (a b more : List ℕ) → o ≡ Some stored → Turns o p (IsBeside a) → Turns p q (IsBeside b) → Turns o q (IsBeside more) → more ≡ a ++ b
-more-parts o p q stored a b more is one two told =
-    turns-told more (a ++ b) stored q (subst (λ x. Turns x q (IsBeside more)) is told) (subst (λ x. Turns x q (IsBeside (a ++ b))) is (turns-through a b o p q one two))
+pub more-parts : (chunks : Option Chunks) (o p q : Option Stored) (stored : Stored) (a b more : List ℕ) → o ≡ Some stored → Turns o p (IsBeside chunks a) → Turns p q (IsBeside chunks b) → Turns o q (IsBeside chunks more) → more ≡ a ++ b
+more-parts chunks o p q stored a b more is one two told =
+    turns-told chunks more (a ++ b) stored q (subst (λ x. Turns x q (IsBeside chunks more)) is told) (subst (λ x. Turns x q (IsBeside chunks (a ++ b))) is (turns-through chunks a b o p q one two))

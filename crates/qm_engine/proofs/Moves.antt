@@ -1,14 +1,15 @@
 -- What a command that moves a batch of the table, or reads through one, tells at each of its ways out.
-use Rattle.std.proofs.Common.{◌≡◌, ◌≢◌, ◌++◌, ℕ, true, List, get_or, set, Option, Some, None, option_map, Result, Err, refl, sym, ◌∙◌, ap, subst}
-use Rattle.std.specs.Prelude.{IsErrOf}
+use Rattle.std.proofs.Common.{◌≡◌, ◌≢◌, ◌++◌, ℕ, true, false, List, get_or, set, Option, Some, None, option_map, Result, Err, refl, sym, ◌∙◌, ap, subst}
+use Rattle.std.specs.Prelude.{IsErrOf, IfSome, is_some}
 use Rattle.qm_model.specs.Live.{live_keys}
 use Rattle.qm_model.specs.Operations.{Bytes, Operation}
 use Rattle.qm_model.specs.Writes.{Write}
 use Rattle.qm_model.specs.Batches.{Chain, IsKnown}
 use Rattle.qm_model.specs.StoreModel.{Turns}
+use Rattle.qm_model.specs.Schemes.{Grafts, chunks_of}
 use Rattle.qm_model.specs.Refused as refusals
 use Rattle.qm_machine.specs.Lines.{Answer, Question}
-use Rattle.qm_machine.specs.Machine.{State, with_database, refuse, if_any, if_current, answered, if_ordered, beside_of, slot_at}
+use Rattle.qm_machine.specs.Machine.{State, with_database, refuse, if_any, if_current, if_checked, asked, answered, if_ordered, beside_of, slot_at}
 use Rattle.qm_machine.specs.Machine as machine
 use Rattle.qm_machine.specs.Sound.{IsSteady}
 use Rattle.qm_base.specs.declared.error.JournalError.TheVariants as journal
@@ -36,6 +37,11 @@ use Rattle.qm_engine.proofs.Commands.{with_list}
 use Rattle.qm_engine.proofs.LastingCommands.{fault-told}
 use Rattle.qm_engine.proofs.OrderedCommands.{beside_ok, beside_err}
 use Rattle.qm_engine.proofs.ReadStores.{Told, none_open, stayed, refusal-never, read-keeps, read-uses}
+
+-- a database that is no current one has no grafts
+pub no-grafts : (grafts : Option Grafts) → is_some grafts ≡ false → grafts ≡ None
+no-grafts None is = refl
+no-grafts (Some g) is = absurd (cc)
 
 -- what the machine does with a slot that names no batch to be written, or no staged one
 module _ {X C B S M : Type 0} (members : stores.Ghosts C) (means : meaning.Ghosts X C B S M) {A : Type 0} (does : machine.Slot → A) {refusal : A} (gone : does machine.gone ≡ refusal) (merkleized : (chain : Chain) (tip : List Operation) → does (machine.merkleized chain tip) ≡ refusal) where
@@ -90,7 +96,7 @@ module _ {X C B S M K V D : Type 0} (members : stores.Ghosts C) (means : meaning
   abbrev pub MovesSteady : (State → Answer × State) → List (Slot B S M) → Given X C → Turn K V D → Type 0
   MovesSteady next table new turn = record {
     machine : (s : State) → Stands members means old s → IsSteady means.scheme s
-        → (more rest : List ℕ) → Turns (members.told (store_given means.inside old.held)) (members.told (store_given means.inside new)) (IsBeside more) → s.choices ≡ more ++ rest
+        → (more rest : List ℕ) → Turns (members.told (store_given means.inside old.held)) (members.told (store_given means.inside new)) (IsBeside (chunks_of means.scheme) more) → s.choices ≡ more ++ rest
         → Goes table new turn (next s);
     store : IsUnchanged members (store_given means.inside old.held) (store_given means.inside new);
     uses : Uses members (store_given means.inside old.held) (store_given means.inside new) turn;
@@ -161,12 +167,21 @@ module _ {X C B S M K V D : Type 0} (members : stores.Ghosts C) (means : meaning
   pub offered_told : means.scheme.grafts ≡ None → (f : State → Answer × State) → {turn : Turn K V D} → Says f turn → Says (λ s. if_any s means.scheme.grafts (f s)) turn
   offered_told plain f {turn} says = record { machine = λ s k. subst (Goes old.table.items old.held turn) (sym (ap (λ grafts. if_any s grafts (f s)) plain)) (says.machine s k); never = says.never }
 
-  -- and of one that only a current database offers
-  pub not_current : means.scheme.grafts ≡ None → (question : Question) → Says (λ s. machine.current means.scheme s question) (Reply (replies.Refused refused.NotOffered))
-  not_current plain question = record {
-    machine = λ s k. subst (Goes old.table.items old.held (Reply (replies.Refused refused.NotOffered))) (sym (ap (λ grafts. if_current s grafts (λ g. answered s g question)) plain)) (λ apart. (refl, k));
-    never = λ e. absurd (cc e);
-  }
+  -- which a current one refuses
+  pub any_alone : is_some means.scheme.grafts ≡ true → (f : State → Answer × State) → Says (λ s. if_any s means.scheme.grafts (f s)) (Reply (replies.Refused refused.NotOffered))
+  any_alone current f = record { machine = λ s k. by s k means.scheme.grafts current; never = λ e. absurd (cc e) }
+    where
+      by : (s : State) → Stands members means old s → (grafts : Option Grafts) → is_some grafts ≡ true → Goes old.table.items old.held (Reply (replies.Refused refused.NotOffered)) (if_any s grafts (f s))
+      by s k None is = absurd (cc)
+      by s k (Some g) is = λ apart. (refl, k)
+
+  -- and of one that only a current database offers, where none does
+  pub not_current : IfSome means.scheme.grafts (λ g. g.checks ≡ None) → (question : Question) → Says (λ s. machine.current means.scheme s question) (Reply (replies.Refused refused.NotOffered))
+  not_current unchecked question = record { machine = λ s k. by s k means.scheme.grafts unchecked; never = λ e. absurd (cc e) }
+    where
+      by : (s : State) → Stands members means old s → (grafts : Option Grafts) → IfSome grafts (λ g. g.checks ≡ None) → Goes old.table.items old.held (Reply (replies.Refused refused.NotOffered)) (if_current s grafts (λ g. answered s g question))
+      by s k None none = λ apart. (refl, k)
+      by s k (Some g) none = subst (λ checks. Goes old.table.items old.held (Reply (replies.Refused refused.NotOffered)) (if_checked s checks (λ checks. asked s g checks question))) (sym none) (λ apart. (refl, k))
 
   pub none_told : (f : State → List Operation → Answer × State) → {c : C} → old.held ≡ Store c → {turn : Turn K V D} → turn ≡ Reply (replies.Refused refused.NoDatabase) → Says (λ s. with_database s s.database (f s)) turn
   none_told f is e = let stays = none_begun f is e in record { machine = stays.machine; never = stays.never }

@@ -1,6 +1,6 @@
 -- The command that opens what a store keeps.
-use Rattle.std.proofs.Common.{◌≡◌, ℕ, zero, suc, ◌+◌, ◌≤◌, List, [], ◌∷◌, length, get_or, take, drop, map, Option, Some, None, IfSome, arith, refl, sym, ◌∙◌, ap, subst, le_refl, length-take-le}
-use Rattle.std.specs.Prelude.{IsSome, is_some, option_map}
+use Rattle.std.proofs.Common.{◌≡◌, ℕ, zero, suc, ◌+◌, ◌≤◌, List, [], ◌∷◌, length, get_or, take, drop, map, Option, Some, None, IfSome, arith, refl, sym, ◌∙◌, ap, subst, le_refl, le_trans, length-take-le}
+use Rattle.std.specs.Prelude.{IsSome, is_some}
 use Rattle.std.specs.List.{AllByRecursion as Each}
 use Rattle.std.specs.List.{drop-map}
 use Rattle.std.proofs.lemmas.List.Elements.{All-take, All-drop, recursion_from_All}
@@ -19,7 +19,7 @@ use Rattle.qm_model.proofs.Chains.{Contains-first}
 use Rattle.qm_model.proofs.Forms.{decoded-spelling}
 use Rattle.qm_machine.specs.Lines.{Answer}
 use Rattle.qm_machine.specs.Machine.{State, closed, opened_as, found_in}
-use Rattle.qm_model.specs.Schemes.{Grafts, Scheme, chunks_of, engine_of, layout_of}
+use Rattle.qm_model.specs.Schemes.{Scheme, chunks_of, engine_of, layout_of}
 use Rattle.qm_machine.specs.Machine as machine
 use Rattle.qm_machine.specs.Sound.{IsSteady}
 use Rattle.qm_machine.proofs.Accepted.{opens-within, opens-behind, opens-none}
@@ -43,7 +43,7 @@ use Rattle.qm_engine.specs.Turn.{turn_of_error}
 use Rattle.qm_engine.specs.Stores.{HasLog, IsLeft}
 use Rattle.qm_model.specs.Taken.{IsTaken, head_at, selected_size, taken, LeavesOpening}
 use Rattle.qm_engine.specs.Session.{Holds, Handles}
-use Rattle.qm_engine.proofs.LastingStores.{IsBare, turned, turns-beside, items-cut, head-cut, stored-taken, left_taken, left_opening}
+use Rattle.qm_engine.proofs.LastingStores.{IsBare, Counts, turned, turns-beside, items-cut, head-cut, stored-taken, left_taken, left_opening}
 use Rattle.qm_engine.proofs.LastingCommands.{fault-told}
 use Rattle.qm_engine.proofs.Commands.{left_none, some_is, due_told, by_refusal, stored-same, SlotIs-more, Turns}
 
@@ -69,15 +69,15 @@ module _ {X C B S M K V D : Type 0} (members : stores.Ghosts C) (means : meaning
   alike =
       let items : map (decoded means.scheme.form) stored.items ≡ map (λ op. Some op) (drop s.log.start s.log.list) =
       ap (map (decoded means.scheme.form)) has.items ∙ read_all means.scheme.form (drop s.log.start s.log.list) (recursion_from_All (IsOf means.scheme.form) (drop s.log.start s.log.list) (All-drop (IsOf means.scheme.form) s.log.start s.log.list steady.of_form)) in
-      by items (chunks_of means.scheme) (ap (option_map (λ (g : Grafts). g.chunks)) peakless.1) has.metadata
+      by items (chunks_of means.scheme) has.metadata
     where
       has : own.IsStored (engine_of means.scheme policies) s.log stored
       has = k.store.told.has
 
-      by : map (decoded means.scheme.form) stored.items ≡ map (λ op. Some op) (drop s.log.start s.log.list) → (chunks : Option Chunks) → chunks ≡ None
+      by : map (decoded means.scheme.form) stored.items ≡ map (λ op. Some op) (drop s.log.start s.log.list) → (chunks : Option Chunks)
           → own.MetadataIs (engine_of means.scheme policies) chunks s.log stored → found_with (layout_of means.scheme) stored chunks ≡ found_in means.scheme s.log
-      by items None none counted = λ i. record { start = has.start i; items = items i; head = has.head i; metadata = None; count = sym counted i }
-      by items (Some c) none counted = absurd (cc)
+      by items None says = λ i. record { start = has.start i; items = items i; head = has.head i; metadata = None; count = sym says i }
+      by items (Some c) says = λ i. record { start = has.start i; items = items i; head = has.head i; metadata = says.readable i; count = says.count i }
 
   -- and comes to this
   abbrev due : Option refusals.Refused
@@ -110,6 +110,10 @@ module _ {X C B S M K V D : Type 0} (members : stores.Ghosts C) (means : meaning
 
     few : size ≤ length s.log.list
     few = opens-within means.scheme s.log bound begins size (opens_is accepted)
+
+    -- metadata counts the same of what goes on from the list, or from what is settled of the store's
+    counts : Counts means.scheme s.log × Counts means.scheme (taken_up list s.log)
+    counts = (steady.counts, steady.opened_counts bound size (opens_is accepted))
 
     -- its floor is not below the start, and within it
     low : s.log.start ≤ floor list
@@ -153,7 +157,7 @@ module _ {X C B S M K V D : Type 0} (members : stores.Ghosts C) (means : meaning
         record {
           stored = taken means.scheme size stored;
           is = t.1 ∙ ap Some (t.2 ∙ ap (λ n. taken means.scheme n stored) size_is);
-          has = stored-taken means.scheme peakless s.log stored size k.store.told.has behind bare few;
+          has = stored-taken means.scheme peakless s.log stored size counts k.store.told.has behind bare few;
         }
 
   offered : IfSome (members.told (store_given means.inside held)) (λ t. opening_refusal (layout_of means.scheme) (found (layout_of means.scheme) t) bound ≡ None) → due ≡ None
@@ -235,7 +239,7 @@ module _ {X C B S M K V D : Type 0} (members : stores.Ghosts C) (means : meaning
           (left_none means.scheme s.log s.log (members.told after) (stored-same members means.scheme (store_given means.inside held) after s.log (unopened after r is same) k.store).told)
       by None is =
           subst (λ o. IsLeft means.scheme (members.told after) s.log ((opened_as (closed s) (opening_of o size)).1).log) (sym is)
-          (left_opening means.scheme peakless (members.told (store_given means.inside held)) (members.told after) s.log size k.store.told k.start k.within (behind is) (bare is) (few is)
+          (left_opening means.scheme peakless (members.told (store_given means.inside held)) (members.told after) s.log size (counts is) k.store.told k.start k.within (behind is) (bare is) (few is)
           (leaves (members.told (store_given means.inside held)) (members.told after) told left))
         where
           leaves : (o q : Option Stored) → o ≡ Some stored → model.Turns o q (λ t new. LeavesOpening means.scheme (selected_size means.scheme bound t) t new) → model.Turns o q (LeavesOpening means.scheme size)
@@ -253,18 +257,18 @@ opening-beside m zero s t r = (ap (λ x. x.metadata) r.reads, ap (λ x. x.ends) 
 opening-beside m (suc n) s t r = let i = r.left in (ap (λ x. x.metadata) r.reads ∙ ap (λ x. x.metadata) i.same, ap (λ x. x.ends) r.reads ∙ ap (λ x. x.ends) i.same)
 
 pub opened_handles : {C K V D : Type 0} (members : stores.Ghosts C) (m : Scheme) (bound : Option ℕ) (old new : C) (answer : reply.Reply K V D)
-    → model.Turns (members.told old) (members.told new) (λ t next. next ≡ taken m (selected_size m bound t) t) → members.faults old ≤ members.faults new → Handles {K = K} {V = V} {D = D} members old new (Reply answer)
+    → model.Turns (members.told old) (members.told new) (λ t next. next ≡ taken m (selected_size m bound t) t) → members.faults old ≤ members.faults new → Handles {K = K} {V = V} {D = D} (chunks_of m) members old new (Reply answer)
 opened_handles members m bound old new answer made later = record {
-  beside = (turns-beside (members.told old) (members.told new) _ (λ s t. taken-beside m (selected_size m bound s) s t) made);
+  beside = (turns-beside (chunks_of m) (members.told old) (members.told new) _ (λ s t. taken-beside m (selected_size m bound s) s t) made);
   later = later;
   fault = λ e. absurd (cc);
 }
 
 pub unopened_handles : {C K V D : Type 0} (members : stores.Ghosts C) (m : Scheme) (bound : Option ℕ) (old new : C) (error : Error)
     → model.Turns (members.told old) (members.told new) (λ t next. LeavesOpening m (selected_size m bound t) t next) → members.faults old ≤ members.faults new → (error ≡ errors.Journal journal.Store → Rose (members.faults old) (members.faults new))
-    → Handles {K = K} {V = V} {D = D} members old new (turn_of_error error)
+    → Handles {K = K} {V = V} {D = D} (chunks_of m) members old new (turn_of_error error)
 unopened_handles members m bound old new error made later rose = record {
-  beside = (turns-beside (members.told old) (members.told new) _ (λ s t. opening-beside m (selected_size m bound s) s t) made);
+  beside = (turns-beside (chunks_of m) (members.told old) (members.told new) _ (λ s t. opening-beside m (selected_size m bound s) s t) made);
   later = later;
   fault = λ e. rose (fault-told error e);
 }

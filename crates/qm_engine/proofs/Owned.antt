@@ -13,7 +13,7 @@ use Rattle.qm_model.specs.StoreModel.{Stored, end_of}
 use Rattle.qm_model.proofs.Chains.{Begins-length}
 use Rattle.qm_model.specs.Schemes.{Scheme, chunks_of, engine_of}
 use Rattle.qm_machine.proofs.Sounds.{kept-low}
-use Rattle.qm_engine.specs.Stores.{HasLog, least, MayBe, grown, cut, moved, emptied, IsLeft}
+use Rattle.qm_engine.specs.Stores.{HasLog, least, MayBe, grown, cut, counted, moved, emptied, IsLeft}
 use Rattle.qm_engine.specs.Runs.{IsOwnStore, IsOwnLeft}
 use Rattle.qm_engine.proofs.Commands.{some_is, left_none, left_none-log}
 use Rattle.qm_engine.proofs.Followed.{Followed, may-kept}
@@ -38,7 +38,7 @@ none-left m rules told before after has kept = record {
   own = subst (IsOwnStore m rules told) (sym (left_none-log m before after told has)) (own-of m rules told before has kept);
 }
 
-module _ (m : Scheme) {P : Type 0} (rules : Rules P) (plain : m.grafts ≡ None) (before after : Log) (kept : IsKept (engine_of m rules) before) (next : IsKept (engine_of m rules) after) (followed : Followed before after) where
+module _ (m : Scheme) {P : Type 0} (rules : Rules P) (before after : Log) (kept : IsKept (engine_of m rules) before) (next : IsKept (engine_of m rules) after) (followed : Followed before after) where
   low_before : before.start ≤ length before.list
   low_before = omega (arith, kept-low m rules before kept, kept.stable)
 
@@ -58,11 +58,12 @@ module _ (m : Scheme) {P : Type 0} (rules : Rules P) (plain : m.grafts ≡ None)
   may-low : (log : Log) → MayBe before after log → log.start ≤ length log.list
   may-low log (grown count stable low) = omega (arith, low_before, length-append before.list (take count (drop (length before.list) after.list)))
   may-low log (cut to stable final low low_stable) = omega (arith, low_before, above-least, low, length-take to before.list)
+  may-low log (counted more starts) = omega (arith, starts, low_after)
   may-low log (moved behind) = low_after
   may-low log (emptied none) = omega arith
 
   pub owned : (left : Option Stored) → IfSome left (λ t. t.stable ≤ end_of t) → IsLeft m left before after → IsOwnLeft m rules left before after
-  owned left stable is = record { left = is; own = own-of m rules left is.log is.has (may-kept m rules plain before after is.log kept next followed is.may within) }
+  owned left stable is = record { left = is; own = own-of m rules left is.log is.has (may-kept m rules before after is.log kept next followed is.may within) }
     where
       within : is.log.stable ≤ length is.log.list
       within =

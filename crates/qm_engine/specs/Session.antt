@@ -21,6 +21,8 @@ use Rattle.qm_engine.specs.declared.session.Session.{Session}
 use Rattle.qm_engine.specs.declared.session.Turn.{Turn}
 use Rattle.qm_engine.specs.declared.session.Turn.TheVariants.{Reply, Memory, StoreFault}
 use Rattle.qm_store.specs.Given.{store_given, IsUnchanged}
+use Rattle.qm_model.specs.Opening.{Chunks}
+use Rattle.qm_model.specs.Schemes.{chunks_of}
 use Rattle.qm_engine.specs.Stores.{IsStored, IsBeside, IsLeft}
 
 module _ {X C B S M : Type 0} (members : store.Ghosts C) (means : meaning.Ghosts X C B S M) where
@@ -104,14 +106,14 @@ module _ {X C B S M : Type 0} (members : store.Ghosts C) (means : meaning.Ghosts
     abbrev pub ObeysHeldSteady : List (Slot B S M) → ℕ → Given X C → ℕ → Given X C → Turn K V D → (State → Answer × State) → Type 0
     ObeysHeldSteady table before old after new turn next =
         (s : State) → Holds members means old table before s → IsSteady means.scheme s
-        → (more rest : List ℕ) → Turns (members.told (store_given means.inside old)) (members.told (store_given means.inside new)) (IsBeside more) → s.choices ≡ more ++ rest
+        → (more rest : List ℕ) → Turns (members.told (store_given means.inside old)) (members.told (store_given means.inside new)) (IsBeside (chunks_of means.scheme) more) → s.choices ≡ more ++ rest
         → FollowsHeld table after new turn (next s)
 
     -- So does a session.
     abbrev pub ObeysSteady : Session X C B S M → Session X C B S M → Turn K V D → (State → Answer × State) → Type 0
     ObeysSteady old new turn next =
         (s : State) → Stands members means old s → IsSteady means.scheme s
-        → (more rest : List ℕ) → Turns (members.told (store_given means.inside old.held)) (members.told (store_given means.inside new.held)) (IsBeside more) → s.choices ≡ more ++ rest
+        → (more rest : List ℕ) → Turns (members.told (store_given means.inside old.held)) (members.told (store_given means.inside new.held)) (IsBeside (chunks_of means.scheme) more) → s.choices ≡ more ++ rest
         → Follows new turn (next s)
 
     -- The same of a command that leaves the session as it is.
@@ -133,10 +135,10 @@ pub record TurnReads {X C B S M K V D : Type 0} (members : store.Ghosts C) (mean
   pub store : IsUnchanged members (means.inside old) (means.inside new)
   pub faults : IsCause (members.faults (means.inside old)) (members.faults (means.inside new)) (turn ≡ StoreFault)
 
--- A turn handles the store: it puts no metadata, and no restart chooses an end; the count has not fallen, and it rose where a
--- fault is told.
-pub record Handles {C K V D : Type 0} (members : store.Ghosts C) (old new : C) (turn : Turn K V D) : Type 0 where
-  pub beside : Turns (members.told old) (members.told new) (IsBeside [])
+-- A turn handles the store: it puts no metadata but that which counts these chunks, and no restart chooses an end; the count of faults has
+-- not fallen, and it rose where a fault is told.
+pub record Handles {C K V D : Type 0} (chunks : Option Chunks) (members : store.Ghosts C) (old new : C) (turn : Turn K V D) : Type 0 where
+  pub beside : Turns (members.told old) (members.told new) (IsBeside chunks [])
   pub later : members.faults old ≤ members.faults new
   pub fault : turn ≡ StoreFault → Rose (members.faults old) (members.faults new)
 
@@ -144,10 +146,10 @@ pub record Handles {C K V D : Type 0} (members : store.Ghosts C) (old new : C) (
 abbrev pub IsChosen : {P : Type 0} → Line P → List ℕ → Type 0
 IsChosen line more = (rest : List ℕ) → choices_after line (more ++ rest) ≡ rest
 
--- A command's turn handles the store, and so many ends were chosen as the command takes, where it has a reply.
-pub record HandlesLine {C K V D P : Type 0} (members : store.Ghosts C) (line : Line P) (old new : C) (turn : Turn K V D) : Type 0 where
+-- A command's turn handles the store, and the ends that the command takes were chosen, where it has a reply.
+pub record HandlesLine {C K V D P : Type 0} (chunks : Option Chunks) (members : store.Ghosts C) (line : Line P) (old new : C) (turn : Turn K V D) : Type 0 where
   pub more : List ℕ
-  pub beside : Turns (members.told old) (members.told new) (IsBeside more)
+  pub beside : Turns (members.told old) (members.told new) (IsBeside chunks more)
   pub chosen : IfReply turn (λ _. IsChosen line more)
   pub later : members.faults old ≤ members.faults new
   pub fault : turn ≡ StoreFault → Rose (members.faults old) (members.faults new)
@@ -157,12 +159,12 @@ pub record HandlesLine {C K V D P : Type 0} (members : store.Ghosts C) (line : L
 pub record Performs {X C B S M K V D P : Type 0} (members : store.Ghosts C) (means : meaning.Ghosts X C B S M) (key : K → Bytes) (value : V → Bytes) (digest : D → Bytes) (line : Line P) (next : State → Answer × State) (old new : Session X C B S M) (turn : Turn K V D) : Type 0 where
   pub machine : ObeysSteady members means key value digest old new turn next
   pub left : LeavesSteady members means old new next
-  pub handles : HandlesLine members line (store_given means.inside old.held) (store_given means.inside new.held) turn
+  pub handles : HandlesLine (chunks_of means.scheme) members line (store_given means.inside old.held) (store_given means.inside new.held) turn
   pub opened : new.opened ≤ old.opened + 1
 
 -- The same of a command that takes what is held and no more, with these batches: it may count an opening.
 pub record PerformsHeld {X C B S M K V D P : Type 0} (members : store.Ghosts C) (means : meaning.Ghosts X C B S M) (key : K → Bytes) (value : V → Bytes) (digest : D → Bytes) (line : Line P) (next : State → Answer × State) (table : List (Slot B S M)) (before : ℕ) (old : Given X C) (after : ℕ) (new : Given X C) (turn : Turn K V D) : Type 0 where
   pub machine : ObeysHeldSteady members means key value digest table before old after new turn next
   pub left : LeavesHeldSteady members means table before old new next
-  pub handles : HandlesLine members line (store_given means.inside old) (store_given means.inside new) turn
+  pub handles : HandlesLine (chunks_of means.scheme) members line (store_given means.inside old) (store_given means.inside new) turn
   pub opened : after ≤ before + 1

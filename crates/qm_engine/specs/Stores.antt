@@ -5,6 +5,8 @@ use Rattle.qm_model.specs.Own.{Log, no_log}
 use Rattle.qm_model.specs.Own as own
 use Rattle.qm_model.specs.StoreModel.{Stored}
 use Rattle.qm_model.specs.Schemes.{Scheme, engine_of}
+use Rattle.qm_model.specs.Opening.{Chunks}
+use Rattle.qm_model.specs.Taken.{StayNamed}
 use Rattle.qm_store.specs.declared.Store as store
 
 -- what is told is a store that has a log, by a machine's spelling and hash
@@ -18,10 +20,10 @@ pub record IsStored {C : Type 0} (members : store.Ghosts C) (m : Scheme) (c : C)
   pub start : members.start c ≡ log.start
   pub told : HasLog m (members.told c) log
 
--- what a store has beside items, head and stable length: calls put no metadata, and a destroyed store has none; the ends that its
--- restarts chose stay, and these are new
-pub record IsBeside (more : List ℕ) (old new : Stored) : Type 0 where
-  pub metadata : (new.metadata ≡ old.metadata) ⊎ (new.metadata ≡ [])
+-- what a store has beside items, head and stable length: calls put no metadata but that which counts these chunks, and a destroyed store
+-- has none; the ends that its restarts chose stay, and these are new
+pub record IsBeside (chunks : Option Chunks) (more : List ℕ) (old new : Stored) : Type 0 where
+  pub metadata : StayNamed chunks old.metadata new.metadata ⊎ StayNamed chunks [] new.metadata
   pub ends : new.ends ≡ old.ends ++ more
 
 -- What a failed command leaves.
@@ -36,11 +38,12 @@ IsFinal before after = (before.stable < after.stable) ⊎ (length after.list < l
 
 -- The log before a command, and the one after it; what may be left of it: the list before, with a first part of what the
 -- command puts behind it; where the command makes more stable or the list shorter, a beginning of the list that has what was
--- stable before and stays; the log after it, where the command takes away what stands before a location; and nothing, where the
--- command leaves nothing.
+-- stable before and stays; the log after it, where the command takes away what stands before a location, or that from where the store
+-- started, where the command counts more pruned chunks; and nothing, where the command leaves nothing.
 pub data MayBe (before after : Log) : Log → Type 0 where
   grown : (count stable : ℕ) → before.stable ≤ stable → MayBe before after (record before { list = before.list ++ take count (drop (length before.list) after.list); stable = stable })
   cut : (to stable : ℕ) → IsFinal before after → least before after ≤ to → least before after ≤ stable → MayBe before after (record before { list = take to before.list; stable = stable })
+  counted : before.chunks < after.chunks → before.start ≤ after.start → MayBe before after (record after { start = before.start })
   moved : before.start < after.start → MayBe before after after
   emptied : after ≡ no_log → MayBe before after no_log
 

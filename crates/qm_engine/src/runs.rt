@@ -8,7 +8,7 @@ ghost use Rattle.qm_lines.specs.Views.{line_view, answer_view};
 ghost use Rattle.qm_store.specs.Given.{store_given};
 ghost use Rattle.qm_engine.specs.Session.{Stands, LeavesSteady, IsChosen};
 ghost use Rattle.qm_engine.specs.Stores.{HasLog, IsBeside};
-ghost use Rattle.qm_model.specs.Schemes.{engine_of};
+ghost use Rattle.qm_model.specs.Schemes.{engine_of, chunks_of};
 ghost use Rattle.qm_machine.specs.Sound.{IsSteady};
 ghost use Rattle.qm_model.specs.Own.{Log, IsOwn};
 ghost use Rattle.qm_model.specs.StoreModel.{Turns};
@@ -66,7 +66,8 @@ fn step<X: Engine<C>, C: Store, P: Policy<X::Family, X::Key, X::Value> + Twin>(
     ensures machine { (s : machine.State) → Stands C.Store X.Meaning session s → IsSteady X.scheme s
         → (more rest : List ℕ)
         → Turns (C.told (store_given X.inside session.held))
-        (C.told (store_given X.inside result.0.held)) (IsBeside more) → s.choices ≡ more ++ rest
+        (C.told (store_given X.inside result.0.held)) (IsBeside (chunks_of X.scheme) more)
+        → s.choices ≡ more ++ rest
         → IfNone result.1
         (let next = machine.turn X.scheme P.rules s (line_view X.Key.bytes X.Value.bytes (λ p. p) command.now) in
         Apart X.scheme.root next.1.had
@@ -81,7 +82,7 @@ fn step<X: Engine<C>, C: Store, P: Policy<X::Family, X::Key, X::Value> + Twin>(
     ensures not_done { IfSome result.1 (λ e. e ≢ End.Done) }
     ensures beside { (more : List ℕ)
         × Turns (C.told (store_given X.inside session.held))
-        (C.told (store_given X.inside result.0.held)) (IsBeside more)
+        (C.told (store_given X.inside result.0.held)) (IsBeside (chunks_of X.scheme) more)
         × IfNone result.1
         (IsChosen (line_view X.Key.bytes X.Value.bytes (λ p. p) command.now) more) }
     ensures later { C.faults (store_given X.inside session.held)
@@ -133,7 +134,7 @@ pub fn run<X: Engine<C>, C: Store, P: Policy<X::Family, X::Key, X::Value> + Twin
 ) -> Outcome<X, C>
     ensures machine { IfSome (C.told store) (λ stored.
         (log : Log) → IsOwn (engine_of X.scheme P.rules) log stored → (choices : List ℕ)
-        → Turns (C.told store) (C.told result.store) (IsBeside choices)
+        → Turns (C.told store) (C.told result.store) (IsBeside (chunks_of X.scheme) choices)
         → IsRun X.scheme P.rules log choices
         (map (line_view X.Key.bytes X.Value.bytes (λ p. p)) commands.now)
         (map (answer_view X.Key.bytes X.Value.bytes X.Digest.bytes) result.replies.items)
@@ -142,7 +143,7 @@ pub fn run<X: Engine<C>, C: Store, P: Policy<X::Family, X::Key, X::Value> + Twin
     ensures short { result.end ≡ End.StoreFault
         → length result.replies.items < length commands.now }
     ensures beside { (choices : List ℕ)
-        × Turns (C.told store) (C.told result.store) (IsBeside choices) }
+        × Turns (C.told store) (C.told result.store) (IsBeside (chunks_of X.scheme) choices) }
     ensures later { C.faults store ≤ C.faults result.store }
     ensures fault { result.end ≡ End.StoreFault → Rose (C.faults store) (C.faults result.store) }
 {

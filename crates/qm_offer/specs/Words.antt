@@ -1,17 +1,17 @@
 -- What an engine's clauses share, over all of its words at once.
-use Rattle.std.specs.Prelude.{◌≡◌, ◌≢◌, ◌⊎◌, ◌≤◌, ◌<◌, ◌^◌, ℕ, max, List, [], length, map, drop, true, Option, None, Some, IfSome, IsSome, Result, IfOk, IfErr, OnOk, IsErrOf, if◌then◌else◌}
+use Rattle.std.specs.Prelude.{◌≡◌, ◌≢◌, ◌⊎◌, ◌≤◌, ◌<◌, ◌^◌, ℕ, max, List, [], length, map, drop, true, Option, None, Some, IfSome, IsSome, Result, IfOk, IfErr, OnOk, IsErrOf, if◌then◌else◌, ⊤}
 use Rattle.qm_model.specs.Causes.{IsCause, Rose}
 use Rattle.qm_model.specs.Forms.{spelling}
 use Rattle.qm_model.specs.Live.{floor}
 use Rattle.qm_model.specs.Operations.{Bytes, Operation}
 use Rattle.qm_model.specs.Opening.{found, opening_refusal}
 use Rattle.qm_model.specs.Walk.{Rules}
-use Rattle.qm_model.specs.StoreModel.{Stored, settled, destroyed, beside_items, IsImage, ReadsAs, DestroyLeaves, Becomes, Turns}
+use Rattle.qm_model.specs.StoreModel.{Stored, destroyed, beside_items, DestroyLeaves, Becomes, Turns}
 use Rattle.qm_model.specs.Writes.{Write}
 use Rattle.qm_model.specs.Step.{step}
 use Rattle.qm_model.specs.Held.{proof_lacked}
-use Rattle.qm_model.specs.Schemes.{Scheme, kind_of, layout_of, takes}
-use Rattle.qm_model.specs.Taken.{head_at, IsTaken, selected_size, taken, pruned_from, LeavesOpening, LeavesPruning}
+use Rattle.qm_model.specs.Schemes.{Grafts, Scheme, kind_of, layout_of, takes}
+use Rattle.qm_model.specs.Taken.{head_at, IsTaken, selected_size, taken, StaysBeside, after_prune, LeavesOpening, LeavesPrune}
 use Rattle.qm_model.specs.Batches.{Chain, IsKnown, IsOnChain, commitment, fits, readable}
 use Rattle.qm_model.specs.Refusals.{tip_refusal}
 use Rattle.qm_base.specs.declared.error.Error.{Error}
@@ -118,23 +118,34 @@ module _ {X C B S M : Type 0} (means : meaning.Ghosts X C B S M) where
     pub later : members.faults old ≤ members.faults (store_after means.inside result)
     pub back : IfErr result (λ r. (x : X) → r.given ≢ Database x)
 
+  -- A database may write metadata of this list: a current one does of a list that it stands for. An any one writes none, so that what it
+  -- makes of a store is said of every list.
+  abbrev pub WritesOf : Option Grafts → X → List Operation → Type 0
+  WritesOf None db list = ⊤
+  WritesOf (Some g) db list = means.stands db list
+
+  -- A call made this of a database's store, at each list that it may write metadata of; it put no other, and no restart chose an end.
+  pub record LeavesStore (members : store.Ghosts C) (old : X) (After : List Operation → Stored → Stored → Type 0) (new : C) : Type 0 where
+    pub told : (list : List Operation) → WritesOf means.scheme.grafts old list → Turns (members.told (means.inside old)) (members.told new) (After list)
+    pub beside : Turns (members.told (means.inside old)) (members.told new) (StaysBeside means.scheme)
+
   -- A call failed for want of memory or by the store, which is given back, with what may be left of such a call.
-  pub record IsGivenUp (members : store.Ghosts C) (old : X) (Left : Stored → Stored → Type 0) (refusal : Refusal X C) : Type 0 where
+  pub record IsGivenUp (members : store.Ghosts C) (old : X) (Left : C → Type 0) (refusal : Refusal X C) : Type 0 where
     pub store : C
     pub given : refusal.given ≡ Store store
-    pub told : Turns (members.told (means.inside old)) (members.told store) Left
+    pub left : Left store
     pub never : refusal_of refusal.error ≡ None
     pub cause : IsCause (members.faults (means.inside old)) (members.faults store) (refusal.error ≡ Journal journal.Store)
 
-  -- The operations were made stable: the database stands for what it stood for, and its store has what it had. Where that failed
-  -- the store is given back; it has no less than what was stable.
-  pub record IsSettling (members : store.Ghosts C) (old : X) (result : Result X (Refusal X C)) : Type 0 where
+  -- The operations were made stable, and the store of a list is then this: the database stands for what it stood for. Where that failed
+  -- the store is given back, as such a call leaves it.
+  pub record IsSettling (members : store.Ghosts C) (After : List Operation → Stored → Stored) (Left : List Operation → Stored → Stored → Type 0) (old : X) (result : Result X (Refusal X C)) : Type 0 where
     pub stands : (list : List Operation) → means.stands old list → IfOk result (λ new. means.stands new list)
     pub numbered : (n : ℕ) → means.numbered old n → IfOk result (λ new. means.numbered new n)
     pub start : IfOk result (λ new. members.start (means.inside new) ≡ members.start (means.inside old))
-    pub told : IfOk result (λ new. Becomes (members.told (means.inside old)) (members.told (means.inside new)) settled)
+    pub store : IfOk result (λ new. LeavesStore members old (λ list s t. t ≡ After list s) (means.inside new))
     pub later : IfOk result (λ new. members.faults (means.inside old) ≤ members.faults (means.inside new))
-    pub failed : IfErr result (IsGivenUp members old (λ s. ReadsAs s.stable (IsImage s)))
+    pub failed : IfErr result (IsGivenUp members old (LeavesStore members old Left))
 
   -- a head is that of the list for which the database stands
   abbrev pub IsHeadOf : X → ℕ → Bytes → Type 0
@@ -148,18 +159,19 @@ module _ {X C B S M : Type 0} (means : meaning.Ghosts X C B S M) where
     pub start : members.start (means.inside new) ≡ max (members.start (means.inside old)) to
     pub head : Bytes
     pub heads : members.start (means.inside old) < to → IsHeadOf old to head
-    pub told : Becomes (members.told (means.inside old)) (members.told (means.inside new)) (pruned_from (members.start (means.inside old)) to head)
+    pub store : LeavesStore members old (λ list s t. t ≡ after_prune means.scheme list (members.start (means.inside old)) to head s) (means.inside new)
     pub later : members.faults (means.inside old) ≤ members.faults (means.inside new)
 
   -- It was refused: past the boundary, with the database as it was; or, within it, the store is given back, as such a call leaves it.
   abbrev pub IsUnpruned : store.Ghosts C → ℕ → X → Refusal X C → Type 0
   IsUnpruned members to old refusal =
       ((bound : ℕ) × (bound < to) × ((list : List Operation) → means.stands old list → bound ≡ means.scheme.boundary list) × (refusal.given ≡ Database old) × (refusal.error ≡ PruneBeyondMinRequired to bound))
-      ⊎ (((list : List Operation) → means.stands old list → to ≤ means.scheme.boundary list) × IsGivenUp members old (LeavesPruning (members.start (means.inside old)) (IsHeadOf old to) to) refusal)
+      ⊎ (((list : List Operation) → means.stands old list → to ≤ means.scheme.boundary list)
+      × IsGivenUp members old (LeavesStore members old (λ list. LeavesPrune means.scheme list (members.start (means.inside old)) (IsHeadOf old to) to)) refusal)
 
   -- The store was emptied, or given back where that failed.
   pub record IsDestroying (members : store.Ghosts C) (old : X) (result : Result C (Refusal X C)) : Type 0 where
     pub start : IfOk result (λ new. members.start new ≡ 0)
     pub told : IfOk result (λ new. Becomes (members.told (means.inside old)) (members.told new) destroyed)
     pub later : IfOk result (λ new. members.faults (means.inside old) ≤ members.faults new)
-    pub failed : IfErr result (IsGivenUp members old DestroyLeaves)
+    pub failed : IfErr result (IsGivenUp members old (λ left. Turns (members.told (means.inside old)) (members.told left) DestroyLeaves))

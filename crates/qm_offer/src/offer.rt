@@ -1,6 +1,6 @@
 //! What a database offers to a run, over any store: a trait for each group of its calls, and one of them all.
 
-ghost use Rattle.std.specs.Prelude.{◌≡◌, [], List, length, nat_lt, None};
+ghost use Rattle.std.specs.Prelude.{◌≡◌, [], List, length, nat_lt, is_some, IfSome, None};
 ghost use Rattle.qm_model.specs.Batches.{Chain};
 ghost use Rattle.qm_model.specs.Live.{floor, live};
 ghost use Rattle.qm_model.specs.Operations.{Operation};
@@ -76,6 +76,10 @@ pub trait Common<C: Store>: Meaning<C> + Drop + Sized {
     fn is_ordered() -> bool
         ensures { result ≡ Self.scheme.form.ordered };
 
+    /// Whether it is a current database, which alone is asked for proofs of keys and of ranges; the others alone prove a batch.
+    fn is_current() -> bool
+        ensures { result ≡ is_some Self.scheme.grafts };
+
     /// The numbers of the database.
     fn info(&self) -> Numbers
         ensures start { result.start ≡ C.start (Self.inside self.now) }
@@ -91,8 +95,8 @@ pub trait Common<C: Store>: Meaning<C> + Drop + Sized {
             × (result.floor ≡ floor tip)
             × (result.boundary ≡ Self.scheme.boundary tip) };
 
-    /// No chunks of bits stand under its root, so that its stores' metadata says nothing.
-    ghost plain: { Self.scheme.grafts ≡ None };
+    /// No current database offers proofs of keys and ranges yet.
+    ghost unchecked: { IfSome Self.scheme.grafts (λ g. g.checks ≡ None) };
 
     /// Nothing has no peaks.
     ghost bare: { peaks Self.scheme.shape 0 ≡ [] };

@@ -72,9 +72,9 @@ module _ (shape : Shape) (form : Form) (lengths : form.sizes ≡ None) where
 
   -- so what databases answer it does
   pub machine-answers : (told left : Option Stored) (input : Bytes) (k : ℕ) (text : Bytes)
-      → IfSome told (λ stored. (log : Log) → IsOwn (engine_of (scheme_of 32 (sha256_hashing shape form)) policies) log stored → (choices : List ℕ) → Turns told left (IsBeside choices)
+      → IfSome told (λ stored. (log : Log) → IsOwn (engine_of (scheme_of 32 (sha256_hashing shape form)) policies) log stored → (choices : List ℕ) → Turns told left (IsBeside None choices)
       → IsAnswered (scheme_of 32 (sha256_hashing shape form)) policies log choices (commands_in input) k text left)
-      → IfSome told (λ stored. (log : Log) → IsOwn (engine_of (scheme shape form) policies) log stored → (choices : List ℕ) → Turns told left (IsBeside choices)
+      → IfSome told (λ stored. (log : Log) → IsOwn (engine_of (scheme shape form) policies) log stored → (choices : List ℕ) → Turns told left (IsBeside None choices)
       → IsAnswered (scheme shape form) policies log choices (commands_in input) k text left)
-  machine-answers told left input k text is = subst (λ m. IfSome told (λ stored. (log : Log) → IsOwn (engine_of m policies) log stored → (choices : List ℕ) → Turns told left (IsBeside choices)
+  machine-answers told left input k text is = subst (λ m. IfSome told (λ stored. (log : Log) → IsOwn (engine_of m policies) log stored → (choices : List ℕ) → Turns told left (IsBeside None choices)
       → IsAnswered m policies log choices (commands_in input) k text left)) machines-same is

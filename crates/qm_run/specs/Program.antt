@@ -7,7 +7,7 @@ use Rattle.qm_model.specs.Policies.{policies}
 use Rattle.qm_model.specs.Batches.{Apart}
 use Rattle.qm_model.specs.Mmr.{mmr}
 use Rattle.qm_machine.specs.Machine.{State, initial, answers}
-use Rattle.qm_model.specs.Schemes.{Scheme, engine_of}
+use Rattle.qm_model.specs.Schemes.{Scheme, chunks_of, engine_of}
 use Rattle.qm_machine.specs.Grammar.{commands_in, bad_in}
 use Rattle.qm_machine.specs.Text.{text_of}
 use Rattle.qm_engine.specs.Stores.{IsBeside}
@@ -101,4 +101,4 @@ module _ (m : Scheme) (log : Log) (choices : List ℕ) (input : Bytes) where
 abbrev pub Says : Scheme → Stored → Bytes → ℕ → Type 0 → Bytes → Option Stored → Type 0
 Says m stored input status rose written left =
     (log : Log) → IsOwn (engine_of m policies) log stored
-    → (choices : List ℕ) → Turns (Some stored) left (IsBeside choices) → SaysOver m log choices input status rose written left
+    → (choices : List ℕ) → Turns (Some stored) left (IsBeside (chunks_of m) choices) → SaysOver m log choices input status rose written left

@@ -1,6 +1,6 @@
 //! The program's databases, of either kind by their updates: each offers what the database inside offers.
 
-ghost use Rattle.std.specs.Prelude.{◌≡◌, ⊤, length, refl};
+ghost use Rattle.std.specs.Prelude.{◌≡◌, ⊤, length};
 ghost use Rattle.std.proofs.Common.{ap, le_refl};
 ghost use Rattle.qm_model.specs.Live.{floor};
 ghost use Rattle.qm_model.specs.Mmr as trees;
@@ -71,7 +71,7 @@ impl<
 
     ghost scheme = { scheme_of 32 (sha256_hashing trees.mmr U.form) };
 
-    ghost bounds = { record { low = λ list. le_refl (floor list); chunks = tt; prompt = tt } };
+    ghost bounds = { record { low = λ list. le_refl (floor list); chunks = tt; prompt = tt; over = tt } };
 
     ghost formed = { λ x list is. is.lent.of };
 
@@ -95,6 +95,10 @@ impl<
         U::is_ordered()
     }
 
+    fn is_current() -> bool {
+        <Inside<C, I, U> as Common<C>>::is_current()
+    }
+
     fn info(&self) -> Numbers {
         <Inside<C, I, U> as Common<C>>::info(&self.db)
     }
@@ -103,7 +107,7 @@ impl<
         <Inside<C, I, U> as Common<C>>::sizes(batch)
     }
 
-    ghost plain = { refl };
+    ghost unchecked = { tt };
 
     ghost bare = { peaks-none trees.mmr trees.mmr_births mmr_is_family mmr_has_peaks };
 }

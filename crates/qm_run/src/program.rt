@@ -150,7 +150,7 @@ fn serve<
         × Says (scheme trees.mmr U.form) stored input.now result.0
         (Rose (C.faults store) (C.faults result.1)) written (C.told result.1))) }
     ensures beside { (choices : List ℕ)
-        × Turns (C.told store) (C.told result.1) (IsBeside choices) }
+        × Turns (C.told store) (C.told result.1) (IsBeside None choices) }
     ensures write { result.0 ≡ 4 → Rose (K.faults sink.old) (K.faults sink.new) }
     ensures store { result.0 ≡ 6 → Rose (C.faults store) (C.faults result.1) }
     ensures codes { (result.0 ≡ 0)
@@ -190,7 +190,7 @@ fn run<C: Store + Drop, K: Sink, G: Gate>(
         × Says (machine_of is_ordered) stored input.now result.0
         (Rose (C.faults store) (C.faults result.1)) written (C.told result.1))) }
     ensures beside { (choices : List ℕ)
-        × Turns (C.told store) (C.told result.1) (IsBeside choices) }
+        × Turns (C.told store) (C.told result.1) (IsBeside None choices) }
     ensures write { result.0 ≡ 4 → Rose (K.faults sink.old) (K.faults sink.new) }
     ensures store { result.0 ≡ 6 → Rose (C.faults store) (C.faults result.1) }
     ensures codes { (result.0 ≡ 0)
@@ -234,7 +234,7 @@ pub fn qmdb_main<C: Store + Drop, S: Source, K: Sink, G: Gate>(
         → (result.1 ≡ store) × (sink.new ≡ sink.old) }
     ensures unread { result.0 ≡ 1 → source.new ≡ source.old }
     ensures beside { (choices : List ℕ)
-        × Turns (C.told store) (C.told result.1) (IsBeside choices) }
+        × Turns (C.told store) (C.told result.1) (IsBeside None choices) }
 
     // When each status comes.
     ensures usage { (result.0 ≡ 1) ↔ (are_words (map string_bytes words.now) ≡ false) }

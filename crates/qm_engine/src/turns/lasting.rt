@@ -1,5 +1,6 @@
 // What makes a store last, and what opens and ends a database. Each takes what is held, and gives what is held then.
 ghost use Rattle.std.specs.Prelude.{◌≡◌, ◌+◌, ◌^◌, ◌<◌, ◌≤◌, ℕ};
+ghost use Rattle.qm_model.specs.Schemes.{chunks_of};
 ghost use Rattle.qm_machine.specs.Lines.{Crash};
 ghost use Rattle.qm_machine.specs.Machine as machine;
 ghost use Rattle.qm_store.specs.Given.{store_given};
@@ -29,8 +30,8 @@ pub fn open<X: Durable<C>, C: Store>(
     ensures left { (table : _) (count : ℕ)
         → LeavesHeldSteady C.Store X.Meaning table count held result.0 (λ s.
         machine.open_store X.scheme s max_size) }
-    ensures handles { Handles C.Store (store_given X.inside held) (store_given X.inside result.0)
-        result.1 }
+    ensures handles { Handles (chunks_of X.scheme) C.Store (store_given X.inside held)
+        (store_given X.inside result.0) result.1 }
     ensures opened { opened.new ≤ opened.old + 1 }
 {
     let store = into_store::<X, C>(held);
@@ -76,9 +77,9 @@ pub fn commit<X: Durable<C>, C: Store>(
         → ObeysHeld C.Store X.Meaning X.Key.bytes X.Value.bytes X.Digest.bytes table count held
         result.0 result.1 machine.commit }
     ensures left { (table : _) (count : ℕ)
-        → LeavesHeld C.Store X.Meaning table count held result.0 machine.commit }
-    ensures handles { Handles C.Store (store_given X.inside held) (store_given X.inside result.0)
-        result.1 }
+        → LeavesHeldSteady C.Store X.Meaning table count held result.0 machine.commit }
+    ensures handles { Handles (chunks_of X.scheme) C.Store (store_given X.inside held)
+        (store_given X.inside result.0) result.1 }
 {
     match held {
         Given::Store(store) => without_database::<X, C>(store),
@@ -91,12 +92,12 @@ pub fn sync<X: Durable<C>, C: Store>(
     held: Given<X, C>,
 ) -> (Given<X, C>, Turn<X::Key, X::Value, X::Digest>)
     ensures machine { (table : _) (count : ℕ)
-        → ObeysHeld C.Store X.Meaning X.Key.bytes X.Value.bytes X.Digest.bytes table count held
-        result.0 result.1 machine.commit }
+        → ObeysHeldSteady C.Store X.Meaning X.Key.bytes X.Value.bytes X.Digest.bytes table count
+        held count result.0 result.1 machine.commit }
     ensures left { (table : _) (count : ℕ)
-        → LeavesHeld C.Store X.Meaning table count held result.0 machine.commit }
-    ensures handles { Handles C.Store (store_given X.inside held) (store_given X.inside result.0)
-        result.1 }
+        → LeavesHeldSteady C.Store X.Meaning table count held result.0 machine.commit }
+    ensures handles { Handles (chunks_of X.scheme) C.Store (store_given X.inside held)
+        (store_given X.inside result.0) result.1 }
 {
     match held {
         Given::Store(store) => without_database::<X, C>(store),
@@ -116,8 +117,8 @@ pub fn prune<X: Durable<C>, C: Store>(
     ensures left { (table : _) (count : ℕ)
         → LeavesHeldSteady C.Store X.Meaning table count held result.0 (λ s.
         machine.prune X.scheme s to) }
-    ensures handles { Handles C.Store (store_given X.inside held) (store_given X.inside result.0)
-        result.1 }
+    ensures handles { Handles (chunks_of X.scheme) C.Store (store_given X.inside held)
+        (store_given X.inside result.0) result.1 }
 {
     match held {
         Given::Store(store) => without_database::<X, C>(store),
@@ -134,8 +135,8 @@ pub fn close<X: Durable<C>, C: Store>(
         result.0 result.1 machine.close }
     ensures left { (table : _) (count : ℕ)
         → LeavesHeld C.Store X.Meaning table count held result.0 machine.close }
-    ensures handles { Handles C.Store (store_given X.inside held) (store_given X.inside result.0)
-        result.1 }
+    ensures handles { Handles (chunks_of X.scheme) C.Store (store_given X.inside held)
+        (store_given X.inside result.0) result.1 }
 {
     match held {
         Given::Store(store) => without_database::<X, C>(store),
@@ -151,9 +152,9 @@ pub fn destroy<X: Durable<C>, C: Store>(
         → ObeysHeld C.Store X.Meaning X.Key.bytes X.Value.bytes X.Digest.bytes table count held
         result.0 result.1 machine.destroy }
     ensures left { (table : _) (count : ℕ)
-        → LeavesHeld C.Store X.Meaning table count held result.0 machine.destroy }
-    ensures handles { Handles C.Store (store_given X.inside held) (store_given X.inside result.0)
-        result.1 }
+        → LeavesHeldSteady C.Store X.Meaning table count held result.0 machine.destroy }
+    ensures handles { Handles (chunks_of X.scheme) C.Store (store_given X.inside held)
+        (store_given X.inside result.0) result.1 }
 {
     match held {
         Given::Store(store) => without_database::<X, C>(store),
@@ -173,9 +174,9 @@ pub fn crash<X: Durable<C>, C: Store, P: Policy<X::Family, X::Key, X::Value>>(
         → ObeysHeldSteady C.Store X.Meaning X.Key.bytes X.Value.bytes X.Digest.bytes table count
         held count result.0 result.1 machine.crash }
     ensures left { (table : _) (count : ℕ)
-        → LeavesHeld C.Store X.Meaning table count held result.0 machine.crash }
-    ensures handles { HandlesLine {P = P} C.Store (Crash keep) (store_given X.inside held)
-        (store_given X.inside result.0) result.1 }
+        → LeavesHeldSteady C.Store X.Meaning table count held result.0 machine.crash }
+    ensures handles { HandlesLine {P = P} (chunks_of X.scheme) C.Store (Crash keep)
+        (store_given X.inside held) (store_given X.inside result.0) result.1 }
 {
     let mut store = into_store::<X, C>(held);
     match store.restart(keep) {

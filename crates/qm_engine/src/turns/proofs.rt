@@ -7,14 +7,15 @@ ghost use Rattle.qm_engine.specs.Session.{Obeys, Tells, Uses};
 
 use crate::session::{SessionOf, Turn, no_database, no_such_handle, turn_of};
 use crate::table::merkleized_at;
-use qm_lines::Reply;
-use qm_offer::Proving;
+use qm_lines::{Refused, Reply};
+use qm_offer::{Common, Proving};
 use qm_proofs::Proof;
 use qm_store::{Given, Store};
 use std::alloc::Global;
 use std::num::NonZeroU64;
 
-/// The proof of a merkleized batch's own operations, and the pins at the list that it was made from.
+/// The proof of a merkleized batch's own operations, and the pins at the list that it was made from. A current database offers
+/// none.
 pub fn batch_proof<X: Proving<C>, C: Store>(
     alloc: Global,
     session: &SessionOf<X, C>,
@@ -24,6 +25,9 @@ pub fn batch_proof<X: Proving<C>, C: Store>(
         result (λ s. machine.batch_proof X.scheme s number) }
     ensures never { result ≢ Turn.StoreFault }
 {
+    if X::is_current() {
+        return Turn::Reply(Reply::Refused(Refused::NotOffered));
+    }
     let Given::Database(x) = &session.held else {
         return no_database();
     };

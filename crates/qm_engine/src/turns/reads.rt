@@ -127,7 +127,7 @@ pub fn ops<X: Reading<C>, C: Store>(
     }
 }
 
-/// What only a current database offers: this one has no chunks of bits.
+/// What only a current database is asked, for proofs of keys and ranges: none offers any yet.
 pub fn current<X: Common<C>, C: Store>(
     session: &SessionOf<X, C>,
 ) -> Turn<X::Key, X::Value, X::Digest>

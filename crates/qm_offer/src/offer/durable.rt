@@ -1,6 +1,8 @@
 //! What makes a store last, and what opens and ends a database.
 
 ghost use Rattle.std.specs.Prelude.{◌≡◌, IfOk, IfErr};
+ghost use Rattle.qm_model.specs.StoreModel.{settled, IsImage, ReadsAs};
+ghost use Rattle.qm_model.specs.Taken.{synced, LeavesSync};
 ghost use Rattle.qm_offer.specs.Words.{IsSettling, IsPruned, IsUnpruned, IsDestroying, Opens};
 
 use crate::offer::Common;
@@ -25,14 +27,18 @@ pub trait Durable<C: Store>: Common<C> {
 
     /// Makes the operations stable: from then on a crash leaves them all. A refusal gives back the store.
     fn commit(self) -> Result<Self, Refusal<Self, C>>
-        ensures { IsSettling Self.Meaning C.Store self result };
+        ensures { IsSettling Self.Meaning C.Store (λ list. settled)
+            (λ list s. ReadsAs s.stable (IsImage s)) self result };
 
-    /// Makes all that the store holds stable. A refusal gives back the store.
+    /// Makes all that the store holds stable, and a current database writes the metadata that counts its pruned chunks anew. A
+    /// refusal gives back the store.
     fn sync(self) -> Result<Self, Refusal<Self, C>>
-        ensures { IsSettling Self.Meaning C.Store self result };
+        ensures { IsSettling Self.Meaning C.Store (synced Self.scheme) (LeavesSync Self.scheme)
+            self result };
 
-    /// Takes the operations before a location away from the store, and makes all others stable first. The database comes back as
-    /// it was where the location is past its boundary; every other refusal gives back the store.
+    /// Takes the operations before a location away from the store, and makes all others stable first; then a current database
+    /// counts in its metadata the chunks of bits that go. The database comes back as it was where the location is past its
+    /// boundary; every other refusal gives back the store.
     fn prune(self, alloc: Global, to: u64) -> Result<Self, Refusal<Self, C>>
         ensures pruned { IfOk result (IsPruned Self.Meaning C.Store to self) }
         ensures refused { IfErr result (IsUnpruned Self.Meaning C.Store to self) };

@@ -23,7 +23,7 @@ use std::num::NonZeroU64;
 pub trait Proving<C: Store>: Common<C> {
     /// The proof of a merkleized batch's own operations in the list that it makes, and the digests of the peaks over its base
     /// list. It is refused where the database is at no state at which the batch can be read, and where a node was taken away
-    /// with what stood before the store's start.
+    /// with what stood before the store's start. A run asks it of no current database.
     fn proof(
         &self,
         alloc: Global,

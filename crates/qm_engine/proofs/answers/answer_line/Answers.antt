@@ -1,5 +1,6 @@
 use Rattle.std.proofs.Common.{◌≡◌, ◌∙◌, ◌++◌, ◌∷◌, [], Option, Some, IfSome, ap, le_refl, refl, subst, sym}
 use Rattle.std.specs.Prelude.{IfNone, is_some}
+use Rattle.qm_model.specs.Schemes.{chunks_of}
 use Rattle.qm_model.specs.Batches.{Apart}
 use Rattle.qm_machine.specs.Grammar.{line_of}
 use Rattle.qm_machine.specs.Lines.{Line, Answer}
@@ -29,7 +30,7 @@ returns-in-Err g c =
       bad = λ e. absurd (memory-not_bad e);
       fault_command = λ e. absurd (memory-no_fault e);
       not_done = memory_cause.0;
-      beside = ([], turns-self told, tt);
+      beside = ([], turns-self (chunks_of g.X.Meaning.scheme) told, tt);
       later = le_refl _;
       fault = λ e. absurd (memory-no_fault e);
       opened = one_at_most c.args.session.opened;
@@ -47,7 +48,7 @@ returns-in-Ok-None g c =
       bad = λ e. sym (rw c.in-Ok-None.field-0-is at c.in-Ok-None.ensures);
       fault_command = λ e. absurd (bad-no_fault e);
       not_done = bad-not_done;
-      beside = ([], turns-self told, tt);
+      beside = ([], turns-self (chunks_of g.X.Meaning.scheme) told, tt);
       later = le_refl _;
       fault = λ e. absurd (bad-no_fault e);
       opened = one_at_most c.args.session.opened;

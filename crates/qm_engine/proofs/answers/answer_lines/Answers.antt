@@ -4,7 +4,7 @@ use Rattle.qm_model.specs.Own.{IsKept}
 use Rattle.qm_model.specs.Policies.{policies}
 use Rattle.qm_machine.specs.Grammar.{line_of, commands_in}
 use Rattle.qm_machine.specs.Machine.{initial, answers}
-use Rattle.qm_model.specs.Schemes.{engine_of}
+use Rattle.qm_model.specs.Schemes.{chunks_of, engine_of}
 use Rattle.qm_machine.specs.Text.{text_of}
 use Rattle.qm_machine.proofs.Sounds.{kept-low, sound-steady}
 use Rattle.qm_lines.proofs.Inputs.{at_start, at_end, at_bad}
@@ -27,11 +27,11 @@ loop-line-init g c =
       at = at_start c.args.input.now;
       room = omega arith;
       opened = omega (arith, c.in-Ok.ensures.opened);
-      beside = ([], turns-same (g.C.Store.told c.args.store) _ same);
+      beside = ([], turns-same (chunks_of g.X.Meaning.scheme) (g.C.Store.told c.args.store) _ same);
       later = omega (arith, ap g.C.Store.faults c.in-Ok.ensures.store);
       machine = λ stored log is own more rest told.
           subst (λ xs. Apart m.root (after m policies log (xs ++ rest) lines 0).had → (c.new-text.result.items ≡ text_of (answers m policies (initial log (xs ++ rest)) (take 0 lines))) × Between g.C.Store g.X.Meaning policies c.in-Ok.session rest (after m policies log (xs ++ rest) lines 0))
-          (sym (none-more (g.C.Store.told c.args.store) _ stored more is same told))
+          (sym (none-more (chunks_of g.X.Meaning.scheme) (g.C.Store.told c.args.store) _ stored more is same told))
           (λ apart. (c.new-text.ensures.items, begins-between g.C.Store g.X.Meaning policies c.in-Ok.session log rest (c.in-Ok.ensures.session log rest (log-of m policies (g.C.Store.told c.args.store) stored log is own) (kept-low m policies log own.kept) own.kept.stable) own.kept));
     }
 
@@ -43,7 +43,7 @@ returns-in-Err g c = record {
   done = λ e. absurd (memory_cause.0 e);
   bad = λ e. absurd (memory_cause.1 e);
   short = λ e. absurd (memory-not_fault e);
-  beside = ([], turns-same (g.C.Store.told c.args.store) _ (ap g.C.Store.told c.in-Err.ensures.back));
+  beside = ([], turns-same (chunks_of g.X.Meaning.scheme) (g.C.Store.told c.args.store) _ (ap g.C.Store.told c.in-Err.ensures.back));
   bound = omega arith;
   later = omega (arith, ap g.C.Store.faults c.in-Err.ensures.back);
   fault = λ e. absurd (memory-not_fault e);
@@ -58,13 +58,13 @@ returns-in-Some-ended g c =
     record {
       machine = each (g.C.Store.told c.args.store) (λ stored is log own choices told.
           rw (kept, c.returned.ensures.store) (subst (λ xs. IsAnswered m policies log xs (commands_in c.args.input.now) c.loop-line.answered c.loop-line.text.items (g.C.Store.told (store_given g.X.Meaning.inside c.answer_line-next.result.0.held)))
-          (sym (more-parts (g.C.Store.told c.args.store) _ _ stored before.0 behind.0 choices is before.1 behind.1 (rw c.returned.ensures.store at told)))
+          (sym (more-parts (chunks_of g.X.Meaning.scheme) (g.C.Store.told c.args.store) _ _ stored before.0 behind.0 choices is before.1 behind.1 (rw c.returned.ensures.store at told)))
           (answered_in c.args.input.now c.loop-line.rest.now c.in-Some.line.now c.in-Some.behind.now c.loop-line.answered c.loop-line.invariant.at c.in-Some.ensures.some
           m log (before.0 ++ behind.0) c.loop-line.text.items _
           (λ s. Between g.C.Store g.X.Meaning policies c.loop-line.session behind.0 s)
           (c.loop-line.invariant.machine stored log is own before.0 behind.0 before.1)
           (λ s between none. own-of m policies _ s.log (rw (sym (c.answer_line-next.ensures.unused none)) at between.stands.store.told) between.sound.kept)
-          (λ s between apart. line-own g.C.Store g.X.Meaning g.met.X.Common.plain c.loop-line.session behind.0 (line_of c.in-Some.line.now) _ s (rw c.returned.ensures.store at c.returned.ensures.stable) between apart
+          (λ s between apart. line-own g.C.Store g.X.Meaning c.loop-line.session behind.0 (line_of c.in-Some.line.now) _ s (rw c.returned.ensures.store at c.returned.ensures.stable) between apart
           (c.answer_line-next.ensures.left s between.stands (sound-steady m policies g.X.Meaning.bounds s between.sound) apart)))));
       done = λ e. absurd (ended-at _ c.in-Some-ended.is c.answer_line-next.ensures.not_done e);
       bad = λ e.
@@ -73,7 +73,7 @@ returns-in-Some-ended g c =
       short = λ e.
           at_short c.args.input.now c.loop-line.rest.now c.in-Some.line.now c.in-Some.behind.now c.loop-line.answered c.loop-line.invariant.at c.in-Some.ensures.some
           (line_of c.in-Some.line.now) refl (c.answer_line-next.ensures.fault_command (c.in-Some-ended.is ∙ ap Some e));
-      beside = rw c.returned.ensures.store (before.0 ++ behind.0, turns-through before.0 behind.0 (g.C.Store.told c.args.store) _ _ before.1 behind.1);
+      beside = rw c.returned.ensures.store (before.0 ++ behind.0, turns-through (chunks_of g.X.Meaning.scheme) before.0 behind.0 (g.C.Store.told c.args.store) _ _ before.1 behind.1);
       bound = omega (arith, c.loop-line.invariant.room);
       later = rw c.returned.ensures.store (omega (arith, c.loop-line.invariant.later, c.answer_line-next.ensures.later));
       fault = λ e.
@@ -94,10 +94,10 @@ loop-line-preserved g c =
       room = omega (arith, c.in-Some.ensures.shorter);
       opened = omega arith;
       later = omega arith;
-      beside = (before.0 ++ behind.0, turns-through before.0 behind.0 (g.C.Store.told c.args.store) _ _ before.1 behind.1);
+      beside = (before.0 ++ behind.0, turns-through (chunks_of g.X.Meaning.scheme) before.0 behind.0 (g.C.Store.told c.args.store) _ _ before.1 behind.1);
       machine = λ stored log is own more rest told.
           subst (λ xs. Apart m.root (after m policies log xs lines (k + 1)).had → (c.answer_line-next.new.text.items ≡ text_of (answers m policies (initial log xs) (take (k + 1) lines))) × Between g.C.Store g.X.Meaning policies c.answer_line-next.result.0 rest (after m policies log xs lines (k + 1)))
-          (sym (ap (λ xs. xs ++ rest) (more-parts (g.C.Store.told c.args.store) _ _ stored before.0 behind.0 more is before.1 behind.1 told) ∙ append_assoc before.0 behind.0 rest))
+          (sym (ap (λ xs. xs ++ rest) (more-parts (chunks_of g.X.Meaning.scheme) (g.C.Store.told c.args.store) _ _ stored before.0 behind.0 more is before.1 behind.1 told) ∙ append_assoc before.0 behind.0 rest))
           (line_step c.args.input.now c.loop-line.rest.now c.in-Some.line.now c.in-Some.behind.now k c.loop-line.invariant.at c.in-Some.ensures.some
           m log (before.0 ++ (behind.0 ++ rest)) (line_of c.in-Some.line.now) refl some c.loop-line.text.items c.answer_line-next.new.text.items
           (λ s. Between g.C.Store g.X.Meaning policies c.loop-line.session (behind.0 ++ rest) s)

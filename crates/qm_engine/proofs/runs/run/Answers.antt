@@ -2,7 +2,7 @@ use Rattle.std.proofs.Common.{◌≡◌, ◌+◌, ◌++◌, ◌∷◌, [], lengt
 use Rattle.std.proofs.lemmas.List.{length-map}
 use Rattle.qm_model.specs.Batches.{Apart}
 use Rattle.qm_machine.specs.Machine.{initial, answers, turn}
-use Rattle.qm_model.specs.Schemes.{engine_of}
+use Rattle.qm_model.specs.Schemes.{chunks_of, engine_of}
 use Rattle.qm_lines.specs.Views.{line_view, answer_view}
 use Rattle.qm_store.specs.Given.{store_given}
 use Rattle.qm_model.specs.Own.{IsKept}
@@ -25,10 +25,10 @@ loop-command-init g c =
       count = ap length c.new-replies.ensures.items;
       opened = omega (arith, c.in-Ok.ensures.opened);
       later = omega (arith, ap g.C.Store.faults c.in-Ok.ensures.store);
-      beside = ([], turns-same (g.C.Store.told c.args.store) _ same);
+      beside = ([], turns-same (chunks_of g.X.Meaning.scheme) (g.C.Store.told c.args.store) _ same);
       machine = λ stored log is own more rest told.
           subst (λ xs. Apart m.root (after m rules log (xs ++ rest) lines 0).had → (map a c.new-replies.result.items ≡ answers m rules (initial log (xs ++ rest)) (take 0 lines)) × Between g.C.Store g.X.Meaning rules c.in-Ok.session rest (after m rules log (xs ++ rest) lines 0))
-          (sym (none-more (g.C.Store.told c.args.store) _ stored more is same told))
+          (sym (none-more (chunks_of g.X.Meaning.scheme) (g.C.Store.told c.args.store) _ stored more is same told))
           (λ apart. (ap (map a) c.new-replies.ensures.items, begins-between g.C.Store g.X.Meaning rules c.in-Ok.session log rest (c.in-Ok.ensures.session log rest (log-of m rules (g.C.Store.told c.args.store) stored log is own) (kept-low m rules log own.kept) own.kept.stable) own.kept));
     }
 
@@ -43,7 +43,7 @@ returns-in-Err g c =
           (λ apart. (none, log-of g.X.Meaning.scheme g.P.Policy.rules _ stored log (ap g.C.Store.told c.in-Err.ensures.back ∙ is) own, own.kept)));
       done = λ e. absurd (end-memory_not_done e);
       short = λ e. absurd (end-memory_not_fault e);
-      beside = ([], turns-same (g.C.Store.told c.args.store) _ (ap g.C.Store.told c.in-Err.ensures.back));
+      beside = ([], turns-same (chunks_of g.X.Meaning.scheme) (g.C.Store.told c.args.store) _ (ap g.C.Store.told c.in-Err.ensures.back));
       later = omega (arith, ap g.C.Store.faults c.in-Err.ensures.back);
       fault = λ e. absurd (end-memory_not_fault e);
     }
@@ -59,18 +59,18 @@ returns-in-Some g c =
     record {
       machine = each (g.C.Store.told c.args.store) (λ stored is log own choices told.
           rw (kept, c.returned.ensures.store) (subst (λ xs. IsRun g.X.Meaning.scheme g.P.Policy.rules log xs (map f c.args.commands.now) (map a c.loop-command.replies.items) (g.C.Store.told (store_given g.X.Meaning.inside c.step-next.result.0.held)))
-          (sym (more-parts (g.C.Store.told c.args.store) _ _ stored before.0 behind.0 choices is before.1 behind.1 (rw c.returned.ensures.store at told)))
+          (sym (more-parts (chunks_of g.X.Meaning.scheme) (g.C.Store.told c.args.store) _ _ stored before.0 behind.0 choices is before.1 behind.1 (rw c.returned.ensures.store at told)))
           (ended_in g.X.Meaning.scheme g.P.Policy.rules log (before.0 ++ behind.0) (map f c.args.commands.now) i (f c.command-item.result) (map a c.loop-command.replies.items) _
           (λ s. Between g.C.Store g.X.Meaning g.P.Policy.rules c.loop-command.session behind.0 s)
           (rw (length-map c.args.commands.now f) c.loop-command-test.true)
           (line_here f c.args.commands.now i c.command-item.result c.loop-command-test.true c.command-item.is)
           (length-map c.loop-command.replies.items a ∙ c.loop-command.invariant.count)
           (c.loop-command.invariant.machine stored log is own before.0 behind.0 before.1)
-          (λ s between apart. own-left g.C.Store g.X.Meaning g.P.Policy.rules g.met.X.Common.plain c.loop-command.session behind.0 (f c.command-item.result) _ s (rw c.returned.ensures.store at c.returned.ensures.stable) between apart
+          (λ s between apart. own-left g.C.Store g.X.Meaning g.P.Policy.rules c.loop-command.session behind.0 (f c.command-item.result) _ s (rw c.returned.ensures.store at c.returned.ensures.stable) between apart
           (c.step-next.ensures.left s between.stands (sound-steady g.X.Meaning.scheme g.P.Policy.rules g.X.Meaning.bounds s between.sound) apart)))));
       done = λ e. absurd (ended-at _ c.in-Some.is c.step-next.ensures.not_done e);
       short = λ e. omega (arith, ap length kept, c.loop-command.invariant.count, c.loop-command-test.true);
-      beside = rw c.returned.ensures.store (before.0 ++ behind.0, turns-through before.0 behind.0 (g.C.Store.told c.args.store) _ _ before.1 behind.1);
+      beside = rw c.returned.ensures.store (before.0 ++ behind.0, turns-through (chunks_of g.X.Meaning.scheme) before.0 behind.0 (g.C.Store.told c.args.store) _ _ before.1 behind.1);
       later = rw c.returned.ensures.store (omega (arith, c.loop-command.invariant.later, c.step-next.ensures.later));
       fault = λ e.
           let rose = c.step-next.ensures.fault (c.in-Some.is ∙ ap Some e) in
@@ -93,10 +93,10 @@ loop-command-preserved g c =
       count = grown ∙ ap (λ n. n + 1) c.loop-command.invariant.count;
       opened = omega arith;
       later = omega arith;
-      beside = (before.0 ++ behind.0, turns-through before.0 behind.0 (g.C.Store.told c.args.store) _ _ before.1 behind.1);
+      beside = (before.0 ++ behind.0, turns-through (chunks_of g.X.Meaning.scheme) before.0 behind.0 (g.C.Store.told c.args.store) _ _ before.1 behind.1);
       machine = λ stored log is own more rest told.
           subst (λ xs. Apart m.root (after m rules log xs lines (i + 1)).had → (map a c.step-next.new.replies.items ≡ answers m rules (initial log xs) (take (i + 1) lines)) × Between g.C.Store g.X.Meaning rules c.step-next.result.0 rest (after m rules log xs lines (i + 1)))
-          (sym (ap (λ xs. xs ++ rest) (more-parts (g.C.Store.told c.args.store) _ _ stored before.0 behind.0 more is before.1 behind.1 told) ∙ append_assoc before.0 behind.0 rest))
+          (sym (ap (λ xs. xs ++ rest) (more-parts (chunks_of g.X.Meaning.scheme) (g.C.Store.told c.args.store) _ _ stored before.0 behind.0 more is before.1 behind.1 told) ∙ append_assoc before.0 behind.0 rest))
           (loop_step m rules log (before.0 ++ (behind.0 ++ rest)) lines (λ given. given) (λ given answer. given ++ answer ∷ []) (λ given answer. refl) i (f c.command-item.result) (map a c.loop-command.replies.items) (map a c.step-next.new.replies.items)
           (λ s. Between g.C.Store g.X.Meaning rules c.loop-command.session (behind.0 ++ rest) s)
           (λ s. Between g.C.Store g.X.Meaning rules c.step-next.result.0 rest s)

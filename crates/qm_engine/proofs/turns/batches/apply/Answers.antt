@@ -12,12 +12,12 @@ returns-in-None-clause-machine g c = λ opened s k sound more rest told choices.
 
 pub returns-in-Ok-clause-machine : goal.returns-in-Ok-clause-machine
 returns-in-Ok-clause-machine g c = λ opened s k sound more rest told choices.
-    apply_ok g.C.Store g.X.Meaning g.X.Key.ByteString.bytes g.X.Value.ByteString.bytes g.X.Digest.Digest.bytes (g.met.X.Common.bare, g.met.X.Common.plain) c.in-Database.x c.in-Ok.x c.args.table.now.items opened c.args.number c.in-Some.batch.now c.info-numbers.result.size s (rw c.in-Database.is at k) sound
+    apply_ok g.C.Store g.X.Meaning g.X.Key.ByteString.bytes g.X.Value.ByteString.bytes g.X.Digest.Digest.bytes g.met.X.Common.bare c.in-Database.x c.in-Ok.x c.args.table.now.items opened c.args.number c.in-Some.batch.now c.info-numbers.result.size s (rw c.in-Database.is at k) sound
     c.in-Ok.ensures.numbered c.in-Ok.ensures.fit c.in-Ok.ensures.applied c.in-Ok.ensures.grown (λ list stands. (c.info-numbers.ensures.list list stands).0) (sym c.in-Some.ensures)
 
 pub returns-in-Ok-clause-left : goal.returns-in-Ok-clause-left
 returns-in-Ok-clause-left g c = λ opened s k sound apart.
-    apply_left g.C.Store g.X.Meaning g.X.Key.ByteString.bytes g.X.Value.ByteString.bytes g.X.Digest.Digest.bytes (g.met.X.Common.bare, g.met.X.Common.plain) c.in-Database.x (g.C.Store.told (g.X.Meaning.inside c.in-Ok.x)) c.args.table.now.items opened c.args.number c.in-Some.batch.now s (rw c.in-Database.is at k) sound apart
+    apply_left g.C.Store g.X.Meaning g.X.Key.ByteString.bytes g.X.Value.ByteString.bytes g.X.Digest.Digest.bytes g.met.X.Common.bare c.in-Database.x (g.C.Store.told (g.X.Meaning.inside c.in-Ok.x)) c.args.table.now.items opened c.args.number c.in-Some.batch.now s (rw c.in-Database.is at k) sound apart
     (λ list chain tip stands is on.
     let fit = c.in-Ok.ensures.fit list chain tip stands is in
     rw fit (appended-part g.C.Store (g.X.Meaning.inside c.in-Database.x) (g.X.Meaning.inside c.in-Ok.x) (map (spelling g.X.Meaning.scheme.form) (drop (length list) tip)) (c.in-Ok.ensures.grown list chain tip stands is (on fit))).told)
@@ -30,7 +30,7 @@ returns-in-Err-clause-machine g c = λ opened s k sound more rest told choices.
 
 pub returns-in-Err-clause-left : goal.returns-in-Err-clause-left
 returns-in-Err-clause-left g c = λ opened s k sound apart.
-    apply_left g.C.Store g.X.Meaning g.X.Key.ByteString.bytes g.X.Value.ByteString.bytes g.X.Digest.Digest.bytes (g.met.X.Common.bare, g.met.X.Common.plain) c.in-Database.x (g.C.Store.told (store_given g.X.Meaning.inside c.in-Err.refusal.given)) c.args.table.now.items opened c.args.number c.in-Some.batch.now s (rw c.in-Database.is at k) sound apart
+    apply_left g.C.Store g.X.Meaning g.X.Key.ByteString.bytes g.X.Value.ByteString.bytes g.X.Digest.Digest.bytes g.met.X.Common.bare c.in-Database.x (g.C.Store.told (store_given g.X.Meaning.inside c.in-Err.refusal.given)) c.args.table.now.items opened c.args.number c.in-Some.batch.now s (rw c.in-Database.is at k) sound apart
     (λ list chain tip stands is on. (c.in-Err.ensures.kept list chain tip stands is).told) (sym c.in-Some.ensures)
 
 pub returns-in-Store-clause-left : goal.returns-in-Store-clause-left

@@ -1,3 +1,4 @@
+use Rattle.qm_model.specs.Schemes.{chunks_of}
 use Rattle.qm_engine.proofs.LastingCommands.{not_open-left, closed_turn, closed_left, same_handles}
 use Rattle.qm_engine.proofs.turns.lasting.close.Goals as goal
 
@@ -6,7 +7,7 @@ returns-in-Store-clause-left g c = λ table opened s k apart.
     rw c.without_database.ensures.given (not_open-left g.C.Store g.X.Meaning g.X.Key.ByteString.bytes g.X.Value.ByteString.bytes g.X.Digest.Digest.bytes c.in-Store.store table opened s _ (rw c.in-Store.is at k))
 
 pub returns-in-Store-clause-handles : goal.returns-in-Store-clause-handles
-returns-in-Store-clause-handles g c = rw (c.in-Store.is, c.without_database.ensures.given, c.without_database.ensures.turn) (same_handles g.C.Store c.in-Store.store _)
+returns-in-Store-clause-handles g c = rw (c.in-Store.is, c.without_database.ensures.given, c.without_database.ensures.turn) (same_handles (chunks_of g.X.Meaning.scheme) g.C.Store c.in-Store.store _)
 
 pub returns-in-Database-clause-machine : goal.returns-in-Database-clause-machine
 returns-in-Database-clause-machine g c = λ table opened s k.

@@ -1,5 +1,6 @@
 use Rattle.qm_model.proofs.Results.{err-then, ok-then}
-use Rattle.qm_any.proofs.OfferedStores.{leaves-now, untold}
+use Rattle.qm_model.specs.Mmr.{mmr}
+use Rattle.qm_any.proofs.OfferedStores.{leaves-now, untold, settled-beside, imaged-beside}
 use Rattle.qm_any.proofs.offer.durable.DbMmrFamilySha256Durable.commit.Goals as goal
 
 pub returns : goal.returns
@@ -10,7 +11,13 @@ returns g c =
       stands = said.stands;
       numbered = λ n is. ok-then r said.committed (λ new lasted. tt);
       start = ok-then r said.committed (λ new lasted. lasted.store.start);
-      told = ok-then r said.committed (λ new lasted. lasted.store.told);
+      store = ok-then r said.committed (λ new lasted. record { told = λ list writes. lasted.store.told; beside = settled-beside mmr g.U.Update.form _ _ lasted.store.told });
       later = ok-then r said.committed (λ new lasted. lasted.later);
-      failed = err-then r said.refused (λ e left. record { store = left.store; given = left.given; told = leaves-now _ _ _ left.left.told; never = untold e.error left.never; cause = left.cause });
+      failed = err-then r said.refused (λ e left. record {
+        store = left.store;
+        given = left.given;
+        left = record { told = λ list writes. leaves-now _ _ _ left.left.told; beside = imaged-beside mmr g.U.Update.form _ _ (leaves-now _ _ _ left.left.told) };
+        never = untold e.error left.never;
+        cause = left.cause;
+      });
     }

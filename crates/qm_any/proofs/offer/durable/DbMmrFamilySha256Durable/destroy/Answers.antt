@@ -10,5 +10,5 @@ returns g c =
       start = ok-then r said.destroyed (λ new emptied. emptied.start);
       told = ok-then r said.destroyed (λ new emptied. emptied.told);
       later = ok-then r said.destroyed (λ new emptied. emptied.later);
-      failed = err-then r said.refused (λ e left. record { store = left.store; given = left.given; told = leaves-now _ _ _ left.left.told; never = untold e.error left.never; cause = left.cause });
+      failed = err-then r said.refused (λ e left. record { store = left.store; given = left.given; left = leaves-now _ _ _ left.left.told; never = untold e.error left.never; cause = left.cause });
     }

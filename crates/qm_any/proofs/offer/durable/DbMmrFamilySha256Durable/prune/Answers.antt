@@ -4,12 +4,12 @@ use Rattle.std.proofs.lemmas.Bool.{cases_lt}
 use Rattle.qm_model.specs.Live.{floor}
 use Rattle.qm_model.specs.Operations.{Bytes, Operation}
 use Rattle.qm_model.specs.StoreModel.{settled, Becomes, Turns}
-use Rattle.qm_model.specs.Taken.{head_at, pruned_from, LeavesPruning}
+use Rattle.qm_model.specs.Taken.{head_at, after_prune, LeavesPrune}
 use Rattle.qm_base.specs.declared.error.Error.TheVariants as errors
 use Rattle.qm_any.specs.Databases.{IsDatabase}
 use Rattle.qm_any.specs.Lasting.{boundary_of, HasLeftPruned, HasLeftStable}
 use Rattle.qm_any.proofs.OfferedHeads.{scheme}
-use Rattle.qm_any.proofs.OfferedStores.{leaves-now, untold, heads-of, left-pruned, left-stable, pruned-same}
+use Rattle.qm_any.proofs.OfferedStores.{leaves-now, untold, heads-of, imaged-beside, left-pruned, left-stable, pruned-same, pruned-beside, unpruned-beside}
 use Rattle.qm_any.proofs.offer.durable.DbMmrFamilySha256Durable.prune.Goals as goal
 use Rattle.qm_any.specs.Offered.{sha256_hashing}
 use Rattle.qm_model.specs.Mmr.{mmr, mmr_births}
@@ -36,8 +36,11 @@ returns-in-Ok g c = record {
         head = made.head;
         heads = λ past list is few. subst (λ to. made.head ≡ head_at (scheme shape form) list to) same
             (heads-of mmr mmr_births mmr_is_family mmr_has_peaks g.C.Store form g.N.Chunks.LEN index_key old c.new.result made.head (made.heads (omega (arith, past, before, same))) list is (low list is) few);
-        told = subst (λ to. Becomes (g.C.Store.told old.log.store) (g.C.Store.told c.in-Ok.db.log.store) (pruned_from start to made.head)) same
-            (pruned-same (g.C.Store.told old.log.store) (g.C.Store.told c.in-Ok.db.log.store) old.log.tree.start start c.new.result made.head (sym before) made.told);
+        store = record {
+          told = λ list writes. subst (λ to. Becomes (g.C.Store.told old.log.store) (g.C.Store.told c.in-Ok.db.log.store) (after_prune (scheme shape form) list start to made.head)) same
+              (pruned-same shape form (g.C.Store.told old.log.store) (g.C.Store.told c.in-Ok.db.log.store) old.log.tree.start start c.new.result made.head (sym before) made.told list);
+          beside = pruned-beside shape form (g.C.Store.told old.log.store) (g.C.Store.told c.in-Ok.db.log.store) old.log.tree.start c.new.result made.head made.told;
+        };
         later = made.later;
       };
   refused = tt;
@@ -67,15 +70,22 @@ returns-in-Err g c = record {
         record {
           store = left.store;
           given = left.given;
-          told = ⊎_elim
-              (λ (kept : HasLeftStable g.C.Store old.log.store left.store). left-stable (g.C.Store.told old.log.store) (g.C.Store.told left.store) start IsHead c.args.to (leaves-now _ _ _ kept.told))
-              (λ (cut : HasLeftPruned g.C.Store (sha256_hashing shape form) settled c.new.result old.log left.store).
-              subst (λ to. Turns (g.C.Store.told old.log.store) (g.C.Store.told left.store) (LeavesPruning start IsHead to)) same
-              (left-pruned (g.C.Store.told old.log.store) (g.C.Store.told left.store) start IsHead c.new.result cut.head (omega (arith, cut.past, before))
-              (λ list is few. subst (λ to. cut.head ≡ head_at (scheme shape form) list to) same
-              (heads-of mmr mmr_births mmr_is_family mmr_has_peaks g.C.Store form g.N.Chunks.LEN index_key old c.new.result cut.head cut.heads list is (omega (arith, c.prune.ensures.boundary list is, within)) few))
-              cut.told))
-              left.left;
+          left = record {
+            told = λ over writes. ⊎_elim
+                (λ (kept : HasLeftStable g.C.Store old.log.store left.store). left-stable shape form over (g.C.Store.told old.log.store) (g.C.Store.told left.store) start IsHead c.args.to (leaves-now _ _ _ kept.told))
+                (λ (cut : HasLeftPruned g.C.Store (sha256_hashing shape form) settled c.new.result old.log left.store).
+                subst (λ to. Turns (g.C.Store.told old.log.store) (g.C.Store.told left.store) (LeavesPrune (scheme shape form) over start IsHead to)) same
+                (left-pruned shape form over (g.C.Store.told old.log.store) (g.C.Store.told left.store) start IsHead c.new.result cut.head (omega (arith, cut.past, before))
+                (λ list is few. subst (λ to. cut.head ≡ head_at (scheme shape form) list to) same
+                (heads-of mmr mmr_births mmr_is_family mmr_has_peaks g.C.Store form g.N.Chunks.LEN index_key old c.new.result cut.head cut.heads list is (omega (arith, c.prune.ensures.boundary list is, within)) few))
+                cut.told))
+                left.left;
+            beside = ⊎_elim
+                (λ (kept : HasLeftStable g.C.Store old.log.store left.store). imaged-beside shape form (g.C.Store.told old.log.store) (g.C.Store.told left.store) (leaves-now _ _ _ kept.told))
+                (λ (cut : HasLeftPruned g.C.Store (sha256_hashing shape form) settled c.new.result old.log left.store).
+                unpruned-beside shape form (g.C.Store.told old.log.store) (g.C.Store.told left.store) c.new.result cut.head cut.told)
+                left.left;
+          };
           never = untold c.in-Err.refused.error left.never;
           cause = left.cause;
         },
