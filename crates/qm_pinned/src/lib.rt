@@ -1,0 +1,11 @@
+//! The metadata by which the store of a current database counts its pruned chunks: how many those are, and the pins of the
+//! grafted tree there.
+#![tactic(auto)]
+
+mod error;
+mod pinned;
+mod written;
+
+pub use error::MetadataError;
+pub use pinned::{Pinned, read};
+pub use written::entries;
