@@ -70,11 +70,11 @@ fn scanned(alloc: Global, call: u64) -> Result<String, Error> {
 #[test]
 fn a_scan_loses_no_key_where_a_read_is_refused(rt: HostRuntime) -> Result<(), Fail> {
     let alloc = rt.alloc();
-    let mut refused = 0;
+    let mut refused: u32 = 0;
     for call in 0..30 {
         let told = scanned(alloc, call).unwrap_or(String::new(alloc));
         if told.as_str() != "abc....." {
-            refused += 1;
+            refused = refused.saturating_add(1);
             assert!(rt; ["", "!abc....", "a!bc....", "ab!c...."].contains(&told.as_str()));
         }
     }
