@@ -1,6 +1,6 @@
 -- Why the list of a batch was not made, and how the parts of one that was agree.
 use Rattle.std.proofs.Common.{◌≡◌, ◌≢◌, ◌∙◌, ◌⊎◌, ℕ, suc, ◌+◌, ◌≤◌, arith, ap, ap₂, sym, subst, refl, Bool, true, false, List, ◌∷◌, ◌++◌, length, map, Option, None, inl, inr}
-use Rattle.std.specs.Prelude.{Contains}
+use Rattle.std.specs.Prelude.{All, Contains}
 use Rattle.std.proofs.lemmas.List.{length-map}
 use Rattle.qm_model.specs.Forms.{Form, spelling}
 use Rattle.qm_model.specs.Operations.{Bytes, Operation}
@@ -12,7 +12,7 @@ use Rattle.qm_model.specs.Writes.{Write}
 use Rattle.qm_base.specs.declared.error.Error.{Error}
 use Rattle.qm_base.specs.declared.error.Error.TheVariants as errors
 use Rattle.qm_base.specs.declared.error.JournalError.TheVariants as journal
-use Rattle.qm_merkle.specs.Batches.{lists_since}
+use Rattle.qm_merkle.specs.Batches.{lists_since, stops}
 use Rattle.qm_chain.specs.Bounds.{is_at}
 use Rattle.qm_store.specs.declared.Store as store
 use Rattle.qm_store.specs.KeptTrees.{KeptTree, IsKeptTree}
@@ -20,7 +20,7 @@ use Rattle.qm_store.specs.Log.{Log}
 use Rattle.qm_store.specs.Reads.{IsReadError}
 use Rattle.qm_step.specs.Bases.{Base, IsBase}
 use Rattle.qm_step.specs.Views.{Plan, IsPlan, stepped}
-use Rattle.qm_any.specs.Databases.{AreLinked, Begun, Made, IsBegun, IsMade, base_of, bases_of, child_boundary, child_made, child_tips, is_on, kept_by}
+use Rattle.qm_any.specs.Databases.{AreLinked, Begun, Made, IsBegun, IsChild, IsMade, base_of, bases_of, child_boundary, child_made, child_tips, is_on, kept_by}
 use Rattle.qm_any.specs.Layouts.{Hashing, list_root, spellings}
 use Rattle.qm_any.specs.Making.{IsUnmade}
 use Rattle.qm_any.specs.Tips.{IsRefused, IsSpelled, IsTaken, IsTooLong}
@@ -38,6 +38,13 @@ pub on-same : {D : Type 0} (batch : Begun D) (parent : Made D) (keep : ℕ) (at 
 on-same batch parent keep at current above few same =
     ap (λ k. is_at k (child_boundary keep parent.bounds) (child_tips keep parent.bounds)) same
     ∙ ap₂ (λ (n : ℕ) (m : Made _). is_at current (child_boundary n m.bounds) (child_tips n m.bounds)) few above
+
+-- a batch of a plan on a parent is its child
+pub child-of : {D : Type 0} (batch : Begun D) (parent : Made D) (keep : ℕ) (plan : Plan) (tree : KeptTree D) (root : Bytes) (meta : Option Bytes) (made : Made D) → parent ≡ batch.parent → keep ≡ batch.keep
+    → made ≡ child_made parent keep plan tree root meta → All (λ n. made.bounds.db.size ≤ n) (stops made.tree.leaves made.tree.layers) → IsChild batch.parent batch.keep made
+child-of batch parent keep plan tree root meta made above few is high =
+    subst (λ p. IsChild p batch.keep made) above (subst (λ k. IsChild parent k made) few
+    (record { base = ap (λ m. m.bounds.base) is; db = ap (λ m. m.bounds.db) is; ancestors = ap (λ m. m.bounds.ancestors) is; above = high }))
 
 -- what a test at these states says of a child
 pub tested-at : {D : Type 0} (parent : Made D) (keep : ℕ) (current db : Commitment) (tips : List Commitment) (t : Bool) → db ≡ child_boundary keep parent.bounds → tips ≡ child_tips keep parent.bounds → is_at current db tips ≡ t

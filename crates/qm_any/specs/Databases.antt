@@ -155,6 +155,13 @@ child_made parent keep plan tree root meta = record {
   metadata = meta;
 }
 
+-- a batch starts where its parent ends, keeps the first `keep` of its ancestors, counting the parent, and nothing of what led to its boundary
+pub record IsChild {D : Type 0} (parent : Made D) (keep : ℕ) (batch : Made D) : Type 0 where
+  pub base : batch.bounds.base ≡ parent.bounds.tip
+  pub db : batch.bounds.db ≡ child_boundary keep parent.bounds
+  pub ancestors : batch.bounds.ancestors ≡ child_tips keep parent.bounds
+  pub above : All (λ n. batch.bounds.db.size ≤ n) (stops batch.tree.leaves batch.tree.layers)
+
 -- each kept ancestor makes the list from which the newer one starts, and the newest makes this one
 abbrev pub AreLinked : List Operation → List Kept → Type 0
 AreLinked base [] = ⊤

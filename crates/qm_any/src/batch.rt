@@ -8,7 +8,7 @@ ghost use Rattle.qm_model.specs.Operations.{Operation};
 ghost use Rattle.qm_model.specs.Proofs.{ops_proof, pins_at};
 ghost use Rattle.qm_model.specs.Trees as trees;
 ghost use Rattle.qm_model.specs.Writes.{read_through};
-ghost use Rattle.qm_merkle.specs.Batches.{layers_at, stops};
+ghost use Rattle.qm_merkle.specs.Batches.{AreLinked, layers_at, stops};
 ghost use Rattle.qm_proofs.specs.Proofs.{proof_view, first_lacked, needed_positions};
 ghost use Rattle.qm_chain.specs.Bounds.{commitment_view, is_at, knows};
 ghost use Rattle.qm_step.specs.Bases.{base_view};
@@ -235,6 +235,7 @@ impl<F: Family, D: Digest, U: Update> MerkleizedBatch<F, D, U> {
     /// after the batch's boundary. Older nodes are in a database at a state that the batch knows, unless it has pruned them.
     pub fn get_node(&self, position: Position<F>) -> Option<D>
         ensures exact { result ≡ layers_at F.shape self.now.tree.layers position }
+        ensures linked { AreLinked F.shape self.now.tree.leaves self.now.tree.layers }
         ensures held { (hash : List ℕ → List ℕ) (chain : Chain) (tip : List Operation)
             → IsMade (hashing_with D.bytes hash F.shape U.form) self.now chain tip
             → (IsSome result

@@ -331,6 +331,8 @@ impl<
             → ⟦<Self as LaidOut>⟧.stands self list
             → IsMade ⟦<Self as LaidOut>⟧.layout.hashing batch.now chain tip → IsOnChain list chain
             → IfOk result (λ next. ⟦<Self as LaidOut>⟧.stands next tip) }
+        ensures moved { IfOk result (λ next. (next.commitment ≡ batch.now.bounds.tip)
+            × (next.activity.pruned ≡ self.activity.pruned)) }
         ensures fits { OnOk result (can_apply self batch.now ≡ true) }
         ensures appends { (chain : Chain) (tip : List Operation)
             → IsMade ⟦<Self as LaidOut>⟧.layout.hashing batch.now chain tip
@@ -381,6 +383,7 @@ impl<
         ensures rest { IfOk result (λ next. (next.commitment ≡ batch.now.bounds.tip)
             × (next.floor ≡ batch.now.bounds.inactivity_floor) × (next.live ≡ batch.now.live)
             × (next.metadata ≡ option_map (λ m. U.Value.bytes m.value) lacking.entry.metadata)) }
+        ensures pruned { IfOk result (λ next. next.activity.pruned ≡ self.activity.pruned) }
         ensures grown { IfOk result (λ next. Appended C.Store self.log.store next.log.store
             (map (λ v. v.items) lacking.entry.items.items)) }
         ensures later { IfOk result (λ next. C.faults self.log.store ≤ C.faults next.log.store) }
@@ -582,6 +585,7 @@ impl<
         ensures first { C.start self.now.log.store ≡ self.now.log.tree.start }
         ensures end { result.1 ≡ self.now.commitment.size }
         ensures few { self.now.commitment.size ≤ 2 ^ 62 }
+        ensures bits { bit_count N.LEN self.now.activity ≡ self.now.commitment.size }
     {
         let (start, size) = self.log.bounds();
         (Location::new(start), Location::new(size))
@@ -654,6 +658,7 @@ impl<
     /// The tree over the list.
     pub fn tree(&self) -> &Mem<F, H::Digest>
         ensures value { result.now ≡ self.now.log.tree }
+        ensures size { self.now.log.tree.leaves ≡ self.now.commitment.size }
         ensures stands { AtList C.Store ⟦<Self as LaidOut>⟧.layout self.now (λ list.
             Stands F.shape H.Digest.bytes H.hash result.now
             (trees.leaves_from H.hash F.shape U.form 0 list)) }
@@ -819,6 +824,7 @@ fn indexed<
     ensures rest { IfOk result (λ next. (next.commitment ≡ batch.now.bounds.tip)
         × (next.floor ≡ batch.now.bounds.inactivity_floor) × (next.live ≡ batch.now.live)
         × (next.metadata ≡ option_map (λ m. U.Value.bytes m.value) metadata)) }
+    ensures pruned { IfOk result (λ next. next.activity.pruned ≡ state.activity.pruned) }
     ensures back { IfErr result (λ r.
         (r.given ≡ Given.Store log.store) × (r.error ≡ Error.Memory)) }
 {
@@ -864,6 +870,7 @@ fn brought_up<
         → IsIndexed I.index_key (I.entries index.old) list
         → OnOk result (IsIndexed I.index_key (I.entries index.new) tip) }
     ensures count { OnOk result (bit_count N.LEN activity.new ≡ size) }
+    ensures pruned { OnOk result (activity.new.pruned ≡ activity.old.pruned) }
     ensures active { (list tip : List Operation)
         → LeadTo (map (λ d. changes_view K.bytes V.bytes d.value) diffs.now) list tip
         → IsCommitEnded list → size ≡ length tip → all_bits N.LEN activity.old ≡ bits list

@@ -1,13 +1,12 @@
 //! Staged batches: keys that were read through a batch, so that they are not looked up again when it is merkleized.
 
-ghost use Rattle.std.specs.Prelude.{◌≡◌, ◌≤◌, ◌+◌, ◌++◌, ◌==◌, true, length, map, option_map, IfOk, All, IfErr, OnOk};
+ghost use Rattle.std.specs.Prelude.{◌≡◌, ◌≤◌, ◌+◌, ◌++◌, ◌==◌, true, length, map, option_map, IfOk, IfErr, OnOk};
 ghost use Rattle.qm_base.specs.Slots.{slot_views, write_views};
 ghost use Rattle.qm_model.specs.Slots.{slotted};
 ghost use Rattle.qm_model.specs.Writes.{read_through};
-ghost use Rattle.qm_merkle.specs.Batches.{stops};
 ghost use Rattle.qm_step.specs.Lent.{NoneBelow};
 ghost use Rattle.qm_step.specs.Views.{reads_view};
-ghost use Rattle.qm_any.specs.Databases.{IsMade, IsLeft, IsStaged, is_on, staged_keys};
+ghost use Rattle.qm_any.specs.Databases.{IsChild, IsMade, IsLeft, IsStaged, is_on, staged_keys};
 ghost use Rattle.qm_any.specs.Making.{IsMaking, IsUnmade, making_of};
 ghost use Rattle.qm_any.specs.Reading.{IsOfKeptItem, ReadsThrough, AtBegun, AtList, AtStaged, OnBegun, OnStaged};
 
@@ -109,8 +108,7 @@ impl<F: Family, D: Digest, U: Update> UnmerkleizedBatch<F, D, U> {
             (making_of P.rules policy.old self.writes (option_map U.Value.bytes metadata)) chain
             policy.new db.old.log db.new.log result
             (λ b. IsMade ⟦<Db<F, C, I, H, U, N> as LaidOut>⟧.layout.hashing b.value chain)) }
-        ensures above { IfOk result (λ b.
-            All (λ n. b.value.bounds.db.size ≤ n) (stops b.value.tree.leaves b.value.tree.layers)) }
+        ensures child { IfOk result (λ b. IsChild self.parent self.keep b.value) }
         ensures unmade { IfErr result (IsUnmade C.Store (is_on db.old.commitment self) db.old.log
             db.new.log) }
         ensures whole { AtList C.Store ⟦<Db<F, C, I, H, U, N> as LaidOut>⟧.layout db.old (λ list.
@@ -221,8 +219,8 @@ impl<F: Family, D: Digest, U: Update> Staged<F, D, U> {
             (write_views U.Key.bytes U.Value.bytes others.now)) (option_map U.Value.bytes metadata))
             chain policy.new db.old.log db.new.log result
             (λ b. IsMade ⟦<Db<F, C, I, H, U, N> as LaidOut>⟧.layout.hashing b.value chain)) }
-        ensures above { IfOk result (λ b.
-            All (λ n. b.value.bounds.db.size ≤ n) (stops b.value.tree.leaves b.value.tree.layers)) }
+        ensures child { IfOk result (λ b.
+            IsChild self.batch.parent self.batch.keep b.value) }
         ensures unmade { IfErr result (IsUnmade C.Store (is_on db.old.commitment self.batch)
             db.old.log db.new.log) }
         ensures whole { AtList C.Store ⟦<Db<F, C, I, H, U, N> as LaidOut>⟧.layout db.old (λ list.

@@ -30,6 +30,8 @@ pub fn apply_bits<F, K: ByteString, V: ByteString, N: Chunks, M: Marks<N>>(
     requires not_below { bit_count N.LEN (M.bitmap activity.old) ≤ size }
     requires few { size ≤ 2 ^ 62 }
     ensures count { OnOk result (bit_count N.LEN (M.bitmap activity.new) ≡ size) }
+    ensures pruned { OnOk result
+        ((M.bitmap activity.new).pruned ≡ (M.bitmap activity.old).pruned) }
     ensures active { (from tip : List Operation)
         → LeadTo (map (λ d. changes_view K.bytes V.bytes d.value) diffs.now) from tip
         → IsCommitEnded from → size ≡ length tip

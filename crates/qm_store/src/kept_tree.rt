@@ -3,7 +3,7 @@
 ghost use Rattle.std.specs.Prelude.{◌≡◌, ◌≤◌, ◌<◌, ◌↔◌, ◌+◌, ◌^◌, ◌++◌, ◌∷◌, ℕ, [], List, None, Contains, All, length, map, IsSome, IfSome, IfOk, IfErr, OnOk, OnErr};
 ghost use Rattle.qm_model.specs.Proofs.{proof_of};
 ghost use Rattle.qm_model.specs.Trees as trees;
-ghost use Rattle.qm_merkle.specs.Batches.{all_layers, layers_at, layers_since, stops, stops_since, lists_since, IsHistory};
+ghost use Rattle.qm_merkle.specs.Batches.{AreLinked, all_layers, layers_at, layers_since, stops, stops_since, lists_since, IsHistory};
 ghost use Rattle.qm_merkle.specs.Mems.{Stands};
 ghost use Rattle.qm_proofs.specs.Proofs.{proof_view, first_lacked, needed_positions};
 ghost use Rattle.qm_store.specs.Log.{digests_from, IsLacked, IsLog};
@@ -207,6 +207,7 @@ impl<F: Family, D: Digest> KeptTree<F, D> {
     /// behind the oldest of them.
     pub fn get_node(&self, position: Position<F>) -> Option<D>
         ensures exact { result ≡ layers_at F.shape self.now.layers position }
+        ensures linked { AreLinked F.shape self.now.leaves self.now.layers }
         ensures held { (boundary : ℕ) → All (IsAdding F.shape) self.now.layers
             → Contains (stops self.now.leaves self.now.layers) boundary
             → All (λ n. boundary ≤ n) (stops self.now.leaves self.now.layers)

@@ -1,5 +1,6 @@
-use Rattle.std.proofs.Common.{◌∙◌, inl, inr, arith}
+use Rattle.std.proofs.Common.{◌∙◌, ap, inl, inr, arith}
 use Rattle.std.proofs.lemmas.Result.{on_ok_weaker, on_err_weaker}
+use Rattle.qm_bits.specs.Bitmaps.{Bitmap}
 use Rattle.qm_overlay.proofs.Laying.{on_ok, on_err, ok_of_err}
 use Rattle.qm_overlay.proofs.Shifting.{extended-count, bits-begun, bits-done}
 use Rattle.qm_overlay.proofs.steps.apply_bits.Goals as goal
@@ -13,6 +14,7 @@ extend_to-requires-clause-bounded g c = c.requires.few
 pub returns-in_err-extend_to : goal.returns-in_err-extend_to
 returns-in_err-extend_to g c = record {
   count = ok_of_err _ c.from_residual.result c.from_residual.ensures.0;
+  pruned = ok_of_err _ c.from_residual.result c.from_residual.ensures.0;
   active = λ from tip lead ended long is. ok_of_err _ c.from_residual.result c.from_residual.ensures.0;
   below = ok_of_err _ c.from_residual.result c.from_residual.ensures.0;
   err = on_err c.from_residual.result (inl c.in_err-extend_to.ensures.err);
@@ -21,6 +23,7 @@ returns-in_err-extend_to g c = record {
 pub returns-in_err-unmark : goal.returns-in_err-unmark
 returns-in_err-unmark g c = record {
   count = ok_of_err _ c.from_residual-in_err-unmark.result c.from_residual-in_err-unmark.ensures.0;
+  pruned = ok_of_err _ c.from_residual-in_err-unmark.result c.from_residual-in_err-unmark.ensures.0;
   active = λ from tip lead ended long is. ok_of_err _ c.from_residual-in_err-unmark.result c.from_residual-in_err-unmark.ensures.0;
   below = ok_of_err _ c.from_residual-in_err-unmark.result c.from_residual-in_err-unmark.ensures.0;
   err = on_err c.from_residual-in_err-unmark.result (inr c.in_err-unmark.ensures.err);
@@ -29,6 +32,7 @@ returns-in_err-unmark g c = record {
 pub returns-in_err-move_bits : goal.returns-in_err-move_bits
 returns-in_err-move_bits g c = record {
   count = ok_of_err _ c.from_residual-in_err-move_bits.result c.from_residual-in_err-move_bits.ensures.0;
+  pruned = ok_of_err _ c.from_residual-in_err-move_bits.result c.from_residual-in_err-move_bits.ensures.0;
   active = λ from tip lead ended long is. ok_of_err _ c.from_residual-in_err-move_bits.result c.from_residual-in_err-move_bits.ensures.0;
   below = ok_of_err _ c.from_residual-in_err-move_bits.result c.from_residual-in_err-move_bits.ensures.0;
   err = on_err c.from_residual-in_err-move_bits.result (inr c.in_err-move_bits.ensures.err);
@@ -37,6 +41,7 @@ returns-in_err-move_bits g c = record {
 pub returns : goal.returns
 returns g c = record {
   count = on_ok c.mark.result (c.mark.ensures.count ∙ c.in_ok-move_bits.ensures.alike.count ∙ c.unmark.ensures.count ∙ extended-count g.N.Chunks.LEN (g.M.Marks.bitmap c.args.activity.now) (g.M.Marks.bitmap c.extend_to.new.self) c.args.size c.requires.not_below c.in_ok-extend_to.ensures.ok);
+  pruned = on_ok c.mark.result (c.mark.ensures.pruned ∙ c.in_ok-move_bits.ensures.alike.pruned ∙ c.unmark.ensures.pruned ∙ ap (λ (m : Bitmap). m.pruned) c.in_ok-extend_to.ensures.ok);
   active = λ from tip lead ended long is.
       let size = g.N.Chunks.LEN in
       let old = g.M.Marks.bitmap c.args.activity.now in

@@ -1,8 +1,8 @@
 use Rattle.std.proofs.Common.{◌≡◌, ◌∙◌, ◌↔◌, ◌≤◌, ◌<◌, All, Contains, map, ap, sym, subst, IsSome}
 use Rattle.std.specs.Prelude.{IfSome}
 use Rattle.qm_model.specs.Trees.{digest_of}
-use Rattle.qm_merkle.specs.Batches.{layers_at, stops}
-use Rattle.qm_store.specs.KeptTrees.{IsAdding, IsKeptTree}
+use Rattle.qm_merkle.specs.Batches.{AreLinked, layers_at, stops}
+use Rattle.qm_store.specs.KeptTrees.{KeptTree, IsAdding, IsKeptTree}
 use Rattle.qm_store.proofs.Leaves.{leaves-spelled}
 use Rattle.qm_any.specs.Layouts.{hashing_with, spellings}
 use Rattle.qm_any.specs.Databases.{AreAgreed, bases_of}
@@ -33,3 +33,6 @@ returns-clause-value g c = λ hash chain tip made x at.
     subst (λ ds. IfSome c.get_node.result (λ d. bytes d ≡ digest_of hash shape ds x)) (sym (leaves-spelled hash shape g.U.Update.form 0 tip))
     (c.get_node.ensures.value hash (spellings hashing tip) older
     (subst (λ t. IsKeptTree bytes hash shape t (spellings hashing tip) older) (sym (ap (λ b. b.tree) c.self.view_is)) made.tree) x at)
+
+pub returns-clause-linked : goal.returns-clause-linked
+returns-clause-linked g c = subst (λ (t : KeptTree g.row.D.Denot). AreLinked g.F.Family.shape t.leaves t.layers) (ap (λ b. b.tree) c.self.view_is) c.get_node.ensures.linked

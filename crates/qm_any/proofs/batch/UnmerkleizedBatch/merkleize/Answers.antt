@@ -18,7 +18,7 @@ returns g c =
       makes = λ list chain above is begun on.
           subst (λ ws. IsMaking g.C.Store form (making_of g.P.Policy.rules c.args.policy.now ws meta) chain c.merkleize.new.policy c.args.db.now.log c.merkleize.new.db.log c.merkleize.result (λ b. IsMade hashing b.value chain)) writes
           (c.merkleize.ensures.makes list chain above is (record { begun = begun; reads = staged-none g.U.Update.view key chain.base _ c.new.ensures.items }) on);
-      above = c.merkleize.ensures.above;
+      child = c.merkleize.ensures.child;
       unmade = c.merkleize.ensures.unmade;
       whole = c.merkleize.ensures.whole;
       left = c.merkleize.ensures.left;

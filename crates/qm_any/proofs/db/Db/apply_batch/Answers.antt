@@ -1,6 +1,6 @@
 use Rattle.std.proofs.Common.{arith, ◌≡◌, ◌∙◌, ◌≤◌, true, false, [], ap, refl, sym, subst, inr, map}
 use Rattle.std.specs.Prelude.{Contains, if◌then◌else◌}
-use Rattle.qm_model.proofs.Results.{err-then, ok-then}
+use Rattle.qm_model.proofs.Results.{err-then, ok-four, ok-then}
 use Rattle.qm_merkle.specs.Batches.{stops}
 use Rattle.qm_chain.specs.Bounds.{is_at}
 use Rattle.qm_step.specs.Views.{changes_view}
@@ -30,6 +30,7 @@ returns-in-Ok g c =
           applied g.C.Store (layout_of g.N.Chunks.LEN g.H.Digest.Digest.bytes g.H.Hasher g.F.Family g.U.Update g.I.Unordered) c.args.self next c.args.batch.now list chain tip n items changes is made on
           (ap (λ db. db.commitment.size) c.self.view_is) c.in-Ok.ensures.items c.in-Ok.ensures.diffs log index active
           (rest.0, rest.1, rest.2, rest.3 ∙ c.in-Ok.ensures.metadata) grown);
+      moved = ok-four c.moved.result c.moved.ensures.rest c.moved.ensures.pruned c.moved.ensures.rest c.moved.ensures.pruned (λ next rest pruned _ _. (rest.0, pruned));
       fits =
           let bounds = c.args.batch.now.bounds in
           on-ok c.moved.result (subst (λ k. is_at k bounds.db bounds.ancestors ≡ true) (ap (λ db. db.commitment) c.self.view_is) c.in-Ok.ensures.fits);
@@ -79,6 +80,7 @@ returns-in-Err g c =
     let old = c.args.self.log.store in
     record {
       stands = λ list chain tip is made on. tt;
+      moved = tt;
       fits = tt;
       appends = λ chain tip made. record { grown = tt; part = unchanged-appended-part g.C.Store old old _ (record { start = refl; told = refl }) };
       rest = record { start = refl; others = refl; later = omega arith };

@@ -45,6 +45,7 @@ returns-in-Ok g c =
           ok-then c.indexed.result c.indexed.ensures.active (λ next takes. λ list tip lead ended size from.
           takes list tip lead ended size (subst (λ db. all_bits g.N.Chunks.LEN db.activity ≡ bits list) c.into_parts-log.ensures.whole from));
       rest = c.indexed.ensures.rest;
+      pruned = ok-then c.indexed.result c.indexed.ensures.pruned (λ next is. is ∙ sym (ap (λ db. db.activity.pruned) c.into_parts-log.ensures.whole));
       grown =
           ok-then c.indexed.result c.indexed.ensures.log (λ next is.
           three (λ (a b : g.row.C.Denot) (xs : List Bytes). Appended g.C.Store a b xs) (ap (λ db. db.log.store) (sym c.into_parts-log.ensures.whole)) (sym (ap (λ l. l.store) is)) (ap (map (λ v. v.items)) c.deref.ensures.value)
@@ -76,6 +77,7 @@ returns-in-Err g c =
       index = tt;
       active = tt;
       rest = tt;
+      pruned = tt;
       grown = tt;
       later = tt;
       part =

@@ -8,7 +8,7 @@ use Rattle.qm_model.specs.Live.{floor}
 use Rattle.qm_model.specs.Operations.{Operation}
 use Rattle.qm_model.specs.Slots.{slotted}
 use Rattle.qm_base.specs.Slots.{slot_views, write_views}
-use Rattle.qm_model.proofs.Results.{err-then, ok-then}
+use Rattle.qm_model.proofs.Results.{err-then, ok-four, ok-then}
 use Rattle.qm_base.specs.declared.error.Error.TheVariants as errors
 use Rattle.qm_chain.specs.Bounds.{commitment_view}
 use Rattle.qm_operations.specs.Views.{operation_view, operation_views}
@@ -22,7 +22,7 @@ use Rattle.qm_any.proofs.Reading.{left-database, left-none}
 use Rattle.qm_any.proofs.Reasons.{on-ok}
 use Rattle.qm_any.proofs.Staging.{slotted-reads, staged-reads}
 use Rattle.qm_any.proofs.Telling.{three}
-use Rattle.qm_any.proofs.Unmade.{child-found, child-on, child-stepped, made-leaves, on-same, plan-taken, unplaced, unplaced-kept, unplaced-refused, unread, unsealed, unspelled, unspelled-kept, unspelled-refused}
+use Rattle.qm_any.proofs.Unmade.{child-found, child-of, child-on, child-stepped, made-leaves, on-same, plan-taken, unplaced, unplaced-kept, unplaced-refused, unread, unsealed, unspelled, unspelled-kept, unspelled-refused}
 use Rattle.qm_any.proofs.staged.Staged.merkleize.Goals as goal
 
 pub returns-in_err-child : goal.returns-in_err-child
@@ -42,7 +42,7 @@ returns-in_err-child g c =
         next = IfOk-from_err c.from_residual.result _ c.from_residual.ensures.0;
         refused = rw (exit.1, exit.2) (inl (unplaced-refused g.U.Update.form chain.base _ (is_on c.args.db.now.commitment c.args.self.batch) e refusal));
       };
-      above = IfOk-from_err c.from_residual.result _ c.from_residual.ensures.0;
+      child = IfOk-from_err c.from_residual.result _ c.from_residual.ensures.0;
       unmade = rw (exit.1, exit.2) unmade;
       whole = λ list is none low. rw (exit.1, exit.2) (unplaced-kept (is_on c.args.db.now.commitment c.args.self.batch) e refusal);
       left = left-none g.C.Store (hashing_with g.D.Digest.bytes g.H.Hasher.hash g.F.Family.shape g.U.Update.form) c.args.db.now;
@@ -64,7 +64,7 @@ returns-in_err-plan g c =
         next = IfOk-from_err c.from_residual-in_err-plan.result _ c.from_residual-in_err-plan.ensures.0;
         refused = rw (exit.1, exit.2) (inr failed);
       };
-      above = IfOk-from_err c.from_residual-in_err-plan.result _ c.from_residual-in_err-plan.ensures.0;
+      child = IfOk-from_err c.from_residual-in_err-plan.result _ c.from_residual-in_err-plan.ensures.0;
       unmade = rw (exit.1, exit.2) unmade;
       whole = λ list is none low.
           let floor = ap (λ b. b.floor) c.base.ensures.value ∙ ap (λ m. m.bounds.inactivity_floor) (c.parts-keep.ensures.parent ∙ ap (λ b. b.parent) batch) in
@@ -107,7 +107,7 @@ returns-in_err-tree g c =
             (sym (length-map c.deref-2.result.now (operation_view view key value)) ∙ ap length given) in
             rw (exit.1, exit.2) (inl (unspelled-refused form c.in_ok-plan.plan chain.base _ size e plan count refusal));
       };
-      above = IfOk-from_err c.from_residual-in_err-tree.result _ c.from_residual-in_err-tree.ensures.0;
+      child = IfOk-from_err c.from_residual-in_err-tree.result _ c.from_residual-in_err-tree.ensures.0;
       unmade = rw (exit.1, exit.2) unmade;
       whole = λ list is none low. rw (exit.1, exit.2) (unspelled-kept (map (spelling g.U.Update.form) c.in_ok-plan.plan.operations) size e refusal);
       left = subst (IsLeft g.C.Store (hashing_with g.D.Digest.bytes g.H.Hasher.hash g.F.Family.shape g.U.Update.form) c.args.db.now) (sym c.grown.ensures.same) c.in_ok-plan.ensures.left;
@@ -198,7 +198,8 @@ returns g c =
             next = on-ok c.sealed.result (subst (λ ws. c.plan.new.policy ≡ left_after form g.P.Policy.rules chain.base ws c.args.policy.now) writes planned.1);
             refused = err-then c.sealed.result c.sealed.ensures.memory (λ e memory. inl (inl memory));
           };
-      above = c.sealed.ensures.above;
+      child = ok-four c.sealed.result c.sealed.ensures.value c.sealed.ensures.above c.sealed.ensures.value c.sealed.ensures.above (λ b made above _ _.
+          child-of c.args.self.batch c.parts-keep.result.0.now c.parts-keep.result.1 _ _ _ _ b.value (c.parts-keep.ensures.parent ∙ ap (λ b. b.parent) batch) (c.parts-keep.ensures.keep ∙ ap (λ b. b.keep) batch) made above);
       unmade = err-then c.sealed.result c.sealed.ensures.memory (λ e memory. unsealed g.C.Store (is_on c.args.db.now.commitment c.args.self.batch) c.args.db.now.log c.grown.new.self.log e here memory);
       whole = λ list is none low. err-then c.sealed.result c.sealed.ensures.memory (λ e memory n pruned. absurd (cc (memory, pruned)));
       left = subst (IsLeft g.C.Store (hashing_with g.D.Digest.bytes g.H.Hasher.hash g.F.Family.shape g.U.Update.form) c.args.db.now) (sym c.grown.ensures.same) c.in_ok-plan.ensures.left;

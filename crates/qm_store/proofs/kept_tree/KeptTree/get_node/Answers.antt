@@ -23,6 +23,7 @@ found-in g c = ap (λ ls. layers_at g.F.Family.shape ls c.args.position) (layers
 pub returns-in-Some : goal.returns-in-Some
 returns-in-Some g c = record {
   exact = sym (found-in g c);
+  linked = linked-in g c;
   held = λ boundary adding reach above.
       let shape = g.F.Family.shape in
       subst (λ o. IsSome o ↔ ((shape.size boundary ≤ c.args.position) × (c.args.position < shape.size c.args.self.now.leaves))) (found-in g c)
@@ -40,6 +41,9 @@ returns-in-None g c = record {
   exact =
       let none : c.args.self.now.layers ≡ [] = sym (ap (λ t. t.layers) c.self.view_is) ∙ ap layers_of c.in-None.is in
       sym (ap (λ ls. layers_at g.F.Family.shape ls c.args.position) none);
+  linked =
+      let none : c.args.self.now.layers ≡ [] = sym (ap (λ t. t.layers) c.self.view_is) ∙ ap layers_of c.in-None.is in
+      subst (AreLinked g.F.Family.shape c.args.self.now.leaves) (sym none) tt;
   held = λ boundary adding reach above.
       let shape = g.F.Family.shape in
       let none : c.args.self.now.layers ≡ [] = sym (ap (λ t. t.layers) c.self.view_is) ∙ ap layers_of c.in-None.is in
