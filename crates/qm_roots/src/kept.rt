@@ -73,9 +73,9 @@ pub struct Tip<'a, D, O> {
 /// Where a batch is made: the database's grafted tree and bits, how many of its parent's steps the database lacks, and how many
 /// the batch keeps.
 #[derive(Drop)]
-pub struct Place<'a, F: Graftable, N: Chunks, D: Digest> {
+pub struct Place<'a, 'b, F: Graftable, N: Chunks, D: Digest> {
     pub canonical: &'a Canonical<F, N, D>,
-    pub bits: &'a Prunable<N>,
+    pub bits: &'b Prunable<N>,
     pub lacking: usize,
     pub keep: usize,
 }
@@ -112,6 +112,19 @@ impl<F: Graftable, N: Chunks, D: Digest> Kept<F, N, D> {
         ensures { D.bytes result ≡ self.now.root }
     {
         self.root
+    }
+
+    /// How many of the newest steps a database of this size lacks, where one of the lists that they lead through has it: the fewest.
+    pub fn lacking(&self, size: u64) -> usize
+        ensures { (n : ℕ) → n < length (sizes_of self.now) → get_or (sizes_of self.now) n 0 ≡ size
+            → (result ≤ n) × (get_or (sizes_of self.now) result 0 ≡ size) }
+    {
+        for steps in 0..self.overlays.len() {
+            if self.size_before(steps) == size {
+                return steps;
+            }
+        }
+        self.overlays.len()
     }
 
     // The size of the list before the newest steps.
@@ -235,7 +248,7 @@ impl<F: Graftable, N: Chunks, D: Digest> Kept<F, N, D> {
         &self,
         alloc: Global,
         hasher: &mut StandardHasher<H>,
-        place: &Place<'_, F, N, D>,
+        place: &Place<'_, '_, F, N, D>,
         tip: &Tip<'_, D, O>,
         bits: &BitmapBatch<'_, N>,
         overlay: &ChunkOverlay<N>,
@@ -294,7 +307,7 @@ impl<F: Graftable, N: Chunks, D: Digest> Kept<F, N, D> {
         &self,
         alloc: Global,
         hasher: &mut StandardHasher<H>,
-        place: &Place<'_, F, N, D>,
+        place: &Place<'_, '_, F, N, D>,
         diffs: &[Rc<Diff<F, K, V>>],
         tip: &Tip<'_, D, O>,
     ) -> Result<Self, MerkleError>
