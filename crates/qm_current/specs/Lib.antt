@@ -1,0 +1,3 @@
+pub mod Databases
+pub mod Applying
+pub mod Making
