@@ -1,18 +1,24 @@
 //! Batches of current databases.
 
-ghost use Rattle.std.specs.Prelude.{◌≡◌, ◌++◌, ◌∷◌, suc, min, [], List, None, Some, length, option_map, IfOk};
+ghost use Rattle.std.specs.Prelude.{◌≡◌, ◌++◌, ◌∷◌, suc, min, [], List, None, Some, length, map, option_map, IfOk};
 ghost use Rattle.qm_model.specs.Batches.{Chain, child_of};
+ghost use Rattle.qm_model.specs.Live as lives;
 ghost use Rattle.qm_model.specs.Operations.{Operation};
+ghost use Rattle.qm_model.specs.Writes.{read_through};
 ghost use Rattle.qm_any.specs.Layouts.{Hashing};
+ghost use Rattle.qm_any.specs.Reading.{AtBegun, AtMade, ReadsThrough};
 ghost use Rattle.qm_current.specs.Databases.{IsBegun, IsMade};
 
+use crate::db::Db;
 use qm_any::batch as any;
-use qm_base::{ByteString, Digest};
+use qm_any::db::{Db as AnyDb, LaidOut};
+use qm_base::{ByteString, Digest, Error, Hasher, Location};
 use qm_bits::Chunks;
 use qm_chunks::Graftable;
 use qm_merkle::Family;
 use qm_operations::{Update, ValueEncoding};
 use qm_roots::Kept;
+use qm_store::Store;
 use std::alloc::{AllocError, Global};
 use std::marker::Model;
 use std::rc::Rc;
@@ -70,11 +76,45 @@ impl<F: Graftable, D: Digest, U: Update, N: Chunks> UnmerkleizedBatch<F, D, U, N
         Ok(UnmerkleizedBatch { any, parent, keep })
     }
 
-    /// The any batch, which reads of keys go through.
+    /// The any batch.
     pub fn any(&self) -> &any::UnmerkleizedBatch<F, D, U>
         ensures { result.now ≡ self.now.any }
     {
         &self.any
+    }
+
+    /// The value of a key on the batch's base list under its writes, read over a database at a state that the batch's parent knows, as the any batch reads it.
+    pub fn get<C: Store, I: qm_index::Unordered<Value = Location<F>>, H: Hasher<Digest = D>>(
+        &self,
+        alloc: Global,
+        key: &U::Key,
+        db: &mut Db<F, C, I, H, U, N>,
+    ) -> Result<Option<U::Value>, Error>
+        ensures value { AtBegun C.Store ⟦<AnyDb<F, C, I, H, U, N> as LaidOut>⟧.layout db.old.any
+            self.now.any (λ chain above. IfOk result (λ v. option_map U.Value.bytes v
+            ≡ read_through chain.base self.now.any.writes (U.Key.bytes key.now))) }
+        ensures reads { ReadsThrough C.Store ⟦<AnyDb<F, C, I, H, U, N> as LaidOut>⟧.layout
+            db.old.any db.new.any result self.now.any.parent.bounds }
+        ensures rest { db.new ≡ record db.old { any = db.new.any } }
+    {
+        self.any.get(alloc, key, &mut db.any)
+    }
+
+    /// The values of keys, in their order, on the batch's base list under its writes, read over a database at a state that the batch's parent knows, as the any batch reads them.
+    pub fn get_many<C: Store, I: qm_index::Unordered<Value = Location<F>>, H: Hasher<Digest = D>>(
+        &self,
+        alloc: Global,
+        keys: &[U::Key],
+        db: &mut Db<F, C, I, H, U, N>,
+    ) -> Result<Vec<Option<U::Value>>, Error>
+        ensures values { AtBegun C.Store ⟦<AnyDb<F, C, I, H, U, N> as LaidOut>⟧.layout db.old.any
+            self.now.any (λ chain above. IfOk result (λ v. map (option_map U.Value.bytes) v.items
+            ≡ map (λ k. read_through chain.base self.now.any.writes (U.Key.bytes k)) keys.now)) }
+        ensures reads { ReadsThrough C.Store ⟦<AnyDb<F, C, I, H, U, N> as LaidOut>⟧.layout
+            db.old.any db.new.any result self.now.any.parent.bounds }
+        ensures rest { db.new ≡ record db.old { any = db.new.any } }
+    {
+        self.any.get_many(alloc, keys, &mut db.any)
     }
 }
 
@@ -93,11 +133,45 @@ impl<F: Graftable, D: Digest, U: Update, N: Chunks> MerkleizedBatch<F, D, U, N> 
         self.any.root()
     }
 
-    /// The any batch, which reads of keys go through.
+    /// The any batch.
     pub fn any(&self) -> &any::MerkleizedBatch<F, D, U>
         ensures { result.now ≡ self.now.any }
     {
         &self.any
+    }
+
+    /// The value of a key on the list that the batch makes, read over a database at a state that the batch knows, as the any batch reads it.
+    pub fn get<C: Store, I: qm_index::Unordered<Value = Location<F>>, H: Hasher<Digest = D>>(
+        &self,
+        alloc: Global,
+        key: &U::Key,
+        db: &mut Db<F, C, I, H, U, N>,
+    ) -> Result<Option<U::Value>, Error>
+        ensures value { AtMade C.Store ⟦<AnyDb<F, C, I, H, U, N> as LaidOut>⟧.layout db.old.any
+            self.now.any (λ chain tip. IfOk result (λ v.
+            option_map U.Value.bytes v ≡ lives.value_of tip (U.Key.bytes key.now))) }
+        ensures reads { ReadsThrough C.Store ⟦<AnyDb<F, C, I, H, U, N> as LaidOut>⟧.layout
+            db.old.any db.new.any result self.now.any.bounds }
+        ensures rest { db.new ≡ record db.old { any = db.new.any } }
+    {
+        self.any.get(alloc, key, &mut db.any)
+    }
+
+    /// The values of keys, in their order, on the list that the batch makes, read over a database at a state that the batch knows, as the any batch reads them.
+    pub fn get_many<C: Store, I: qm_index::Unordered<Value = Location<F>>, H: Hasher<Digest = D>>(
+        &self,
+        alloc: Global,
+        keys: &[U::Key],
+        db: &mut Db<F, C, I, H, U, N>,
+    ) -> Result<Vec<Option<U::Value>>, Error>
+        ensures values { AtMade C.Store ⟦<AnyDb<F, C, I, H, U, N> as LaidOut>⟧.layout db.old.any
+            self.now.any (λ chain tip. IfOk result (λ v. map (option_map U.Value.bytes) v.items
+            ≡ map (λ k. lives.value_of tip (U.Key.bytes k)) keys.now)) }
+        ensures reads { ReadsThrough C.Store ⟦<AnyDb<F, C, I, H, U, N> as LaidOut>⟧.layout
+            db.old.any db.new.any result self.now.any.bounds }
+        ensures rest { db.new ≡ record db.old { any = db.new.any } }
+    {
+        self.any.get_many(alloc, keys, &mut db.any)
     }
 
     /// Begins a batch on the list that this one makes. It keeps this one and all that this one keeps.
