@@ -12,10 +12,10 @@ ghost use Rattle.qm_model.proofs.MmrPeaks.{mmr_has_peaks};
 
 mod batches;
 mod durable;
-mod listed;
+pub(crate) mod listed;
 mod ordered;
 mod proofs;
-mod ranges;
+pub(crate) mod ranges;
 mod reads;
 mod staged;
 

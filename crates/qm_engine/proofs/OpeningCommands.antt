@@ -5,13 +5,14 @@ use Rattle.std.specs.List.{AllByRecursion as Each}
 use Rattle.std.specs.List.{drop-map}
 use Rattle.std.proofs.lemmas.List.Elements.{All-take, All-drop, recursion_from_All}
 use Rattle.qm_model.specs.Causes.{Rose}
+use Rattle.qm_model.specs.Grafted.{grafted_pins}
 use Rattle.qm_model.specs.Live.{floor}
 use Rattle.qm_model.specs.Operations.{Bytes, Operation}
 use Rattle.qm_model.specs.Forms.{Form, IsOf, spelling, decoded}
 use Rattle.qm_model.specs.Own.{taken_up}
 use Rattle.qm_model.specs.Own as own
 use Rattle.qm_model.specs.Policies.{policies}
-use Rattle.qm_model.specs.Opening.{Chunks, opens, refuses, found, found_with, selected, size_of, opening_refusal, opening_of, opening, opened_list}
+use Rattle.qm_model.specs.Opening.{Chunks, count_in, pins_found, opens, refuses, found, found_with, selected, size_of, opening_refusal, opening_of, opening, opened_list}
 use Rattle.qm_model.specs.Refused as refusals
 use Rattle.qm_model.specs.StoreModel.{Stored}
 use Rattle.qm_model.specs.StoreModel as model
@@ -41,7 +42,7 @@ use Rattle.qm_engine.specs.declared.session.Turn.{Turn}
 use Rattle.qm_engine.specs.declared.session.Turn.TheVariants.{Reply}
 use Rattle.qm_engine.specs.Turn.{turn_of_error}
 use Rattle.qm_engine.specs.Stores.{HasLog, IsLeft}
-use Rattle.qm_model.specs.Taken.{IsTaken, head_at, selected_size, taken, LeavesOpening}
+use Rattle.qm_model.specs.Taken.{IsTaken, HasPins, head_at, selected_size, taken, LeavesOpening}
 use Rattle.qm_engine.specs.Session.{Holds, Handles}
 use Rattle.qm_engine.proofs.LastingStores.{IsBare, Counts, turned, turns-beside, items-cut, head-cut, stored-taken, left_taken, left_opening}
 use Rattle.qm_engine.proofs.LastingCommands.{fault-told}
@@ -98,6 +99,12 @@ module _ {X C B S M K V D : Type 0} (members : stores.Ghosts C) (means : meaning
   refuses_is : (r : refusals.Refused) → due ≡ Some r → opening (layout_of means.scheme) (found_in means.scheme s.log) bound ≡ refuses r
   refuses_is r is = ap (λ o. opening_of o size) is
 
+  -- what metadata counts of a log's list, a store with that metadata has the pins of
+  pins_of : (chunks : Option Chunks) (log : own.Log) (t u : Stored) → t.metadata ≡ u.metadata → own.MetadataIs (engine_of means.scheme policies) chunks log t → HasPins chunks means.scheme u log.list
+  pins_of None log t u same is = tt
+  pins_of (Some c) log t u same is = subst (λ metas. let entries = model.metadata_in metas c.name in pins_found means.scheme.shape entries (count_in entries) ≡ map (λ pin. Some pin) (grafted_pins means.scheme.hash means.scheme.shape c.height means.scheme.form log.list (count_in entries))) same
+      (subst (λ n. pins_found means.scheme.shape (model.metadata_in t.metadata c.name) n ≡ map (λ pin. Some pin) (grafted_pins means.scheme.hash means.scheme.shape c.height means.scheme.form log.list n)) (sym is.count) is.pins)
+
   module _ (accepted : due ≡ None) where
     abbrev list : List Operation
     list = opened_list size s.log.list
@@ -129,7 +136,12 @@ module _ {X C B S M K V D : Type 0} (members : stores.Ghosts C) (means : meaning
         by zero e = omega (arith, begins, ap length (bare e))
         by (suc j) e = opens-behind means.scheme s.log bound begins j (opens_is accepted ∙ ap opens e)
 
-    -- the store has the list that is taken up
+    -- the store has the log that is taken up
+    stored_is : (n : ℕ) → size ≡ n → own.IsStored (engine_of means.scheme policies) (taken_up (opened_list n s.log.list) s.log) (taken means.scheme n stored)
+    stored_is n e = subst (λ n. own.IsStored (engine_of means.scheme policies) (taken_up (opened_list n s.log.list) s.log) (taken means.scheme n stored)) e
+        (stored-taken means.scheme peakless s.log stored size counts k.store.told.has behind bare few)
+
+    -- and the list
     taken_is : IsTaken means.scheme stored size list
     taken_is = by size refl
       where
@@ -147,6 +159,7 @@ module _ {X C B S M K V D : Type 0} (members : stores.Ghosts C) (means : meaning
                 items = items-cut means.scheme peakless s.log stored has (suc j) behind_so
                     ∙ (sym (drop-map (spelling means.scheme.form) s.log.start (take (suc j) s.log.list)) ∙ ap (λ n. drop n (map (spelling means.scheme.form) (take (suc j) s.log.list))) (sym has.start));
                 head = head-cut means.scheme peakless s.log stored has (suc j) behind_so ∙ ap (head_at means.scheme (take (suc j) s.log.list)) (sym has.start);
+                grafted = pins_of (chunks_of means.scheme) (taken_up (opened_list (suc j) s.log.list) s.log) (taken means.scheme (suc j) stored) stored refl (stored_is (suc j) e).metadata;
               },
               steady.ring bound (suc j) opens_so,
             )
@@ -157,7 +170,7 @@ module _ {X C B S M K V D : Type 0} (members : stores.Ghosts C) (means : meaning
         record {
           stored = taken means.scheme size stored;
           is = t.1 ∙ ap Some (t.2 ∙ ap (λ n. taken means.scheme n stored) size_is);
-          has = stored-taken means.scheme peakless s.log stored size counts k.store.told.has behind bare few;
+          has = stored_is size refl;
         }
 
   offered : IfSome (members.told (store_given means.inside held)) (λ t. opening_refusal (layout_of means.scheme) (found (layout_of means.scheme) t) bound ≡ None) → due ≡ None

@@ -1,10 +1,10 @@
 -- Metadata that was written is read.
-use Rattle.std.proofs.Common.{◌≡◌, ℕ, zero, suc, ◌+◌, ◌*◌, ◌<◌, ◌≤◌, ◌^◌, true, false, List, [], ◌∷◌, ◌++◌, length, map, take, drop, refl, ap, sym, ◌∙◌, Option, Some, None, arith, length-append, append_assoc, inl, inr}
-use Rattle.std.specs.Prelude.{nat_lt, ◌==◌, ◌||◌, not, if◌then◌else◌, find, filter_map, option_map, is_none, bytes_eq}
-use Rattle.std.specs.List.{list_any, concat, AllByRecursion as Each}
+use Rattle.std.proofs.Common.{◌≡◌, ℕ, zero, suc, ◌+◌, ◌*◌, ◌<◌, ◌≤◌, ◌^◌, false, List, [], ◌∷◌, ◌++◌, length, map, drop, refl, ap, sym, ◌∙◌, Option, Some, None, arith, append_assoc, inl, inr}
+use Rattle.std.specs.Prelude.{nat_lt, ◌==◌, ◌||◌, not, if◌then◌else◌, find, option_map, is_none, bytes_eq}
+use Rattle.std.specs.List.{list_any, AllByRecursion as Each}
 use Rattle.std.proofs.lemmas.Bool.{eq-eqb}
 use Rattle.std.proofs.lemmas.Bool.Decides.{nat_tests}
-use Rattle.std.proofs.lemmas.List.{take_at, drop_at, length-map}
+use Rattle.std.proofs.lemmas.List.{length-map}
 use Rattle.qm_model.specs.Operations.{Bytes, eight_bytes}
 use Rattle.qm_model.specs.Forms.{number_of_eight}
 use Rattle.qm_model.specs.Trees.{Node, Shape, peaks, leaves_from}

@@ -1,5 +1,5 @@
 -- Reads in key order: neighbours, which do not go round, spans and ranges.
-use Rattle.std.specs.Prelude.{◌≡◌, refl, ℕ, Bool, true, ◌&&◌, not, List, [], ◌∷◌, filter, filter_map, Option, Some, None, option_map, option_and_then}
+use Rattle.std.specs.Prelude.{◌≡◌, refl, Bool, true, ◌&&◌, not, List, [], ◌∷◌, filter, filter_map, Option, Some, None, option_map, option_and_then}
 use Rattle.std.specs.Option.{option_or}
 use Rattle.qm_model.specs.Operations.{Bytes, Operation, update, commit}
 use Rattle.qm_model.specs.Live.{Live, live, live_of, live_keys, value_of}

@@ -4,7 +4,7 @@ use Rattle.qm_model.specs.Operations.{Bytes, Operation}
 use Rattle.qm_model.specs.Forms.{Form}
 use Rattle.qm_model.specs.Trees.{Shape, ops_root, peaks}
 use Rattle.qm_model.specs.Live.{floor}
-use Rattle.qm_model.specs.Grafted.{boundary}
+use Rattle.qm_model.specs.Grafted.{boundary, canonical}
 use Rattle.qm_model.specs.Walk.{Rules}
 use Rattle.qm_model.specs.Step.{Kind, ordered, unordered}
 use Rattle.qm_model.specs.Proofs.{Proof, ops_proof, pins_at}
@@ -51,6 +51,21 @@ any_scheme hash shape size form = record {
   proof = ops_proof hash shape form;
   pins = pins_at hash shape form;
   grafts = None;
+}
+
+-- that of current databases with these chunks, which offer no proofs of keys and ranges
+abbrev pub current_scheme : (Bytes → Bytes) → Shape → ℕ → Form → Chunks → Scheme
+current_scheme hash shape size form c = record {
+  form = form;
+  shape = shape;
+  hash = hash;
+  digest_size = size;
+  root = ops_root hash shape form;
+  canonical = canonical hash shape c.height form;
+  boundary = boundary shape c.height;
+  proof = ops_proof hash shape form;
+  pins = pins_at hash shape form;
+  grafts = Some (record { chunks = c; checks = None });
 }
 
 -- the kind of its databases

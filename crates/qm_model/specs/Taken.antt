@@ -1,5 +1,5 @@
 -- What an opening makes of a store, and a prune, by a scheme.
-use Rattle.std.specs.Prelude.{◌≡◌, ◌-◌, ◌⊎◌, ◌<◌, ℕ, zero, suc, min, nat_lt, if◌then◌else◌, List, length, map, take, drop, All, true, false, Option, None, Some, bytes_eq}
+use Rattle.std.specs.Prelude.{◌≡◌, ◌-◌, ◌⊎◌, ◌<◌, ℕ, zero, suc, min, nat_lt, if◌then◌else◌, List, length, map, take, drop, All, true, false, Option, None, Some, bytes_eq, ⊤}
 use Rattle.std.specs.Option.{option_map_or}
 use Rattle.std.specs.List.{concat}
 use Rattle.qm_model.specs.Operations.{Bytes, Operation, fresh}
@@ -7,14 +7,21 @@ use Rattle.qm_model.specs.Forms.{IsOf, spelling}
 use Rattle.qm_model.specs.Ordered.{IsRing}
 use Rattle.qm_model.specs.Proofs.{pins_at}
 use Rattle.qm_model.specs.Step.{IsGood}
-use Rattle.qm_model.specs.Opening.{Chunks, found, selected, size_of, count_in, entries_of}
-use Rattle.qm_model.specs.Grafted.{metadata}
+use Rattle.qm_model.specs.Opening.{Chunks, found, selected, size_of, count_in, entries_of, pins_found}
+use Rattle.qm_model.specs.Grafted.{metadata, grafted_pins}
 use Rattle.qm_model.specs.StoreModel.{Named, Stored, metadata_in, with_metadata, end_of, appended, settled, rewound, pruned, HasAppended, RewindLeaves, IsImage, IsOldOrNew, ReadsAs}
 use Rattle.qm_model.specs.Schemes.{Scheme, layout_of, chunks_of, chunks_after}
 
 -- the pins of what a list has before a location, one behind another
 abbrev pub head_at : Scheme → List Operation → ℕ → Bytes
 head_at m list to = concat (pins_at m.hash m.shape m.form (take to list) to)
+
+-- a store has the pins of the grafted tree of this list over as many chunks as its metadata counts; an any database has none
+abbrev pub HasPins : Option Chunks → Scheme → Stored → List Operation → Type 0
+HasPins None m s list = ⊤
+HasPins (Some c) m s list =
+    let entries = metadata_in s.metadata c.name in
+    pins_found m.shape entries (count_in entries) ≡ map (λ pin. Some pin) (grafted_pins m.hash m.shape c.height m.form list (count_in entries))
 
 -- a store has a list of such databases up to a size: its items from the start on, and the pins of what stands before it
 pub record HasList (m : Scheme) (s : Stored) (size : ℕ) (list : List Operation) : Type 0 where
@@ -23,6 +30,7 @@ pub record HasList (m : Scheme) (s : Stored) (size : ℕ) (list : List Operation
   pub good : IsGood list
   pub items : take (size - s.start) s.items ≡ drop s.start (map (spelling m.form) list)
   pub head : s.head ≡ head_at m list s.start
+  pub grafted : HasPins (chunks_of m) m s list
 
 -- the list that is taken up where this number of items is selected, the fresh one where none are; the links of an ordered one form a ring
 abbrev pub IsTaken : Scheme → Stored → ℕ → List Operation → Type 0
@@ -86,11 +94,3 @@ LeavesPrune m list start IsHead to s new =
     ReadsAs s.stable (IsImage s) new
     ⊎ (ReadsAs (end_of s) (IsOldOrNew (with_count m list (chunks_after m.grafts (counted_in m s) to)) (settled s)) new
     ⊎ ((start < to) × (head : Bytes) × IsHead head × ReadsAs (end_of s) (IsOldOrNew (pruned to head) (before_prune m list to s)) new))
-
--- a store after a prune to a location, with this head, which makes all stable first; it is as it was before where it starts there or behind
-abbrev pub pruned_from : ℕ → ℕ → Bytes → Stored → Stored
-pruned_from start to head s = if nat_lt start to then pruned to head (settled s) else settled s
-
--- and after one that failed: what was stable stays, or, where the location is behind the start, all of it, pruned or not
-abbrev pub LeavesPruning : ℕ → (Bytes → Type 0) → ℕ → Stored → Stored → Type 0
-LeavesPruning start IsHead to s new = ReadsAs s.stable (IsImage s) new ⊎ ((start < to) × (head : Bytes) × IsHead head × ReadsAs (end_of s) (IsOldOrNew (pruned to head) (settled s)) new)

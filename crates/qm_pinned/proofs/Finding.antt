@@ -1,6 +1,6 @@
 -- Entries by their keys, pins by their numbers, and why they can't be read.
 use Rattle.std.proofs.Common.{◌≡◌, ℕ, zero, suc, ◌+◌, ◌*◌, ◌<◌, ◌^◌, Bool, true, false, List, [], ◌∷◌, ◌++◌, length, map, take, get_or, refl, ap, sym, ◌∙◌, subst, Option, Some, None, inl, inr, arith, length-append, append_assoc, append-nil, add-one}
-use Rattle.std.specs.Prelude.{◌⊎◌, nat_lt, ◌||◌, not, if◌then◌else◌, option_map, unwrap_or, is_some, is_none}
+use Rattle.std.specs.Prelude.{nat_lt, ◌||◌, not, if◌then◌else◌, option_map, unwrap_or, is_some, is_none}
 use Rattle.std.specs.Bool.{◌==◌}
 use Rattle.std.specs.List.{list_any}
 use Rattle.std.specs.Option.{option_or}
@@ -18,10 +18,11 @@ use Rattle.qm_model.specs.Refused.{Corrupt, CountNotValid, CountTooLarge, Missin
 use Rattle.qm_model.specs.Opening.{Layout, Chunks, entry_of, entries_of, metadata_key, count_bytes, count_in, numbered_pins, pins_found, pruned_bits, is_wrong_size, when, first_refusal, metadata_refusal}
 use Rattle.qm_model.proofs.Numbers.{length-eight_bytes, number_of_eight-eight_bytes}
 use Rattle.qm_model.proofs.Proving.{true_or_false}
-use Rattle.qm_pinned.specs.declared.error.MetadataError.{MetadataError}
-use Rattle.qm_pinned.specs.declared.error.MetadataError.TheVariants as errors
-use Rattle.qm_pinned.specs.Views.{corrupt_of}
-use Rattle.qm_pinned.specs.Metadata.{IsLaidOut, counting, numbered, digest_in, count_refusal, pins_refusal}
+use Rattle.qm_base.specs.declared.error.Corrupt as base
+use Rattle.qm_base.specs.declared.error.Error.{Error}
+use Rattle.qm_base.specs.declared.error.Error.TheVariants.{DataCorrupted}
+use Rattle.qm_base.specs.Views.{corrupt_view}
+use Rattle.qm_pinned.specs.Metadata.{IsLaidOut, TellsWhy, counting, numbered, digest_in, count_refusal, pins_refusal}
 
 -- By key.
 
@@ -69,7 +70,7 @@ wrong-size size (Some b) there none = elim (true_or_false (length b == size)) [
 ]
 
 -- one that is there and has not a digest's size, where none is missing
-pub invalid : (size : ℕ) (es : List Entry) (n m : ℕ) → n < m → list_any is_none (numbered es m) ≡ false → digest_in size (entry_of es (metadata_key 0 n)) ≡ None → Some InvalidPin ≡ pins_refusal size (numbered es m)
+pub invalid : (size : ℕ) (es : List Entry) (n m : ℕ) → n < m → list_any is_none (numbered es m) ≡ false → digest_in size (entry_of es (metadata_key 0 n)) ≡ None → pins_refusal size (numbered es m) ≡ Some InvalidPin
 invalid size es n m low there none =
     let here : is_none (entry_of es (metadata_key 0 n)) ≡ false = elim (true_or_false (is_none (entry_of es (metadata_key 0 n)))) [
       | inl lost ↦
@@ -78,7 +79,7 @@ invalid size es n m low there none =
       | inr found ↦ found
     ] in
     let wrong : list_any (is_wrong_size size) (numbered es m) ≡ true = any-at (is_wrong_size size) es n m low (wrong-size size (entry_of es (metadata_key 0 n)) here none) in
-    sym (ap (λ t. first_refusal (when t MissingPin ∷ when (list_any (is_wrong_size size) (numbered es m)) InvalidPin ∷ [])) there ∙ ap (λ t. first_refusal (None ∷ when t InvalidPin ∷ [])) wrong)
+    ap (λ t. first_refusal (when t MissingPin ∷ when (list_any (is_wrong_size size) (numbered es m)) InvalidPin ∷ [])) there ∙ ap (λ t. first_refusal (None ∷ when t InvalidPin ∷ [])) wrong
 
 digest-there : (size : ℕ) (o : Option Bytes) (b : Bytes) → Some b ≡ digest_in size o → o ≡ Some b
 digest-there size None b is = absurd (cc)
@@ -175,23 +176,32 @@ refusal-split shape size height layout es laid =
         ap (λ h. n * 2 ^ h) same
 
 -- what was read can be read
-pub all-read : (shape : Shape) (size height k : ℕ) (layout : Layout) (es : List Entry) → IsLaidOut shape size height layout → None ≡ count_refusal height es → k ≡ length (peaks shape (count_in es)) → None ≡ pins_refusal size (numbered es k)
+pub all-read : (shape : Shape) (size height k : ℕ) (layout : Layout) (es : List Entry) → IsLaidOut shape size height layout → count_refusal height es ≡ None → k ≡ length (peaks shape (count_in es)) → None ≡ pins_refusal size (numbered es k)
     → metadata_refusal layout es ≡ None
 all-read shape size height k layout es laid count peaked pins =
     refusal-split shape size height layout es laid
-    ∙ ap (λ r. option_or r (pins_refusal size (numbered es (length (peaks shape (count_in es)))))) (sym count)
+    ∙ ap (λ r. option_or r (pins_refusal size (numbered es (length (peaks shape (count_in es)))))) count
     ∙ ap (λ n. pins_refusal size (numbered es n)) (sym peaked)
     ∙ sym pins
 
+-- why the count can't be read is why the metadata can't
+pub count-refused : (shape : Shape) (size height : ℕ) (layout : Layout) (es : List Entry) → IsLaidOut shape size height layout → (c : base.Corrupt) → count_refusal height es ≡ Some (corrupt_view c) → TellsWhy (DataCorrupted c) (metadata_refusal layout es)
+count-refused shape size height layout es laid c is =
+    inr (c, refl, refusal-split shape size height layout es laid ∙ ap (λ r. option_or r (pins_refusal size (numbered es (length (peaks shape (count_in es)))))) is)
+
 -- where the count can be read, why the pins can't is why the metadata can't
-pub pins-refused : (shape : Shape) (size height k : ℕ) (layout : Layout) (es : List Entry) → IsLaidOut shape size height layout → None ≡ count_refusal height es → k ≡ length (peaks shape (count_in es)) → (e : MetadataError)
-    → (e ≡ errors.Memory) ⊎ (corrupt_of e ≡ pins_refusal size (numbered es k)) → (e ≡ errors.Memory) ⊎ (corrupt_of e ≡ metadata_refusal layout es)
+pub pins-refused : (shape : Shape) (size height k : ℕ) (layout : Layout) (es : List Entry) → IsLaidOut shape size height layout → count_refusal height es ≡ None → k ≡ length (peaks shape (count_in es)) → (e : Error)
+    → TellsWhy e (pins_refusal size (numbered es k)) → TellsWhy e (metadata_refusal layout es)
 pins-refused shape size height k layout es laid count peaked e (inl memory) = inl memory
-pins-refused shape size height k layout es laid count peaked e (inr is) =
-    inr (is
-    ∙ ap (λ n. pins_refusal size (numbered es n)) peaked
-    ∙ ap (λ r. option_or r (pins_refusal size (numbered es (length (peaks shape (count_in es)))))) count
-    ∙ sym (refusal-split shape size height layout es laid))
+pins-refused shape size height k layout es laid count peaked e (inr (c, is, why)) =
+    inr (
+      c,
+      is,
+      refusal-split shape size height layout es laid
+          ∙ ap (λ r. option_or r (pins_refusal size (numbered es (length (peaks shape (count_in es)))))) count
+          ∙ ap (λ n. pins_refusal size (numbered es n)) (sym peaked)
+          ∙ why,
+    )
 
 -- Writing.
 

@@ -1,2 +1,1 @@
 pub mod Metadata
-pub mod Views

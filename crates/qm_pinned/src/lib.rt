@@ -2,10 +2,8 @@
 //! grafted tree there.
 #![tactic(auto)]
 
-mod error;
 mod pinned;
 mod written;
 
-pub use error::MetadataError;
 pub use pinned::{Pinned, read};
 pub use written::entries;

@@ -1,18 +1,17 @@
 //! Metadata as it is read.
 
-ghost use Rattle.std.specs.Prelude.{◌≡◌, ◌⊎◌, ◌*◌, ◌^◌, ◌<◌, ◌≤◌, length, map, not, is_none, Some, None, option_map, IfOk, IfErr, OnOk};
+ghost use Rattle.std.specs.Prelude.{◌≡◌, ◌*◌, ◌^◌, ◌<◌, ◌≤◌, length, map, not, is_none, Some, None, option_map, IfOk, IfErr, OnOk};
 ghost use Rattle.std.specs.List.{list_any};
 ghost use Rattle.std.specs.Option.{SomeIff};
 ghost use Rattle.qm_model.specs.Forms as model;
 ghost use Rattle.qm_model.specs.Grafted as grafted;
 ghost use Rattle.qm_model.specs.Opening.{Layout, entry_of, metadata_key, count_bytes, count_in, pins_found, metadata_refusal};
 ghost use Rattle.qm_model.specs.Trees as trees;
-ghost use Rattle.qm_pinned.specs.Metadata.{IsLaidOut, numbered, digest_in, count_refusal, pins_refusal};
-ghost use Rattle.qm_pinned.specs.Views.{corrupt_of, refusal_of};
+ghost use Rattle.qm_base.specs.Views.{corrupt_view};
+ghost use Rattle.qm_pinned.specs.Metadata.{IsLaidOut, TellsWhy, numbered, digest_in, count_refusal, pins_refusal};
 
-use crate::error::MetadataError;
 use crate::written::{COUNT, PIN, key_of};
-use qm_base::{Digest, Location};
+use qm_base::{Corrupt, Digest, Error, Location};
 use qm_chunks::pair_absorption_threshold;
 use qm_merkle::Family;
 use qm_store::MetaEntry;
@@ -95,57 +94,54 @@ fn read_pin<D: Digest>(entries: &[MetaEntry], number: u32) -> Option<D>
 }
 
 // The first `count` pins. A lack of one is told before the size of another.
-fn read_pins<D: Digest>(
-    alloc: Global,
-    entries: &[MetaEntry],
-    count: u32,
-) -> Result<Vec<D>, MetadataError>
+fn read_pins<D: Digest>(alloc: Global, entries: &[MetaEntry], count: u32) -> Result<Vec<D>, Error>
     ensures pins { IfOk result (λ pins.
         numbered entries.now count ≡ map (λ pin. Some pin) (map D.bytes pins.items)) }
-    ensures refused { IfErr result (λ e. (e ≡ MetadataError.Memory)
-        ⊎ (corrupt_of e ≡ pins_refusal D.SIZE (numbered entries.now count))) }
+    ensures refused { IfErr result (λ e.
+        TellsWhy e (pins_refusal D.SIZE (numbered entries.now count))) }
     ensures whole { IfOk result (λ pins. length pins.items ≡ count) }
 {
     if !has_pins(entries, count) {
-        return Err(MetadataError::MissingPin);
+        return Err(Error::DataCorrupted(Corrupt::MissingPin));
     }
     let mut pins = Vec::with_capacity(alloc, count as usize)?;
     for number in 0..count {
         match read_pin(entries, number) {
             Some(pin) => pins.push_reserved(pin),
-            None => return Err(MetadataError::InvalidPin),
+            None => return Err(Error::DataCorrupted(Corrupt::InvalidPin)),
         }
     }
     Ok(pins)
 }
 
 // How many chunks of 2^height locations are pruned.
-fn read_count(height: u32, entries: &[MetaEntry]) -> Result<u64, MetadataError>
+fn read_count(height: u32, entries: &[MetaEntry]) -> Result<u64, Corrupt>
     requires { height < 64 }
-    ensures refused { refusal_of result ≡ count_refusal height entries.now }
+    ensures readable { OnOk result (count_refusal height entries.now ≡ None) }
+    ensures refused { IfErr result (λ c.
+        count_refusal height entries.now ≡ Some (corrupt_view c)) }
     ensures count { IfOk result (λ chunks. chunks ≡ count_in entries.now) }
     ensures within { IfOk result (λ chunks. chunks * 2 ^ height ≤ 2 ^ 62) }
 {
     match count_of(entries) {
-        None => Err(MetadataError::CountNotValid),
-        Some(chunks) if chunks > (1 << 62) >> height => Err(MetadataError::CountTooLarge),
+        None => Err(Corrupt::CountNotValid),
+        Some(chunks) if chunks > (1 << 62) >> height => Err(Corrupt::CountTooLarge),
         Some(chunks) => Ok(chunks),
     }
 }
 
 /// Reads what metadata counts of chunks of 2^height locations, grafted onto trees of the family `F`. Metadata without a count
-/// has no pruned chunk, and entries under other keys are passed over.
+/// has no pruned chunk, and entries under other keys are passed over. It is refused for want of memory, or as damaged.
 pub fn read<F: Family, D: Digest>(
     alloc: Global,
     height: u32,
     entries: &[MetaEntry],
-) -> Result<Pinned<D>, MetadataError>
+) -> Result<Pinned<D>, Error>
     requires { height < 64 }
     ensures readable { (layout : Layout) → IsLaidOut F.shape D.SIZE height layout
         → OnOk result (metadata_refusal layout entries.now ≡ None) }
     ensures refused { (layout : Layout) → IsLaidOut F.shape D.SIZE height layout
-        → IfErr result (λ e. (e ≡ MetadataError.Memory)
-        ⊎ (corrupt_of e ≡ metadata_refusal layout entries.now)) }
+        → IfErr result (λ e. TellsWhy e (metadata_refusal layout entries.now)) }
     ensures count { IfOk result (λ pinned. pinned.chunks ≡ count_in entries.now) }
     ensures within { IfOk result (λ pinned. pinned.chunks * 2 ^ height ≤ 2 ^ 62) }
     ensures pins { IfOk result (λ pinned. pins_found F.shape entries.now pinned.chunks

@@ -20,6 +20,10 @@ data corrupted: inactivity floor exceeds commit location
 data corrupted: log pruned past the bits
 data corrupted: head does not match the start
 data corrupted: links form no ring
+data corrupted: pruned chunks value not a valid u64
+data corrupted: pruned chunks exceeds MAX_LEAVES
+data corrupted: missing pinned node in grafted tree metadata
+data corrupted: invalid pinned node digest
 merkle error: RangeOutOfBounds 5
 journal error: Store
 journal error: ItemPruned 7
@@ -44,9 +48,13 @@ fn error_at(index: usize) -> Error {
         9 => Error::DataCorrupted(Corrupt::PrunedPastBits),
         10 => Error::DataCorrupted(Corrupt::HeadDoesNotMatch),
         11 => Error::DataCorrupted(Corrupt::LinksFormNoRing),
-        12 => Error::Merkle(MerkleError::RangeOutOfBounds(5)),
-        13 => Error::Journal(JournalError::Store),
-        14 => Error::Journal(JournalError::ItemPruned(7)),
+        12 => Error::DataCorrupted(Corrupt::CountNotValid),
+        13 => Error::DataCorrupted(Corrupt::CountTooLarge),
+        14 => Error::DataCorrupted(Corrupt::MissingPin),
+        15 => Error::from(Corrupt::InvalidPin),
+        16 => Error::Merkle(MerkleError::RangeOutOfBounds(5)),
+        17 => Error::Journal(JournalError::Store),
+        18 => Error::Journal(JournalError::ItemPruned(7)),
         _ => Error::Journal(JournalError::ItemTooLarge(65_546)),
     }
 }
@@ -54,7 +62,7 @@ fn error_at(index: usize) -> Error {
 // What all of them print.
 fn texts(alloc: Global) -> Result<String, AllocError> {
     let mut texts = String::new(alloc);
-    for index in 0..16 {
+    for index in 0..20 {
         writeln!(texts, "{}", error_at(index))?;
     }
     writeln!(texts, "{}, {}", StoreError::Memory, StoreError::Failed)?;

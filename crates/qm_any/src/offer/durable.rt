@@ -39,7 +39,7 @@ impl<
         self.commit()
     }
 
-    fn sync(self) -> Result<Self, Refusal<Self, C>> {
+    fn sync(self, _alloc: Global) -> Result<Self, Refusal<Self, C>> {
         self.sync()
     }
 

@@ -10,7 +10,7 @@ use qm_operations::{Operation, Update};
 use std::alloc::{AllocError, Global};
 
 /// Copies of keys.
-pub(crate) fn twin_keys<K: ByteString>(alloc: Global, keys: &[K]) -> Result<Vec<K>, AllocError>
+pub fn twin_keys<K: ByteString>(alloc: Global, keys: &[K]) -> Result<Vec<K>, AllocError>
     ensures { IfOk result (λ copies. copies.items ≡ keys.now) }
 {
     let mut copies = Vec::new(alloc);
@@ -63,7 +63,7 @@ fn listed_entry<F, U: Update>(
 }
 
 /// The operations as a reply lists them.
-pub(crate) fn listed<F, U: Update>(
+pub fn listed<F, U: Update>(
     alloc: Global,
     operations: &[Operation<F, U>],
 ) -> Result<Vec<Listed<U::Key, U::Value>>, AllocError>
@@ -79,9 +79,7 @@ pub(crate) fn listed<F, U: Update>(
 }
 
 /// A live update that was found, as a reply lists it, where it names a next key.
-pub(crate) fn span_from<F, U: Update>(
-    found: Option<(Location<F>, U)>,
-) -> Option<Span<U::Key, U::Value>>
+pub fn span_from<F, U: Update>(found: Option<(Location<F>, U)>) -> Option<Span<U::Key, U::Value>>
     ensures { U.form.ordered ≡ true
         → option_map located (option_map (span_view U.Key.bytes U.Value.bytes) result)
         ≡ option_map (read_view U.view) found }

@@ -65,7 +65,7 @@ fn collected<
 }
 
 /// The live keys of a range of the database with their values, by key.
-pub(crate) fn pairs_of<
+pub fn pairs_of<
     F: Family,
     C: Store,
     I: qm_index::Unordered<Value = Location<F>>,
@@ -107,7 +107,7 @@ fn firsts<K: ByteString, V: ByteString>(
 }
 
 /// The live keys of a range of the database, by key.
-pub(crate) fn keys_of<
+pub fn keys_of<
     F: Family,
     C: Store,
     I: qm_index::Unordered<Value = Location<F>>,

@@ -89,6 +89,7 @@ pub fn commit<X: Durable<C>, C: Store>(
 
 /// Makes all that the store holds stable.
 pub fn sync<X: Durable<C>, C: Store>(
+    alloc: Global,
     held: Given<X, C>,
 ) -> (Given<X, C>, Turn<X::Key, X::Value, X::Digest>)
     ensures machine { (table : _) (count : ℕ)
@@ -101,7 +102,7 @@ pub fn sync<X: Durable<C>, C: Store>(
 {
     match held {
         Given::Store(store) => without_database::<X, C>(store),
-        Given::Database(x) => settled::<X, C>(x.sync()),
+        Given::Database(x) => settled::<X, C>(x.sync(alloc)),
     }
 }
 

@@ -32,7 +32,7 @@ pub trait Durable<C: Store>: Common<C> {
 
     /// Makes all that the store holds stable, and a current database writes the metadata that counts its pruned chunks anew. A
     /// refusal gives back the store.
-    fn sync(self) -> Result<Self, Refusal<Self, C>>
+    fn sync(self, alloc: Global) -> Result<Self, Refusal<Self, C>>
         ensures { IsSettling Self.Meaning C.Store (synced Self.scheme) (LeavesSync Self.scheme)
             self result };
 

@@ -61,8 +61,8 @@ impl<
         }
     }
 
-    fn sync(self) -> Result<Self, Refusal<Self, C>> {
-        match <Inside<C, I, U> as Durable<C>>::sync(self.db) {
+    fn sync(self, alloc: Global) -> Result<Self, Refusal<Self, C>> {
+        match <Inside<C, I, U> as Durable<C>>::sync(self.db, alloc) {
             Ok(db) => Ok(Database { db }),
             Err(refused) => {
                 let Refusal { given, error } = refused;

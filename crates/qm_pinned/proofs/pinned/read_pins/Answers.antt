@@ -2,6 +2,7 @@ use Rattle.std.proofs.Common.{◌≡◌, ◌∙◌, ap, sym, subst, refl, inl, i
 use Rattle.std.specs.Prelude.{is_none, option_map}
 use Rattle.std.specs.List.{list_any}
 use Rattle.std.proofs.lemmas.Result.{IfOk-from_err, err_from_is_err_and}
+use Rattle.qm_base.specs.declared.error.Corrupt.TheVariants as corrupt
 use Rattle.qm_pinned.specs.Metadata.{numbered}
 use Rattle.qm_pinned.proofs.Finding.{invalid, read-next}
 use Rattle.qm_pinned.proofs.pinned.read_pins.Goals as goal
@@ -29,8 +30,12 @@ pub returns-in-None-clause-refused : goal.returns-in-None-clause-refused
 returns-in-None-clause-refused g c =
     let entries = c.args.entries.now in
     let there : list_any is_none (numbered entries c.args.count) ≡ false = grind arith in
-    inr (invalid g.D.Digest.SIZE entries c.loop-number.number c.args.count c.loop-number-test.true there
-    (sym c.read_pin.ensures ∙ ap (option_map g.D.Digest.bytes) c.in-None.is))
+    inr (
+      corrupt.InvalidPin,
+      refl,
+      invalid g.D.Digest.SIZE entries c.loop-number.number c.args.count c.loop-number-test.true there
+          (sym c.read_pin.ensures ∙ ap (option_map g.D.Digest.bytes) c.in-None.is),
+    )
 
 pub returns-in_err-pins : goal.returns-in_err-pins
 returns-in_err-pins g c =
