@@ -1,7 +1,10 @@
 -- What comes of applying a batch, by what comes of applying it to the any database.
-use Rattle.std.proofs.Common.{◌≡◌, ◌≤◌, true, List, [], ◌∷◌, ◌++◌, map, ap, sym, subst, refl, inl, inr}
+use Rattle.std.proofs.Common.{◌≡◌, ◌∙◌, ◌≤◌, ℕ, true, List, [], ◌∷◌, ◌++◌, map, Option, None, Some, IfSome, ap, sym, subst, refl, inl, inr}
 use Rattle.std.specs.Prelude.{Contains, Result, Ok, Err, IfOk, IfErr, OnOk, if◌then◌else◌}
-use Rattle.qm_model.specs.Operations.{Operation}
+use Rattle.std.specs.Option.{option_map_or}
+use Rattle.qm_model.specs.Operations.{Bytes, Operation}
+use Rattle.qm_model.specs.Opening.{count_in}
+use Rattle.qm_model.specs.StoreModel.{Stored, beside_items, metadata_in}
 use Rattle.qm_model.specs.Forms.{Form}
 use Rattle.qm_model.specs.Batches.{Commitment, Chain, IsOnChain}
 use Rattle.qm_model.proofs.Chains.{Contains-more}
@@ -27,6 +30,16 @@ use Rattle.qm_current.specs.Databases.{Database, AreSized}
 pub on-ok : {X E : Type 0} {P : Type 0} (r : Result X E) → P → OnOk r P
 on-ok (Ok x) p = p
 on-ok (Err e) p = tt
+
+-- metadata counts what it counted where it is what it was
+pub counted-beside : (o new : Option Stored) (name after : Bytes) (count now : ℕ) → beside_items new ≡ beside_items o → after ≡ name → now ≡ count → IfSome o (λ s. count_in (metadata_in s.metadata name) ≡ count)
+    → IfSome new (λ s. count_in (metadata_in s.metadata after) ≡ now)
+counted-beside None None name after count now same named is counted = tt
+counted-beside (Some s) None name after count now same named is counted = tt
+counted-beside None (Some t) name after count now same named is counted = absurd (cc same)
+counted-beside (Some s) (Some t) name after count now same named is counted =
+    let metadata : t.metadata ≡ s.metadata = ap (λ o. option_map_or (λ (x : Stored). x.metadata) o []) same in
+    ap (λ ms. count_in (metadata_in ms after)) metadata ∙ ap (λ n. count_in (metadata_in s.metadata n)) named ∙ counted ∙ sym is
 
 -- a state at which a batch can be applied is as long as one of the lists that it leads through
 pub sized-among : {D : Type 0} (batch : anys.Made D) (kept : Kept D) (current : Commitment) → anys.AreAgreed batch → AreSized batch kept → is_at current batch.bounds.db batch.bounds.ancestors ≡ true → Contains (sizes_of kept) current.size

@@ -1,4 +1,10 @@
 pub mod Applying
 pub mod Children
+pub mod Lasting
+pub mod LastingOffered
 pub mod Making
+pub mod Opening
+pub mod Offering
+pub mod Pruning
+pub mod ReadingOffered
 pub mod Resting

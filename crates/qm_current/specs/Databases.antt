@@ -1,6 +1,8 @@
 -- Current databases and their batches, and the lists that these stand for.
-use Rattle.std.specs.Prelude.{◌≡◌, ◌<◌, ◌*◌, ℕ, suc, List, map}
-use Rattle.qm_model.specs.Operations.{Operation}
+use Rattle.std.specs.Prelude.{◌≡◌, ◌<◌, ◌*◌, ℕ, suc, List, map, IfSome}
+use Rattle.qm_model.specs.Operations.{Bytes, Operation}
+use Rattle.qm_model.specs.Opening.{count_in}
+use Rattle.qm_model.specs.StoreModel.{metadata_in}
 use Rattle.qm_model.specs.Batches.{Chain}
 use Rattle.qm_bits.specs.Bitmaps.{bit_count}
 use Rattle.qm_store.specs.declared.Store as store
@@ -9,11 +11,12 @@ use Rattle.qm_any.specs.Databases as anys
 use Rattle.qm_roots.specs.Canonical.{Canonical, IsCanonical}
 use Rattle.qm_roots.specs.Kept.{Kept, IsKept, sizes_of}
 
--- a database: the any one, the grafted tree and the canonical root of its list, and which instance it is
+-- a database: the any one, the grafted tree and the canonical root of its list, which instance it is, and the name of its metadata
 pub record Database (C D : Type 0) : Type 0 where
   pub any : anys.Database C D
   pub canonical : Canonical D
   pub instance : ℕ
+  pub name : Bytes
 
 -- a merkleized batch: the any one, what it does to bits and to the grafted tree, and on which instance its chain began
 pub record Made (D : Type 0) : Type 0 where
@@ -26,6 +29,16 @@ pub record Begun (D : Type 0) : Type 0 where
   pub any : anys.Begun D
   pub parent : Kept D
   pub instance : ℕ
+
+-- a staged batch: the any one, what its parent keeps, and on which instance its chain began
+pub record Staged (D : Type 0) : Type 0 where
+  pub any : anys.Staged D
+  pub parent : Kept D
+  pub instance : ℕ
+
+-- a staged batch without its keys
+abbrev pub begun_of : {D : Type 0} → Staged D → Begun D
+begun_of batch = record { any = batch.any.batch; parent = batch.parent; instance = batch.instance }
 
 -- The numbers of a database agree: its root is that of as many operations as it has, and there are as many bits. The grafted tree forgot
 -- the chunks whose bits are pruned, and the log has the nodes over the others.
@@ -52,7 +65,17 @@ module _ {D : Type 0} (hashing : Hashing D) (chunk : ℕ) where
     pub parent : IsKept hashing.bytes hashing.hash hashing.shape chunk hashing.form batch.parent chain.base (anys.bases_of above)
     pub numbered : batch.instance ≡ chain.instance
 
+  -- the staged batch is of this chain, and its parent of that one
+  pub record IsStaged (batch : Staged D) (chain above : Chain) : Type 0 where
+    pub any : anys.IsStaged hashing batch.any chain above
+    pub parent : IsKept hashing.bytes hashing.hash hashing.shape chunk hashing.form batch.parent chain.base (anys.bases_of above)
+    pub numbered : batch.instance ≡ chain.instance
+
 -- the database, of this layout, stands for this list, and its root is the list's
 pub record IsDatabase {C D : Type 0} (members : store.Ghosts C) (layout : Layout D) (db : Database C D) (list : List Operation) : Type 0 where
   pub any : anys.IsDatabase members layout db.any list
   pub canonical : IsCanonical layout.hashing.bytes layout.hashing.hash layout.hashing.shape layout.chunk layout.hashing.form db.canonical list
+
+-- its store's metadata counts the chunks whose bits are pruned
+abbrev pub IsCounted : {C D : Type 0} → store.Ghosts C → Database C D → Type 0
+IsCounted members db = IfSome (members.told db.any.log.store) (λ s. count_in (metadata_in s.metadata db.name) ≡ db.any.activity.pruned)

@@ -1,3 +1,7 @@
 pub mod Databases
 pub mod Applying
 pub mod Making
+pub mod Offered
+pub mod Lasting
+pub mod Opening
+pub mod Reading

@@ -10,7 +10,7 @@ ghost use Rattle.qm_any.specs.Reading.{AtList, Reads};
 ghost use Rattle.qm_store.specs.Given.{store_after};
 ghost use Rattle.qm_roots.specs.Canonical.{IsCanonical};
 ghost use Rattle.qm_roots.specs.Kept.{IsKept, sizes_of};
-ghost use Rattle.qm_current.specs.Databases.{Database, IsBegun, IsDatabase, IsJoined, IsMade};
+ghost use Rattle.qm_current.specs.Databases.{Database, IsBegun, IsCounted, IsDatabase, IsJoined, IsMade};
 ghost use Rattle.qm_current.specs.Applying.{any_answer, any_given, store_in};
 
 use crate::batch::{MerkleizedBatch, UnmerkleizedBatch};
@@ -41,6 +41,7 @@ pub struct Db<
     pub(crate) any: any::Db<F, C, I, H, U, N>,
     pub(crate) canonical: Canonical<F, N, H::Digest>,
     pub(crate) instance: u64,
+    pub(crate) name: &'static str,
 }
 
 impl<
@@ -55,9 +56,9 @@ impl<
 
     ghost Value = { Database C H.Digest };
 
-    ghost view = { λ db. record { any = db.any; canonical = db.canonical; instance = db.instance } };
+    ghost view = { λ db. record { any = db.any; canonical = db.canonical; instance = db.instance; name = db.name.now } };
 
-    ghost invariant = { λ db. IsJoined {C = C} {D = H.Digest} N.LEN (record { any = db.any; canonical = db.canonical; instance = db.instance }) };
+    ghost invariant = { λ db. IsJoined {C = C} {D = H.Digest} N.LEN (record { any = db.any; canonical = db.canonical; instance = db.instance; name = db.name.now }) };
 }
 
 impl<
@@ -198,7 +199,9 @@ impl<
             tip → IsOnChain list chain → IfOk result (λ next.
             IsDatabase C.Store ⟦<any::Db<F, C, I, H, U, N> as LaidOut>⟧.layout next tip) }
         ensures moved { IfOk result (λ next.
-            (next.any.commitment ≡ batch.now.any.bounds.tip) × (next.instance ≡ self.instance)) }
+            (next.any.commitment ≡ batch.now.any.bounds.tip) × (next.instance ≡ self.instance)
+            × (next.name ≡ self.name)) }
+        ensures counted { IsCounted C.Store self → IfOk result (IsCounted C.Store) }
         ensures fits { OnOk result (can_apply self.any batch.now.any ≡ true) }
         ensures appends { (chain : Chain) (tip : List Operation)
             → anys.IsMade ⟦<any::Db<F, C, I, H, U, N> as LaidOut>⟧.layout.hashing batch.now.any
@@ -218,11 +221,12 @@ impl<
             any,
             canonical,
             instance,
+            name,
         } = self;
         match any.apply_batch(alloc, &batch.any) {
-            Ok(any) => joined(any, canonical, instance, &batch.kept),
+            Ok(any) => joined(any, canonical, instance, name, &batch.kept),
             Err(Refusal { given, error }) => Err(Refusal {
-                given: given_back(given, canonical, instance),
+                given: given_back(given, canonical, instance, name),
                 error,
             }),
         }
@@ -241,6 +245,7 @@ fn joined<
     any: any::Db<F, C, I, H, U, N>,
     canonical: Canonical<F, N, H::Digest>,
     instance: u64,
+    name: &'static str,
     batch: &Kept<F, N, H::Digest>,
 ) -> Result<Db<F, C, I, H, U, N>, Refusal<Db<F, C, I, H, U, N>, C>>
     requires among { Contains (sizes_of batch.now) canonical.size }
@@ -248,7 +253,7 @@ fn joined<
     requires forgotten { canonical.tree.start ≡ any.activity.pruned }
     requires over { C.start any.log.store < suc any.activity.pruned * (8 * N.LEN) }
     ensures made { IfOk result (λ db. db.any ≡ any) }
-    ensures numbered { IfOk result (λ db. db.instance ≡ instance) }
+    ensures numbered { IfOk result (λ db. (db.instance ≡ instance) × (db.name ≡ name.now)) }
     ensures canonical { (list tip : List Operation) (bases : List (List Operation))
         → IsKept H.Digest.bytes H.hash F.shape N.LEN U.form batch.now tip bases
         → Contains (tip ∷ bases) list
@@ -265,6 +270,7 @@ fn joined<
             any,
             canonical,
             instance,
+            name,
         }),
         Err(_) => Err(Refusal {
             given: Given::Store(any.close()),
@@ -285,19 +291,22 @@ fn given_back<
     given: Given<any::Db<F, C, I, H, U, N>, C>,
     canonical: Canonical<F, N, H::Digest>,
     instance: u64,
+    name: &'static str,
 ) -> Given<Db<F, C, I, H, U, N>, C>
     requires { (x : anys.Database C H.Digest) → given ≡ Given.Database x
         → IsJoined {C = C} {D = H.Digest} N.LEN
-        (record { any = x; canonical = canonical; instance = instance }) }
+        (record { any = x; canonical = canonical; instance = instance; name = name.now }) }
     ensures any { any_given result ≡ given }
     ensures back { (x : Database C H.Digest) → result ≡ Given.Database x
-        → x ≡ record { any = x.any; canonical = canonical; instance = instance } }
+        → x
+        ≡ record { any = x.any; canonical = canonical; instance = instance; name = name.now } }
 {
     match given {
         Given::Database(any) => Given::Database(Db {
             any,
             canonical,
             instance,
+            name,
         }),
         Given::Store(store) => Given::Store(store),
     }

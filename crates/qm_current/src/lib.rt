@@ -2,9 +2,22 @@
 #![tactic(auto)]
 
 pub mod batch;
+mod boundary;
+mod config;
 pub mod db;
+mod durable;
 mod made;
 mod nodes;
+mod offer;
+mod open;
+mod ordered;
+pub mod proof;
+mod reads;
+pub mod scan;
+pub mod staged;
 
 pub use batch::{MerkleizedBatch, UnmerkleizedBatch};
+pub use config::Config;
 pub use db::Db;
+pub use open::init;
+pub use staged::Staged;

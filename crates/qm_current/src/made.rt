@@ -1,6 +1,6 @@
 //! What a batch makes: its list, and what its step does to activity bits and to the grafted tree.
 
-ghost use Rattle.std.specs.Prelude.{◌≡◌, ◌≤◌, suc, List, true, length, option_map, IfOk, IfErr, OnOk};
+ghost use Rattle.std.specs.Prelude.{◌≡◌, ◌≤◌, suc, [], List, true, length, option_map, IfOk, IfErr, OnOk};
 ghost use Rattle.qm_model.specs.Batches.{Chain, IsOnChain};
 ghost use Rattle.qm_model.specs.Operations.{Operation};
 ghost use Rattle.qm_step.specs.Lent.{NoneBelow};
@@ -76,7 +76,7 @@ impl<F: Graftable, D: Digest, U: Update, N: Chunks> UnmerkleizedBatch<F, D, U, N
 }
 
 // The batch of an any one that was made on a parent, of whose steps it keeps so many, over a database at one of its lists.
-fn finished<
+pub(crate) fn finished<
     F: Graftable,
     C: Store,
     I: qm_index::Unordered<Value = Location<F>>,
@@ -92,7 +92,7 @@ fn finished<
     any: Rc<any::MerkleizedBatch<F, H::Digest, U>>,
 ) -> Result<Rc<MerkleizedBatch<F, H::Digest, U, N>>, Error>
     requires joined { IsJoined {C = C} {D = H.Digest} N.LEN
-        (record { any = db.old; canonical = canonical.now; instance = 0 }) }
+        (record { any = db.old; canonical = canonical.now; instance = 0; name = [] }) }
     requires keep { keep ≤ suc (length parent.now.any.bounds.ancestors) }
     requires child { anys.IsChild parent.now.any keep any.value }
     requires on { can_apply db.old any.value ≡ true }
@@ -100,7 +100,7 @@ fn finished<
         (b.value.any ≡ any.value) × (b.value.instance ≡ parent.now.instance)) }
     ensures made { (list tip : List Operation) (chain above : Chain)
         → IsDatabase C.Store ⟦<AnyDb<F, C, I, H, U, N> as LaidOut>⟧.layout
-        (record { any = db.old; canonical = canonical.now; instance = 0 }) list
+        (record { any = db.old; canonical = canonical.now; instance = 0; name = [] }) list
         → anys.IsMade ⟦<AnyDb<F, C, I, H, U, N> as LaidOut>⟧.layout.hashing parent.now.any above
         chain.base
         → IsKept H.Digest.bytes H.hash F.shape N.LEN U.form parent.now.kept chain.base
@@ -148,14 +148,14 @@ fn kept_behind<
     batch: &any::MerkleizedBatch<F, H::Digest, U>,
 ) -> Result<Kept<F, N, H::Digest>, MerkleError>
     requires joined { IsJoined {C = C} {D = H.Digest} N.LEN
-        (record { any = db.old; canonical = canonical.now; instance = 0 }) }
+        (record { any = db.old; canonical = canonical.now; instance = 0; name = [] }) }
     requires keep { keep ≤ suc (length parent.now.any.bounds.ancestors) }
     requires child { anys.IsChild parent.now.any keep batch.now }
     requires on { can_apply db.old batch.now ≡ true }
     ensures sized { IfOk result (AreSized batch.now) }
     ensures made { (list tip : List Operation) (chain above : Chain)
         → IsDatabase C.Store ⟦<AnyDb<F, C, I, H, U, N> as LaidOut>⟧.layout
-        (record { any = db.old; canonical = canonical.now; instance = 0 }) list
+        (record { any = db.old; canonical = canonical.now; instance = 0; name = [] }) list
         → anys.IsMade ⟦<AnyDb<F, C, I, H, U, N> as LaidOut>⟧.layout.hashing parent.now.any above
         chain.base
         → IsKept H.Digest.bytes H.hash F.shape N.LEN U.form parent.now.kept chain.base

@@ -59,7 +59,7 @@ followed-requires g c =
     let tip = ap (λ b. b.tip.size) (c.bounds-3.view_is ∙ c.bounds-bounds.ensures.bounds) in
     three (λ map (tree : Tree g.row.H-Digest.Denot) n. CanFollow (shape g) (size g) kept own map (λ p. held_at (shape g) batch.tree tree p) lacking keep n)
     (sym c.split-hasher.ensures.bits) (sym c.split-hasher.ensures.tree) (sym tip)
-    (can-follow parent keep few batch child kept c.parent.invariant c.bounds-bounds.ensures.agreed (size g) (record { any = c.args.db.now; canonical = own; instance = 0 }) c.requires.joined c.requires.on lacking least
+    (can-follow parent keep few batch child kept c.parent.invariant c.bounds-bounds.ensures.agreed (size g) (record { any = c.args.db.now; canonical = own; instance = 0; name = [] }) c.requires.joined c.requires.on lacking least
     (shape g) g.F.Family.births g.met.F.Family.numbered g.met.F.Family.peaked (span g) (prompt g) from whole c.tree.ensures.size c.get_node.ensures.linked)
 
 pub returns : goal.returns
@@ -81,7 +81,7 @@ returns g c =
     let lacking = c.lacking-lacking.result in
     let least = subst (λ m. (n : ℕ) → n < length (sizes_of kept) → get_or (sizes_of kept) n 0 ≡ m → (lacking ≤ n) × (get_or (sizes_of kept) lacking 0 ≡ m)) (c.get.ensures ∙ c.size.ensures) c.lacking-lacking.ensures in
     let bounds = c.bounds-3.view_is ∙ c.bounds-bounds.ensures.bounds in
-    let db : Database g.row.C.Denot g.row.H-Digest.Denot = record { any = c.args.db.now; canonical = own; instance = 0 } in
+    let db : Database g.row.C.Denot g.row.H-Digest.Denot = record { any = c.args.db.now; canonical = own; instance = 0; name = [] } in
     record {
       sized = ok-then c.followed.result c.followed.ensures.sizes (λ k sizes. sizes ∙ ap₂ (λ (n : ℕ) (ns : List ℕ). n ∷ take (suc keep) ns) (ap (λ b. b.tip.size) bounds) c.parent.invariant ∙ sym (child-sizes parent keep few batch child));
       made = λ list tip chain above stands made held by_keep on making.

@@ -11,7 +11,7 @@ use Rattle.qm_current.proofs.batch.MerkleizedBatch.get_many.Goals as goal
 pub invariant_of-db : goal.invariant_of-db
 invariant_of-db g c =
     let hashing = hashing_of g.D.Digest.bytes g.H.Hasher g.F.Family g.U.Update in
-    left-joined g.C.Store hashing g.N.Chunks.LEN (record { any = c.db.inside.any; canonical = c.db.inside.canonical; instance = c.db.inside.instance }) c.get_many.new.db c.get_many.ensures.reads.left c.db.invariant
+    left-joined g.C.Store hashing g.N.Chunks.LEN (record { any = c.db.inside.any; canonical = c.db.inside.canonical; instance = c.db.inside.instance; name = c.db.inside.name.now }) c.get_many.new.db c.get_many.ensures.reads.left c.db.invariant
 
 pub returns : goal.returns
 returns g c =

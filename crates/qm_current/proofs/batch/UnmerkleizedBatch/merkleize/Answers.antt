@@ -1,4 +1,4 @@
-use Rattle.std.proofs.Common.{◌≡◌, ◌⊎◌, ◌∙◌, ◌≤◌, suc, true, List, length, ap, ap₂, sym, subst, inl, Ok}
+use Rattle.std.proofs.Common.{◌≡◌, ◌⊎◌, ◌∙◌, ◌≤◌, suc, true, List, [], length, ap, ap₂, sym, subst, inl, Ok}
 use Rattle.std.specs.Prelude.{option_map}
 use Rattle.qm_model.specs.Operations.{Operation}
 use Rattle.qm_model.proofs.Results.{err-then, ok-four, ok-then}
@@ -24,7 +24,7 @@ use Rattle.qm_current.proofs.batch.UnmerkleizedBatch.merkleize.Goals as goal
 pub finished-requires-clause-joined : goal.finished-requires-clause-joined
 finished-requires-clause-joined g c =
     let hashing = hashing_of g.D.Digest.bytes g.H.Hasher g.F.Family g.U.Update in
-    left-joined g.C.Store hashing g.N.Chunks.LEN (record { any = c.db.inside.any; canonical = c.db.inside.canonical; instance = 0 }) c.merkleize.new.db c.in-Ok.ensures.left
+    left-joined g.C.Store hashing g.N.Chunks.LEN (record { any = c.db.inside.any; canonical = c.db.inside.canonical; instance = 0; name = [] }) c.merkleize.new.db c.in-Ok.ensures.left
     (record { size_is = c.db.invariant.size_is; bits = c.db.invariant.bits; forgotten = c.db.invariant.forgotten; over = c.db.invariant.over })
 
 pub finished-requires-clause-keep : goal.finished-requires-clause-keep

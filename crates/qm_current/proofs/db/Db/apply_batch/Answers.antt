@@ -1,6 +1,7 @@
 use Rattle.std.proofs.Common.{◌≡◌, ◌∙◌, ◌<◌, ◌*◌, suc, true, Err, Ok, ap, ap₂, subst, sym, get_or}
 use Rattle.std.specs.Prelude.{Contains}
 use Rattle.qm_model.specs.Batches.{Commitment}
+use Rattle.qm_model.specs.StoreModel.{beside_items}
 use Rattle.qm_model.proofs.Results.{ok-four}
 use Rattle.qm_store.specs.Given.{store_given}
 use Rattle.qm_roots.specs.Canonical.{IsCanonical}
@@ -11,7 +12,7 @@ use Rattle.qm_any.specs.Applying as anys_applying
 use Rattle.qm_any.specs.Applying.{Appends, IsUnapplied, KeepsRest, can_apply}
 use Rattle.qm_current.specs.Databases.{Database, Made, IsJoined}
 use Rattle.qm_current.specs.Applying.{any_given}
-use Rattle.qm_current.proofs.Applying.{joined-appends, joined-back, joined-rest, joined-unapplied, list-among, on-ok, sized-among, store-given}
+use Rattle.qm_current.proofs.Applying.{counted-beside, joined-appends, joined-back, joined-rest, joined-unapplied, list-among, on-ok, sized-among, store-given}
 use Rattle.qm_current.proofs.db.Db.apply_batch.Goals as goal
 
 pub joined-requires-clause-among : goal.joined-requires-clause-among
@@ -39,7 +40,7 @@ joined-requires-clause-over g c =
 
 pub given_back-requires : goal.given_back-requires
 given_back-requires g c = λ x given.
-    subst (λ y. IsJoined g.N.Chunks.LEN (record { any = y; canonical = c.self.inside.canonical; instance = c.self.inside.instance })) (sym (c.in-Err.ensures.unapplied.back x given).0) c.self.invariant
+    subst (λ y. IsJoined g.N.Chunks.LEN (record { any = y; canonical = c.self.inside.canonical; instance = c.self.inside.instance; name = c.self.inside.name.now })) (sym (c.in-Err.ensures.unapplied.back x given).0) c.self.invariant
 
 pub returns-in-Ok : goal.returns-in-Ok
 returns-in-Ok g c =
@@ -72,8 +73,15 @@ returns-in-Ok g c =
           ok-four r is canonical is canonical (λ db any root _ _. record { any = subst (λ d. anys.IsDatabase members layout d tip) (sym any) after; canonical = root });
       moved = ok-four r is c.joined.ensures.numbered is is (λ db any number _ _. (
         ap (λ (d : anys.Database g.row.C.Denot g.row.H-Digest.Denot). d.commitment) any ∙ c.in-Ok.ensures.moved.0 ∙ ap (λ (b : anys.Made g.row.H-Digest.Denot). b.bounds.tip) batch_is,
-        number ∙ ap (λ (d : Database g.row.C.Denot g.row.H-Digest.Denot). d.instance) c.self.view_is,
+        number.0 ∙ ap (λ (d : Database g.row.C.Denot g.row.H-Digest.Denot). d.instance) c.self.view_is,
+        number.1 ∙ ap (λ (d : Database g.row.C.Denot g.row.H-Digest.Denot). d.name) c.self.view_is,
       ));
+      counted = λ counted. ok-four r is c.joined.ensures.numbered is is (λ db any number _ _.
+          counted-beside (members.told old.log.store) (members.told db.any.log.store) c.args.self.name db.name old.activity.pruned db.any.activity.pruned
+          (ap (λ (d : anys.Database g.row.C.Denot g.row.H-Digest.Denot). beside_items (members.told d.log.store)) any ∙ rest.others)
+          (number.1 ∙ ap (λ (d : Database g.row.C.Denot g.row.H-Digest.Denot). d.name) c.self.view_is)
+          (ap (λ (d : anys.Database g.row.C.Denot g.row.H-Digest.Denot). d.activity.pruned) any ∙ c.in-Ok.ensures.moved.1 ∙ ap (λ (d : anys.Database g.row.C.Denot g.row.H-Digest.Denot). d.activity.pruned) any_is)
+          counted);
       fits = on-ok r fits;
       appends = λ chain tip made.
           let making = subst (λ b. anys.IsMade hashing b chain tip) (sym batch_is) made in
@@ -99,6 +107,7 @@ returns-in-Err g c =
     record {
       stands = λ list chain tip stands made on. tt;
       moved = tt;
+      counted = λ counted. tt;
       fits = tt;
       appends = λ chain tip made.
           let making = subst (λ b. anys.IsMade hashing b chain tip) (sym batch_is) made in
@@ -110,5 +119,5 @@ returns-in-Err g c =
           (subst (λ o. IsUnapplied members o batch c.in-Err.field-0) any_is (subst (λ b. IsUnapplied members c.self.inside.any b c.in-Err.field-0) batch_is c.in-Err.ensures.unapplied));
       back = λ x given.
           let same = (c.in-Err.ensures.unapplied.back x.any (sym given_is ∙ ap any_given given)).0 in
-          c.given_back.ensures.back x given ∙ ap (λ a. record { any = a; canonical = c.self.inside.canonical; instance = c.self.inside.instance }) same ∙ c.self.view_is;
+          c.given_back.ensures.back x given ∙ ap (λ a. record { any = a; canonical = c.self.inside.canonical; instance = c.self.inside.instance; name = c.self.inside.name.now }) same ∙ c.self.view_is;
     }

@@ -10,7 +10,7 @@ use Rattle.qm_current.proofs.db.Db.get_many.Goals as goal
 pub invariant_of-self : goal.invariant_of-self
 invariant_of-self g c =
     let hashing = hashing_of g.H.Digest.Digest.bytes g.H.Hasher g.F.Family g.U.Update in
-    left-joined g.C.Store hashing g.N.Chunks.LEN (record { any = c.self.inside.any; canonical = c.self.inside.canonical; instance = c.self.inside.instance }) c.get_many.new.self c.get_many.ensures.reads.left c.self.invariant
+    left-joined g.C.Store hashing g.N.Chunks.LEN (record { any = c.self.inside.any; canonical = c.self.inside.canonical; instance = c.self.inside.instance; name = c.self.inside.name.now }) c.get_many.new.self c.get_many.ensures.reads.left c.self.invariant
 
 pub returns : goal.returns
 returns g c =

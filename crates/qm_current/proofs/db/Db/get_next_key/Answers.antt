@@ -1,0 +1,26 @@
+use Rattle.std.proofs.Common.{◌≡◌, ap, subst}
+use Rattle.std.specs.Prelude.{IfOk, option_map}
+use Rattle.qm_model.specs.Live.{live_keys}
+use Rattle.qm_model.specs.Ranges.{key_above}
+use Rattle.qm_any.specs.Layouts.{hashing_of, layout_of}
+use Rattle.qm_any.specs.Reading.{AtList, Reads}
+use Rattle.qm_current.specs.Databases.{Database}
+use Rattle.qm_current.proofs.Making.{left-joined}
+use Rattle.qm_current.proofs.db.Db.get_next_key.Goals as goal
+
+pub invariant_of-self : goal.invariant_of-self
+invariant_of-self g c =
+    let hashing = hashing_of g.H.Digest.Digest.bytes g.H.Hasher g.F.Family g.U.Update in
+    left-joined g.C.Store hashing g.N.Chunks.LEN (record { any = c.self.inside.any; canonical = c.self.inside.canonical; instance = c.self.inside.instance; name = c.self.inside.name.now }) c.get_next_key.new.self c.get_next_key.ensures.reads.left c.self.invariant
+
+pub returns : goal.returns
+returns g c =
+    let key = g.U.Key.ByteString.bytes in
+    let layout = layout_of g.N.Chunks.LEN g.H.Digest.Digest.bytes g.H.Hasher g.F.Family g.U.Update g.I.Unordered in
+    let r = c.get_next_key.result in
+    let db_any = ap (λ (d : Database g.row.C.Denot g.row.H-Digest.Denot). d.any) c.self.view_is in
+    record {
+      value = subst (λ d. AtList g.C.Store layout d (λ list. IfOk r (λ found. option_map key found ≡ key_above (live_keys list) (key c.args.key.now)))) db_any c.get_next_key.ensures.value;
+      reads = subst (λ d. Reads g.C.Store layout d c.get_next_key.new.self r) db_any c.get_next_key.ensures.reads;
+      rest = ap (λ (d : Database g.row.C.Denot g.row.H-Digest.Denot). record d { any = c.get_next_key.new.self }) c.self.view_is;
+    }

@@ -1,0 +1,18 @@
+use Rattle.std.proofs.Common.{subst}
+use Rattle.qm_model.proofs.Results.{ok-each, ok-then}
+use Rattle.qm_model.specs.Batches.{begun_on}
+use Rattle.qm_model.specs.Mmr.{mmr}
+use Rattle.qm_any.specs.Offered.{sha256_hashing, sha256_layout}
+use Rattle.qm_current.specs.Databases.{IsDatabase, IsMade}
+use Rattle.qm_current.specs.Offered.{offered_chunk}
+use Rattle.qm_current.proofs.offer.batches.DbMmrFamilySha256Chunk32Batching.tip.Goals as goal
+
+pub returns : goal.returns
+returns g c =
+    let size = offered_chunk in
+    let hashing = sha256_hashing mmr g.U.Update.form in
+    let layout = sha256_layout mmr size g.U.Update.form g.I.Unordered.index_key in
+    let db = c.args.self.now in
+    let r = c.to_batch.result in
+    ok-then r (ok-each (IsDatabase g.C.Store layout db) (λ list b. IsMade hashing size b.value (begun_on db.instance list) list) r c.to_batch.ensures.made) (λ b made n list number is.
+    subst (λ k. IsMade hashing size b.value (begun_on k list) list) number (made list is.at))

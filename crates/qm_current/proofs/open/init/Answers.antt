@@ -1,0 +1,19 @@
+use Rattle.std.proofs.Common.{◌∙◌, ap, Err}
+use Rattle.qm_open.proofs.Checking.{each-known, known-at}
+use Rattle.qm_any.specs.Layouts.{layout_of}
+use Rattle.qm_current.proofs.Opening.{opens-behind, opens-unread}
+use Rattle.qm_current.proofs.open.init.Goals as goal
+
+pub returns-in-Ok-clause-opens : goal.returns-in-Ok-clause-opens
+returns-in-Ok-clause-opens g c =
+    let kept = c.counted.ensures.kept in
+    opens-behind g.C.Store (layout_of g.N.Chunks.LEN g.H.Digest.Digest.bytes g.H.Hasher g.F.Family g.U.Update g.I.Unordered) g.H.Digest.Digest.SIZE c.args.config.metadata.now c.args.max_size c.args.config.instance
+    c.args.store c.counted.new.store kept c.counted.ensures.cause.later c.open_counted.result c.open_counted.ensures.opens
+
+pub returns-in-Err-clause-opens : goal.returns-in-Err-clause-opens
+returns-in-Err-clause-opens g c =
+    let told = g.C.Store.told c.args.store in
+    let cause = c.counted.ensures.cause in
+    opens-unread g.C.Store (layout_of g.N.Chunks.LEN g.H.Digest.Digest.bytes g.H.Hasher g.F.Family g.U.Update g.I.Unordered) g.H.Digest.Digest.SIZE c.args.config.metadata.now c.args.max_size c.args.config.instance
+    c.args.store c.counted.new.store (each-known told (λ s is. (known-at _ told s is c.bounds.ensures.stable).1)) c.counted.ensures.kept c.in-Err.error c.in-Err.ensures.refused
+    (record { later = cause.later; failed = λ same. cause.failed (c.in-Err.is ∙ ap Err same) })

@@ -1,0 +1,124 @@
+//! What a current database offers to a run.
+
+ghost use Rattle.std.specs.Prelude.{◌≡◌, length};
+ghost use Rattle.std.proofs.Common.{ap, arith, refl};
+ghost use Rattle.qm_merkle.proofs.Standing.{peaks-none};
+ghost use Rattle.qm_any.specs.Databases.{staged_keys};
+ghost use Rattle.qm_any.specs.Offered.{sha256_hashing, sha256_layout};
+ghost use Rattle.qm_model.specs.Mmr.{mmr, mmr_births};
+ghost use Rattle.qm_model.proofs.MmrFamily.{mmr_is_family};
+ghost use Rattle.qm_model.proofs.MmrPeaks.{mmr_has_peaks};
+ghost use Rattle.qm_current.specs.Databases.{IsBegun, IsMade, IsStaged};
+ghost use Rattle.qm_current.specs.Offered.{IsOffered, offered_chunk, offered_name, scheme_of};
+ghost use Rattle.qm_pinned.proofs.Bounds.{mountains-bounds};
+ghost use Rattle.sha2.proofs.Facts256.{length-sha256};
+ghost use Rattle.sha2.specs.Sha256.{sha256};
+
+mod batches;
+mod durable;
+mod ordered;
+mod proofs;
+mod reads;
+mod staged;
+
+use crate::batch::{MerkleizedBatch, UnmerkleizedBatch};
+use crate::db::Db;
+use crate::staged::Staged;
+use qm_base::{Location, Sha256, Sha256Digest};
+use qm_bits::Chunk32;
+use qm_index::{Factory, FourCap};
+use qm_merkle::mmr;
+use qm_offer::{BatchSizes, Common, Engine, Meaning, Numbers};
+use qm_operations::Update;
+use qm_step::kind::Steps;
+use qm_store::Store;
+use std::rc::Rc;
+
+impl<
+    C: Store + Drop,
+    I: qm_index::Unordered<Value = Location<mmr::Family>> + Drop,
+    U: Update,
+> Meaning<C> for Db<mmr::Family, C, I, Sha256, U, Chunk32> {
+    type Batch = UnmerkleizedBatch<mmr::Family, Sha256Digest, U, Chunk32>;
+
+    type Staged = Staged<mmr::Family, Sha256Digest, U, Chunk32>;
+
+    type Merkleized = Rc<MerkleizedBatch<mmr::Family, Sha256Digest, U, Chunk32>>;
+
+    ghost inside = { λ db. db.any.log.store };
+
+    ghost stands = { λ db list. IsOffered C.Store (sha256_layout mmr offered_chunk U.form I.index_key) db list };
+
+    ghost numbered = { λ db n. db.instance ≡ n };
+
+    ghost is_batch = { λ b chain above ws. IsBegun (sha256_hashing mmr U.form) offered_chunk b chain above × (b.any.writes ≡ ws) };
+
+    ghost is_staged = { λ s chain above ws keys. IsStaged (sha256_hashing mmr U.form) offered_chunk s chain above × (s.any.batch.writes ≡ ws) × (staged_keys s.any ≡ keys) };
+
+    ghost count = { λ s. length (staged_keys s.any) };
+
+    ghost counted = { λ s chain above ws keys is. ap length is.2 };
+
+    ghost is_merkleized = { λ b chain tip. IsMade (sha256_hashing mmr U.form) offered_chunk b.value chain tip };
+
+    ghost scheme = { scheme_of 32 (sha256_layout mmr offered_chunk U.form I.index_key) offered_name };
+
+    ghost bounds = { mountains-bounds sha256 32 length-sha256 offered_chunk U.form offered_name (Prim.omega arith) };
+
+    ghost formed = { λ x list is. is.at.any.lent.of };
+
+    ghost made_formed = { λ b chain tip is. is.any.of };
+}
+
+impl<
+    C: Store + Drop,
+    I: qm_index::Unordered<Value = Location<mmr::Family>> + Drop,
+    U: Update,
+> Common<C> for Db<mmr::Family, C, I, Sha256, U, Chunk32> {
+    type Family = mmr::Family;
+
+    type Key = U::Key;
+
+    type Value = U::Value;
+
+    type Digest = Sha256Digest;
+
+    fn is_ordered() -> bool {
+        U::is_ordered()
+    }
+
+    fn is_current() -> bool {
+        true
+    }
+
+    fn info(&self) -> Numbers {
+        let (start, size) = self.any.bounds();
+        Numbers {
+            start: start.get(),
+            size: size.get(),
+            floor: self.any.inactivity_floor_loc().get(),
+            boundary: self.sync_boundary().get(),
+            is_live: !self.any.is_empty(),
+        }
+    }
+
+    fn sizes(batch: &Self::Merkleized) -> BatchSizes {
+        let bounds = batch.any.bounds();
+        BatchSizes {
+            base: bounds.base.size,
+            tip: bounds.tip.size,
+            floor: bounds.inactivity_floor.get(),
+            boundary: batch.sync_boundary().get(),
+        }
+    }
+
+    ghost unchecked = { refl };
+
+    ghost bare = { peaks-none mmr mmr_births mmr_is_family mmr_has_peaks };
+}
+
+impl<
+    C: Store + Drop,
+    I: Factory<Value = Location<mmr::Family>, Translator = FourCap> + Drop,
+    U: Steps<mmr::Family, I>,
+> Engine<C> for Db<mmr::Family, C, I, Sha256, U, Chunk32> {}

@@ -1,0 +1,65 @@
+//! Batches: begun, written, made and applied.
+
+use crate::batch::MerkleizedBatch;
+use crate::db::Db;
+use qm_base::{Error, Location, Sha256, twin_option};
+use qm_bits::Chunk32;
+use qm_chain::Policy;
+use qm_merkle::mmr;
+use qm_offer::Batching;
+use qm_step::kind::Steps;
+use qm_store::{Refusal, Store};
+use std::alloc::{AllocError, Global};
+
+impl<
+    C: Store + Drop,
+    I: qm_index::Unordered<Value = Location<mmr::Family>> + Drop,
+    U: Steps<mmr::Family, I>,
+> Batching<C> for Db<mmr::Family, C, I, Sha256, U, Chunk32> {
+    fn batch(&self, alloc: Global) -> Result<Self::Batch, AllocError> {
+        self.new_batch(alloc)
+    }
+
+    fn child(
+        alloc: Global,
+        batch: &Self::Merkleized,
+        keep: Option<u64>,
+    ) -> Result<Self::Batch, AllocError> {
+        match keep {
+            None => MerkleizedBatch::new_batch(batch, alloc),
+            Some(n) => MerkleizedBatch::new_batch_keeping(batch, alloc, n as usize),
+        }
+    }
+
+    fn tip(&self, alloc: Global) -> Result<Self::Merkleized, AllocError> {
+        self.to_batch(alloc)
+    }
+
+    fn put(
+        _alloc: Global,
+        batch: Self::Batch,
+        key: U::Key,
+        value: U::Value,
+    ) -> Result<Self::Batch, AllocError> {
+        batch.write(key, Some(value))
+    }
+
+    fn del(_alloc: Global, batch: Self::Batch, key: U::Key) -> Result<Self::Batch, AllocError> {
+        batch.write(key, None)
+    }
+
+    fn merkleize<P: Policy<mmr::Family, U::Key, U::Value>>(
+        &mut self,
+        alloc: Global,
+        batch: Self::Batch,
+        policy: &mut P,
+        metadata: &Option<U::Value>,
+    ) -> Result<Self::Merkleized, Error> {
+        let metadata = twin_option(alloc, metadata)?;
+        batch.merkleize(alloc, self, metadata, policy)
+    }
+
+    fn apply(self, alloc: Global, batch: &Self::Merkleized) -> Result<Self, Refusal<Self, C>> {
+        self.apply_batch(alloc, batch)
+    }
+}

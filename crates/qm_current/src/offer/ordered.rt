@@ -1,0 +1,101 @@
+//! Reads in key order.
+
+use crate::db::Db;
+use qm_any::span_from;
+use qm_base::{Error, Location, Sha256, Span};
+use qm_bits::Chunk32;
+use qm_merkle::mmr;
+use qm_offer::Neighbours;
+use qm_step::kind::Steps;
+use qm_store::Store;
+use std::alloc::Global;
+use std::ops::Bound;
+
+impl<
+    C: Store + Drop,
+    I: qm_index::Unordered<Value = Location<mmr::Family>> + Drop,
+    U: Steps<mmr::Family, I>,
+> Neighbours<C> for Db<mmr::Family, C, I, Sha256, U, Chunk32> {
+    fn next(&mut self, alloc: Global, key: &U::Key) -> Result<Option<U::Key>, Error> {
+        if !U::is_ordered() {
+            return Ok(None);
+        }
+        self.get_next_key(alloc, key)
+    }
+
+    fn prev(&mut self, alloc: Global, key: &U::Key) -> Result<Option<U::Key>, Error> {
+        if !U::is_ordered() {
+            return Ok(None);
+        }
+        self.get_prev_key(alloc, key)
+    }
+
+    fn next_from(
+        &mut self,
+        alloc: Global,
+        batch: &Self::Merkleized,
+        key: &U::Key,
+    ) -> Result<Option<U::Key>, Error> {
+        if !U::is_ordered() {
+            return Ok(None);
+        }
+        batch.get_next_key(alloc, key, self)
+    }
+
+    fn prev_from(
+        &mut self,
+        alloc: Global,
+        batch: &Self::Merkleized,
+        key: &U::Key,
+    ) -> Result<Option<U::Key>, Error> {
+        if !U::is_ordered() {
+            return Ok(None);
+        }
+        batch.get_prev_key(alloc, key, self)
+    }
+
+    fn span(
+        &mut self,
+        alloc: Global,
+        key: &U::Key,
+    ) -> Result<Option<Span<U::Key, U::Value>>, Error> {
+        if !U::is_ordered() {
+            return Ok(None);
+        }
+        match self.get_span(alloc, key) {
+            Ok(found) => Ok(span_from(found)),
+            Err(error) => Err(error),
+        }
+    }
+
+    fn all(&mut self, alloc: Global, key: &U::Key) -> Result<Option<(U::Value, U::Key)>, Error> {
+        if !U::is_ordered() {
+            return Ok(None);
+        }
+        self.get_all(alloc, key)
+    }
+
+    fn range(
+        &mut self,
+        alloc: Global,
+        low: &Bound<U::Key>,
+        high: &Bound<U::Key>,
+    ) -> Result<Vec<(U::Key, U::Value)>, Error> {
+        if !U::is_ordered() {
+            return Ok(Vec::new(alloc));
+        }
+        self.get_pairs(alloc, low, high)
+    }
+
+    fn keys(
+        &mut self,
+        alloc: Global,
+        low: &Bound<U::Key>,
+        high: &Bound<U::Key>,
+    ) -> Result<Vec<U::Key>, Error> {
+        if !U::is_ordered() {
+            return Ok(Vec::new(alloc));
+        }
+        self.get_keys(alloc, low, high)
+    }
+}
