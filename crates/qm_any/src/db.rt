@@ -584,6 +584,7 @@ impl<
         ensures start { result.0 ≡ C.start self.now.log.store }
         ensures first { C.start self.now.log.store ≡ self.now.log.tree.start }
         ensures end { result.1 ≡ self.now.commitment.size }
+        ensures last { C.end self.now.log.store ≡ self.now.commitment.size }
         ensures few { self.now.commitment.size ≤ 2 ^ 62 }
         ensures bits { bit_count N.LEN self.now.activity ≡ self.now.commitment.size }
     {

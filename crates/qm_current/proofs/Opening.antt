@@ -1,20 +1,20 @@
 -- Openings of current databases, by those of any ones.
-use Rattle.std.proofs.Common.{◌≡◌, ◌⊎◌, inl, inr, ◌∙◌, ◌-◌, ◌*◌, ◌/◌, ◌^◌, ◌≤◌, ◌<◌, ◌++◌, ℕ, zero, suc, Bool, true, false, List, ◌∷◌, length, map, drop, arith, ap, ap₂, sym, subst, refl, le_refl, Option, None, Some}
+use Rattle.std.proofs.Common.{◌≡◌, ◌⊎◌, inl, inr, ◌∙◌, ◌+◌, ◌-◌, ◌*◌, ◌/◌, ◌^◌, ◌≤◌, ◌<◌, ◌++◌, ℕ, zero, suc, Bool, true, false, List, [], ◌∷◌, length, map, drop, take, arith, ap, ap₂, sym, subst, refl, le_refl, Option, None, Some}
 use Rattle.std.specs.Prelude.{◌==◌, nat_lt, Result, Ok, Err, IfOk, IfErr, OnOk, IfSome, IsSome, option_map}
 use Rattle.std.specs.Option.{option_or, option_map_or}
 use Rattle.std.proofs.Math.Nat.{div-lt_iff_lt-mul, le_trans}
-use Rattle.std.proofs.lemmas.Bool.{ltb-false}
+use Rattle.std.proofs.lemmas.Bool.{ltb-false, ltb-true}
 use Rattle.std.proofs.lemmas.List.{nil_from_length, length-map, length-take, take_all}
 use Rattle.std.proofs.lemmas.Nat.{pow_pos}
 use Rattle.qm_model.specs.Causes.{IsCause, Rose}
 use Rattle.qm_model.specs.Families.{Births, IsFamily, HasPeaks}
 use Rattle.qm_model.specs.Forms.{Form, decoded, spelling}
-use Rattle.qm_model.specs.Grafted.{grafted_pins}
-use Rattle.qm_model.specs.Opening.{checks, commit_refusal, count_in, first_refusal, floor_of, is_empty, is_unabsorbed, metadata_refusal, opening_refusal, pins_found, selected, size_of, when}
+use Rattle.qm_model.specs.Grafted.{grafted_pins, pair_absorption_threshold}
+use Rattle.qm_model.specs.Opening.{checks, commit_refusal, found, last_commit, count_in, first_refusal, floor_of, is_empty, is_unabsorbed, metadata_refusal, opening_refusal, pins_found, selected, size_of, when}
 use Rattle.qm_model.specs.Opening as model
-use Rattle.qm_model.specs.Operations.{Bytes, Operation, fresh}
+use Rattle.qm_model.specs.Operations.{Bytes, Operation, update, delete, commit, fresh}
 use Rattle.qm_model.specs.Refused.{Corrupt, DataCorrupted, HistoricalFloorPruned, InvalidInitializationBound, PrunedPastBits}
-use Rattle.qm_model.specs.Schemes.{Scheme}
+use Rattle.qm_model.specs.Schemes.{Scheme, layout_of}
 use Rattle.qm_model.specs.StoreModel.{Entry, Stored, Turns, appended, end_of, left_at, metadata_in, rewound, settled, IsImage, ReadsAs}
 use Rattle.qm_model.specs.Taken.{IsTaken, selected_size, taken, LeavesOpening}
 use Rattle.qm_model.specs.Trees.{Shape, peaks}
@@ -48,7 +48,7 @@ use Rattle.qm_roots.specs.Canonical.{IsCanonical}
 use Rattle.qm_current.specs.Applying.{store_in}
 use Rattle.qm_current.specs.Databases.{Database}
 use Rattle.qm_current.specs.Offered.{scheme_of}
-use Rattle.qm_current.specs.Opening.{Counts, Opens, is_past, lies, refusal_up_to}
+use Rattle.qm_current.specs.Opening.{Counts, IsUnfit, Opens, is_early, is_past, lies, refusal_up_to}
 
 -- Refusals.
 
@@ -57,13 +57,13 @@ first-none : {A : Type 0} (r : Option A) (rs : List (Option A)) → first_refusa
 first-none None rs is = (refl, is)
 first-none (Some x) rs is = absurd (cc is)
 
-third-and-eighth : {A : Type 0} (a b c d e f g h : Option A) (rest : List (Option A)) → first_refusal (a ∷ b ∷ c ∷ d ∷ e ∷ f ∷ g ∷ h ∷ rest) ≡ None → (c ≡ None) × (h ≡ None)
-third-and-eighth a b c d e f g h rest none =
+third-and-last-two : {A : Type 0} (a b c d e f g h : Option A) (rest : List (Option A)) → first_refusal (a ∷ b ∷ c ∷ d ∷ e ∷ f ∷ g ∷ h ∷ rest) ≡ None → (c ≡ None) × (g ≡ None) × (h ≡ None)
+third-and-last-two a b c d e f g h rest none =
     let third = first-none b (c ∷ d ∷ e ∷ f ∷ g ∷ h ∷ rest) (first-none a (b ∷ c ∷ d ∷ e ∷ f ∷ g ∷ h ∷ rest) none).1 in
     let fourth = first-none c (d ∷ e ∷ f ∷ g ∷ h ∷ rest) third.1 in
     let sixth = first-none e (f ∷ g ∷ h ∷ rest) (first-none d (e ∷ f ∷ g ∷ h ∷ rest) fourth.1).1 in
     let eighth = first-none g (h ∷ rest) (first-none f (g ∷ h ∷ rest) sixth.1).1 in
-    (fourth.0, (first-none h rest eighth.1).0)
+    (fourth.0, eighth.0, (first-none h rest eighth.1).0)
 
 when-none : {A : Type 0} (b : Bool) (r : A) → when b r ≡ None → b ≡ false
 when-none false r is = refl
@@ -93,9 +93,10 @@ module _ (form : Form) (shape : Shape) (digest_size chunk : ℕ) (name : Bytes) 
   due-told e some (inl memory) = subst (λ x. IsDue x (refusal_up_to lying bound s)) (sym memory) tt
   due-told e some (inr (c, is, why)) = subst (λ x. IsDue x (refusal_up_to lying bound s)) (sym is) (due-unread (corrupt_view c) some why)
 
-  -- of a store that is not refused the start is not past the pruned chunks, and the list that is selected not before their end
+  -- of a store that is not refused the start is not past the pruned chunks, and the list that is selected not before their end nor shorter
+  -- than they wait for
   pub due-none : selecting.refusal_up_to form shape digest_size (Some (pruned_view chunk (count, threshold))) bound s ≡ None
-      → (is_past chunk s.start count ≡ false) × (size_of (selected (finds None count) bound) ≡ 0 → count ≡ 0)
+      → (is_past chunk s.start count ≡ false) × (size_of (selected (finds None count) bound) ≡ 0 → count ≡ 0) × (is_early (pair_absorption_threshold shape (grafting chunk) count) (size_of (selected (finds None count) bound)) ≡ false)
   due-none none =
       let at = selected (finds None count) bound in
       let size = size_of at in
@@ -103,11 +104,11 @@ module _ (form : Form) (shape : Shape) (digest_size chunk : ℕ) (name : Bytes) 
       let bits = count * 2 ^ grafting chunk in
       let pruned = Some (pruned_view chunk (count, threshold)) in
       let lain = selecting.layout_of form shape digest_size pruned in
-      let both = third-and-eighth (when (option_map_or (λ n. n == 0) bound false) InvalidInitializationBound) None (when (nat_lt size bits) (HistoricalFloorPruned size)) (option_map DataCorrupted (commit_refusal (is_empty (finds None count)) at))
+      let found_none = third-and-last-two (when (option_map_or (λ n. n == 0) bound false) InvalidInitializationBound) None (when (nat_lt size bits) (HistoricalFloorPruned size)) (option_map DataCorrupted (commit_refusal (is_empty (finds None count)) at))
       (when (nat_lt low s.start) (HistoricalFloorPruned size)) (when (nat_lt low bits) (HistoricalFloorPruned size)) (when (is_unabsorbed shape lain.chunks size count) (HistoricalFloorPruned size)) (when (is_past chunk s.start count) (DataCorrupted PrunedPastBits))
       (drop 8 (checks lain (finds None count) bound)) none in
-      let all = ltb-false size bits (when-none (nat_lt size bits) (HistoricalFloorPruned size) both.0) in
-      (when-none (is_past chunk s.start count) (DataCorrupted PrunedPastBits) both.1, λ is. no-chunks count (omega (arith, all, is)))
+      let all = ltb-false size bits (when-none (nat_lt size bits) (HistoricalFloorPruned size) found_none.0) in
+      (when-none (is_past chunk s.start count) (DataCorrupted PrunedPastBits) found_none.2, (λ is. no-chunks count (omega (arith, all, is))), when-none (is_unabsorbed shape lain.chunks size count) (HistoricalFloorPruned size) found_none.1)
     where
       no-chunks : (n : ℕ) → n * 2 ^ grafting chunk ≤ 0 → n ≡ 0
       no-chunks zero few = refl
@@ -130,6 +131,30 @@ pub untold-fault : {P X : Type 0} (r : Result P Error) (why : Option Corrupt) �
 untold-fault (Ok p) why told is = absurd (cc is)
 untold-fault (Err e) why (inl memory) is = absurd (cc (memory, is))
 untold-fault (Err e) why (inr (c, wrong, due)) is = absurd (cc (wrong, is))
+
+-- What is selected.
+
+-- a commit is one of the items
+last-within : (i : ℕ) (before : Option model.Selected) (items : List (Option Operation)) → size_of before ≤ i → size_of (last_commit i before items) ≤ i + length items
+last-within i before [] low = omega (arith, low)
+last-within i before (None ∷ rest) low = let more = last-within (suc i) before rest (omega (arith, low)) in omega (arith, more)
+last-within i before (Some (update k v x) ∷ rest) low = let more = last-within (suc i) before rest (omega (arith, low)) in omega (arith, more)
+last-within i before (Some (delete k) ∷ rest) low = let more = last-within (suc i) before rest (omega (arith, low)) in omega (arith, more)
+last-within i before (Some (commit m f) ∷ rest) low = let more = last-within (suc i) (Some (record { size = suc i; floor = f })) rest (le_refl (suc i)) in omega (arith, more)
+
+selected-within : (f : model.Found) (bound : Option ℕ) → size_of (selected f bound) ≤ f.start + length f.items
+selected-within f None = last-within f.start None f.items (omega arith)
+selected-within f (Some bound) = let few = last-within f.start None (take (bound - f.start) f.items) (omega arith) in omega (arith, few, length-take (bound - f.start) f.items)
+
+-- a store has no fewer items behind an opening than were selected
+end-taken : (m : Scheme) (n : ℕ) (s : Stored) → n ≤ end_of s → n ≤ end_of (taken m n s)
+end-taken m zero s within = omega arith
+end-taken m (suc n) s within = omega (arith, within, length-take (suc n - s.start) s.items)
+
+-- what is long enough stays so where it grows
+longer : (threshold : Option ℕ) (n m : ℕ) → n ≤ m → is_early threshold n ≡ false → is_early threshold m ≡ true → ⊥
+longer None n m up enough early = absurd (cc early)
+longer (Some least) n m up enough early = let more = ltb-false n least enough in let less = ltb-true m least early in absurd (omega (arith, up, more, less))
 
 -- Whether a grafted tree can be made.
 
@@ -218,6 +243,11 @@ was-told : (o new : Option Stored) (R : Stored → Stored → Type 0) (t : Store
 was-told None new R t turns is = absurd (cc (turns, is))
 was-told (Some s) None R t turns is = absurd turns
 was-told (Some s) (Some u) R t turns is = let same : u ≡ t = cc in (s, refl, subst (R s) same turns)
+
+turned : (o new : Option Stored) (f : Stored → Stored) (s : Stored) → Turns o new (λ s t. t ≡ f s) → o ≡ Some s → new ≡ Some (f s)
+turned None new f s turns is = absurd (cc is)
+turned (Some u) None f s turns is = absurd turns
+turned (Some u) (Some t) f s turns is = let same : u ≡ s = cc in ap (λ x. Some x) (turns ∙ ap f same)
 
 -- What comes of an opening.
 
@@ -308,7 +338,7 @@ module _ {C D : Type 0} (members : store.Ghosts C) (layout : Layout D) (digest_s
         }
 
     module _ (births : Births) (family : IsFamily layout.hashing.shape births) (peaked : HasPeaks layout.hashing.shape) (whole : length pins ≡ length (peaks layout.hashing.shape count)) (starts : IfSome (members.told old) (λ s. s.start ≡ members.start old))
-        (any : anys.Database C D) (is : Found (Ok any)) where
+        (any : anys.Database C D) (is : Found (Ok any)) (ends : IfSome (members.told any.log.store) (λ t. end_of t ≡ members.«end» any.log.store)) (waits : threshold ≡ pair_absorption_threshold layout.hashing.shape (grafting layout.chunk) count) where
       -- what it became
       made : (s t : Stored) → t ≡ taken theirs (selected_size theirs bound s) s → t ≡ taken ours (selected_size ours bound s) s
       made s t is = is ∙ taken-same layout digest_size name (selected_size theirs bound s) s ∙ ap (λ n. taken ours n s) (sym (size-same layout digest_size name bound s))
@@ -316,14 +346,24 @@ module _ {C D : Type 0} (members : store.Ghosts C) (layout : Layout D) (digest_s
       accepted : (s : Stored) → members.told old ≡ Some s → refusal_up_to ours_lie bound s ≡ None
       accepted s told = due s told ∙ known-at _ (members.told old) s told is.offered
 
-      judged : (s : Stored) → members.told old ≡ Some s → (is_past layout.chunk s.start count ≡ false) × (selected_size ours bound s ≡ 0 → count ≡ 0)
+      judged : (s : Stored) → members.told old ≡ Some s
+          → (is_past layout.chunk s.start count ≡ false) × (selected_size ours bound s ≡ 0 → count ≡ 0) × (is_early (pair_absorption_threshold layout.hashing.shape (grafting layout.chunk) count) (selected_size theirs bound s) ≡ false)
       judged s told =
-          let both = due-none layout.hashing.form layout.hashing.shape digest_size layout.chunk name bound s count threshold (known-at _ (members.told old) s told is.offered) in
-          (both.0, λ none. both.1 (sym (size-found layout digest_size name bound s count) ∙ none))
+          let all = due-none layout.hashing.form layout.hashing.shape digest_size layout.chunk name bound s count threshold (known-at _ (members.told old) s told is.offered) in
+          let size = size-found layout digest_size name bound s count in
+          (all.0, (λ none. all.1 (sym size ∙ none)), subst (λ n. is_early (pair_absorption_threshold layout.hashing.shape (grafting layout.chunk) count) n ≡ false) (sym size ∙ size-same layout digest_size name bound s) all.2)
+
+      -- the list that was selected is no longer than the one that is taken up
+      taken-within : (s : Stored) → members.told old ≡ Some s → selected_size theirs bound s ≤ members.«end» any.log.store
+      taken-within s told =
+          let few = selected-within (found (layout_of theirs) s) bound in
+          let up = end-taken theirs (selected_size theirs bound s) s (omega (arith, few, length-map s.items (decoded layout.hashing.form))) in
+          let now = turned (members.told old) (members.told any.log.store) (λ s. taken theirs (selected_size theirs bound s) s) s is.became told in
+          subst (λ n. selected_size theirs bound s ≤ n) (known-at (λ t. end_of t ≡ members.«end» any.log.store) (members.told any.log.store) (taken theirs (selected_size theirs bound s) s) now ends) up
 
       -- why no grafted tree was made over it
       abbrev Gone : Error → Type 0
-      Gone e = (e ≡ errors.Memory) ⊎ ((e ≡ errors.DataCorrupted corrupt.PrunedPastBits) × (is_past layout.chunk (members.start any.log.store) any.activity.pruned ≡ true))
+      Gone e = (e ≡ errors.Memory) ⊎ IsUnfit e layout.chunk threshold (members.start any.log.store) (members.«end» any.log.store) any.activity.pruned
 
       -- the grafted tree was made over it, or memory lacked; what else may be refused was not
       pub opens-joined : (r : Answer) → IfOk r (λ x. (x.any ≡ any) × (x.instance ≡ number) × (x.name ≡ name))
@@ -377,11 +417,14 @@ module _ {C D : Type 0} (members : store.Ghosts C) (layout : Layout D) (digest_s
         where
           memory-due : (s : Stored) → members.told old ≡ Some s → Gone e.error → IsDue e.error (refusal_up_to ours_lie bound s)
           memory-due s told (inl memory) = subst (λ x. IsDue x (refusal_up_to ours_lie bound s)) (sym memory) tt
-          memory-due s told (inr (is_past_bits, past)) =
+          memory-due s told (inr (inr (is_short, early))) =
+              absurd (longer threshold (selected_size theirs bound s) (members.«end» any.log.store) (taken-within s told) (ap (λ o. is_early o (selected_size theirs bound s)) waits ∙ (judged s told).2) early)
+          memory-due s told (inr (inl (is_past_bits, past))) =
               let from : members.start any.log.store ≡ s.start = is.start ∙ sym (known-at _ (members.told old) s told starts) in
               let no : true ≡ false = sym past ∙ ap₂ (is_past layout.chunk) from is.pruned ∙ (judged s told).0 in
               absurd (cc no)
 
           no-fault : {X : Type 0} → e.error ≡ errors.Journal journal.Store → Gone e.error → X
           no-fault fault (inl memory) = absurd (cc (fault, memory))
-          no-fault fault (inr (other, past)) = absurd (cc (fault, other))
+          no-fault fault (inr (inl (other, past))) = absurd (cc (fault, other))
+          no-fault fault (inr (inr (other, early))) = absurd (cc (fault, other))

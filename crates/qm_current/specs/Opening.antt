@@ -1,5 +1,6 @@
 -- What comes of opening the list that a store keeps as a current database.
-use Rattle.std.specs.Prelude.{◌≡◌, ◌≢◌, ◌/◌, ◌^◌, ◌≤◌, ℕ, nat_lt, Bool, List, map, Option, None, Some, IfSome, IsSome, Result, IfOk, IfErr, OnOk}
+use Rattle.std.specs.Prelude.{◌≡◌, ◌≢◌, ◌⊎◌, ◌/◌, ◌^◌, ◌≤◌, ℕ, nat_lt, Bool, true, false, List, map, Option, None, Some, IfSome, IsSome, Result, IfOk, IfErr, OnOk}
+use Rattle.std.specs.Option.{option_map_or}
 use Rattle.qm_model.specs.Causes.{Rose}
 use Rattle.qm_model.specs.Forms.{Form}
 use Rattle.qm_model.specs.Opening as model
@@ -10,7 +11,9 @@ use Rattle.qm_model.specs.Schemes.{layout_of}
 use Rattle.qm_model.specs.StoreModel.{Stored, Turns, metadata_in}
 use Rattle.qm_model.specs.Taken.{IsTaken, selected_size, taken, LeavesOpening}
 use Rattle.qm_model.specs.Trees.{Shape}
-use Rattle.qm_base.specs.declared.error.Error.TheVariants.{Journal}
+use Rattle.qm_base.specs.declared.error.Corrupt.TheVariants.{PrunedPastBits}
+use Rattle.qm_base.specs.declared.error.Error.{Error}
+use Rattle.qm_base.specs.declared.error.Error.TheVariants.{DataCorrupted, HistoricalFloorPruned, Journal}
 use Rattle.qm_base.specs.declared.error.JournalError.TheVariants as journal
 use Rattle.qm_graft.specs.Grafting.{grafting}
 use Rattle.qm_store.specs.declared.Store as store
@@ -40,6 +43,14 @@ pub record Counts (layout : model.Layout) (name : Bytes) (s : Stored) (count : �
 -- a store starts past the chunk of this number of bytes behind the pruned ones
 abbrev pub is_past : ℕ → ℕ → ℕ → Bool
 is_past chunk start pruned = nat_lt pruned (start / 2 ^ grafting chunk)
+
+-- a list of this size is not what the pruned chunks wait for, if they wait
+abbrev pub is_early : Option ℕ → ℕ → Bool
+is_early threshold size = option_map_or (λ least. nat_lt size least) threshold false
+
+-- no grafted tree is made over a list that starts and ends there, of which so many chunks are pruned
+abbrev pub IsUnfit : Error → ℕ → Option ℕ → ℕ → ℕ → ℕ → Type 0
+IsUnfit e chunk threshold start size pruned = ((e ≡ DataCorrupted PrunedPastBits) × (is_past chunk start pruned ≡ true)) ⊎ ((e ≡ HistoricalFloorPruned size) × (is_early threshold size ≡ true))
 
 module _ {C D : Type 0} (members : store.Ghosts C) (layout : Layout D) (digest_size : ℕ) (name : Bytes) where
   -- What comes of opening a store up to a bound, as a database of this instance number, whose chunks metadata of this name counts: it stands

@@ -14,7 +14,7 @@ ghost use Rattle.qm_graft.specs.Grafting.{grafting};
 ghost use Rattle.qm_roots.specs.Canonical.{IsCanonical, MayGo};
 ghost use Rattle.qm_any.specs.Applying as applying;
 ghost use Rattle.qm_any.specs.Databases as anys;
-ghost use Rattle.qm_current.specs.Opening.{Counts, Opens, is_past, lies, refusal_up_to};
+ghost use Rattle.qm_current.specs.Opening.{Counts, Opens, IsUnfit, is_early, lies, refusal_up_to};
 
 use crate::config::Config;
 use crate::db::Db;
@@ -192,9 +192,8 @@ fn joined<
         → IfOk result (λ db.
         IsCanonical H.Digest.bytes H.hash F.shape N.LEN U.form db.canonical list) }
     ensures refused { IfErr result (λ r. (r.given ≡ Given.Store any.log.store)
-        × ((r.error ≡ Error.Memory)
-        ⊎ ((r.error ≡ Error.DataCorrupted Corrupt.PrunedPastBits)
-        × (is_past N.LEN (C.start any.log.store) any.activity.pruned ≡ true)))) }
+        × ((r.error ≡ Error.Memory) ⊎ IsUnfit r.error N.LEN threshold (C.start any.log.store)
+        (C.end any.log.store) any.activity.pruned)) }
 {
     match fits(&any, threshold) {
         Ok(()) => {
@@ -220,9 +219,8 @@ fn joined<
 }
 
 // Whether a grafted tree can be made over a database that was opened: its store starts in the chunk behind the pruned ones or before, and
-// its list is as long as these wait for. The opening looked at both, so it is refused here for no store. But what that says of the start
-// it says of stores that tell their items, and of the length of a list nothing where none is told to be there; so the latter counts as
-// want of memory, for which any call may fail.
+// its list is as long as these wait for. The opening looked at both, so no store that tells its items is refused here; but what the
+// opening says of both it says of these stores alone.
 fn fits<
     F: Graftable,
     C: Store,
@@ -237,9 +235,8 @@ fn fits<
         (any.now.log.tree.start < suc any.now.activity.pruned * (8 * N.LEN)) }
     ensures may_go { OnOk result
         (MayGo F.shape (grafting N.LEN) any.now.activity.pruned any.now.commitment.size) }
-    ensures refused { IfErr result (λ e. (e ≡ Error.Memory)
-        ⊎ ((e ≡ Error.DataCorrupted Corrupt.PrunedPastBits)
-        × (is_past N.LEN (C.start any.now.log.store) any.now.activity.pruned ≡ true))) }
+    ensures refused { IfErr result (λ e. IsUnfit e N.LEN threshold
+        (C.start any.now.log.store) (C.end any.now.log.store) any.now.activity.pruned) }
 {
     let (start, size) = any.bounds();
     let pruned = any.bitmap().pruned_chunks() as u64;
@@ -247,14 +244,14 @@ fn fits<
         return Err(Error::DataCorrupted(Corrupt::PrunedPastBits));
     }
     if is_short(threshold, size.get()) {
-        return Err(Error::Memory);
+        return Err(Error::HistoricalFloorPruned(size.get()));
     }
     Ok(())
 }
 
 // Whether a list of this size is below a threshold.
 fn is_short(threshold: Option<u64>, size: u64) -> bool
-    ensures { result ≡ option_map_or (λ least. nat_lt size least) threshold false }
+    ensures { result ≡ is_early threshold size }
 {
     match threshold {
         Some(least) => size < least,

@@ -1,5 +1,6 @@
-use Rattle.std.proofs.Common.{◌≡◌, ◌∙◌, length, map, ap, sym, subst}
+use Rattle.std.proofs.Common.{◌≡◌, ◌∙◌, length, map, ap, ap₂, sym, subst}
 use Rattle.std.proofs.lemmas.List.{length-map}
+use Rattle.qm_model.specs.Grafted.{pair_absorption_threshold}
 use Rattle.qm_model.specs.Trees.{peaks}
 use Rattle.qm_open.proofs.Checking.{each-known, known-at}
 use Rattle.qm_any.specs.Layouts.{layout_of}
@@ -21,6 +22,7 @@ returns-in-Ok-clause-opens g c =
     let whole : length pins ≡ length (peaks shape pruned.0) = length-map c.args.pinned.pins.items g.H.Digest.Digest.bytes ∙ c.requires.whole ∙ ap (λ n. length (peaks shape n)) (sym counted) in
     opens-joined g.C.Store (layout_of chunk g.H.Digest.Digest.bytes g.H.Hasher g.F.Family g.U.Update g.I.Unordered) size name c.args.max_size c.args.config.instance c.args.store c.requires.stable
     pruned.0 pruned.1 pins counts g.F.Family.births g.met.F.Family.numbered g.met.F.Family.peaked whole (g.met.C.Store.told_start c.args.store) c.in-Ok.any c.in-Ok.ensures.opens
+    (g.met.C.Store.told_end c.in-Ok.any.log.store) (c.pruned-pruned.ensures.threshold ∙ ap₂ (pair_absorption_threshold shape) c.height.ensures.exact (sym counted))
     c.joined.result c.joined.ensures.made c.joined.ensures.canonical c.joined.ensures.refused
 
 pub returns-in-Err-clause-opens : goal.returns-in-Err-clause-opens
