@@ -1,0 +1,4 @@
+pub mod Crews
+pub mod Orders
+pub mod Turned
+pub mod Views
