@@ -1,0 +1,5 @@
+pub mod CacheRows
+pub mod Marked
+pub mod Projection
+pub mod Ranges
+pub mod RoutedRows
