@@ -6,6 +6,8 @@ pub mod calls;
 pub mod crew;
 pub mod laws;
 pub mod rounds;
+#[cfg(test)]
+mod tests;
 pub mod turns;
 
 pub use board::{Board, MarkSeat};
