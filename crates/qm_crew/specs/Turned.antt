@@ -6,7 +6,7 @@ pub record Turns {W : Type 0} (left : W → ℕ) (may_turn : W → W → Type 0)
   pub no_more : left new ≤ left old
   pub may : may_turn old new
 
--- of each member this became that
+-- each member did this, and the crew is as long as before
 pub record AreTurned {W : Type 0} (turns : W → W → Type 0) (old new : List W) : Type 0 where
   pub long : length new ≡ length old
   pub each : (i : ℕ) (d : W) → i < length old

@@ -19,7 +19,7 @@ pub struct Marker {
 }
 
 impl Marker {
-    /// Marks all places in order, each by one step. It is the crew's member `number`, and passes the gate before each mark and once after the last.
+    /// Marks all places in order, each by one step. It is the crew's member `number`, counted from 0, and calls the gate's `pass` before each mark and once after the last. It takes no memory.
     pub fn mark<G: Gate>(&mut self, gate: &G, board: &Board, number: usize)
         requires { IsReady board.now.table_id self.old }
         ensures done { IsDone board.now.table_id self.new }
@@ -46,7 +46,7 @@ fn mark_places<G: Gate>(gate: &G, board: &Board, number: usize, seat: &mut MarkS
     gate.pass(number, step);
 }
 
-/// Has each member mark its places, side by side: one of them in the thread of the caller, and each other in a thread of its own where there is one to be had.
+/// Has each member mark its places, side by side. It starts as many threads as there are members, less one; where none can be made, members work one after the other.
 pub fn mark_all<R: Threads + Sync, G: Gate>(rt: &R, gate: &G, board: &Board, crew: &mut [Marker])
     requires { All (IsReady board.now.table_id) crew.old }
     ensures { AreMarked board.now.table_id crew.old crew.new }
@@ -129,7 +129,7 @@ fn copy_out(table: BoardTable, lead: MarkSeat, bits: &mut [u64])
     closed.free();
 }
 
-/// So many words of 64 places each, in which a bit is set exactly where some list has its place. Each list is one member's, and `marks` has the crew mark.
+/// So many words of 64 places each, in which a bit is set exactly where some list has its place. Each list is one member's, and `marks` has the crew mark, in one call. It takes memory for the words twice, and for a member of each list; want of it is the only error.
 pub fn marked_by<M: Marks>(
     alloc: Global,
     marks: &mut M,

@@ -33,16 +33,20 @@ pub trait Answers<W> {
         ensures leaves { OnOk result (leaves self.old self.new) }
         ensures err { IfErr result (fails self.old self.new) };
 
+    /// No answer leaves it as it is.
     ghost leaves_it: { (a : Self) → leaves a a };
 
+    /// Answers in a row leave what one leaves.
     ghost leaves_on: { (a b c : Self) → leaves a b → leaves b c → leaves a c };
 
+    /// A later answer tells no more than one could have told before.
     ghost tells_on: { (a b : Self) (v w : W) → leaves a b → tells b v w → tells a v w };
 
+    /// A later answer fails as one could have failed before.
     ghost fails_on: { (a b c : Self) (e : Self.Error) → leaves a b → fails b c e → fails a c e };
 }
 
-/// Has a crew take turns, and answers those who ask after each, until nobody asks. It returns since an answer leaves less to do to whoever asked, and a turn no more. Of the crew after an error it says nothing but its length.
+/// Has a crew take turns, and answers those who ask after each, until nobody asks. It returns since an answer leaves less to do to whoever asked, and a turn no more. Each turn is one call of `run`, and an answer of each member behind it. Of the crew after an error it says nothing but its length.
 pub fn turn_until_quiet<W, T: Runs<W>, A: Answers<W>>(
     run: &mut T,
     answers: &mut A,

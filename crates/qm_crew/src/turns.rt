@@ -15,12 +15,12 @@ pub trait Turning: Send {
     /// What a turn may make of it.
     ghost may_turn: { Self → Self → Type 0 };
 
-    /// Works until it is done or has to ask. It is the crew's member `number`, by which it passes the gate.
+    /// Works until it is done or has to ask. It is the crew's member `number`, counted from 0, and calls the gate's `take` by that before each operation.
     fn turn<G: Gate>(&mut self, gate: &G, number: usize)
         ensures { Turns left may_turn self.old self.new };
 }
 
-/// Has each member take its turn, side by side: one of them in the thread of the caller, and each other in a thread of its own where there is one to be had.
+/// Has each member take its turn, side by side. Each call starts as many threads as there are members, less one; where none can be made, members work one after the other.
 pub fn turn_all<R: Threads + Sync, G: Gate, W: Turning>(rt: &R, gate: &G, crew: &mut [W])
     ensures { AreTurned (Turns W.left W.may_turn) crew.old crew.new }
 {
