@@ -315,10 +315,9 @@ impl<
         batch.fits(&self.commitment)
     }
 
-    /// Takes the batch's tip list: it appends to the store what that lacks of it, the operations of kept ancestors that are
-    /// not applied yet and the batch's own, and puts into the index what these do to keys. The database comes back as it
-    /// was where the batch is stale. Where memory lacks it comes back as it was, or its store does, which may have a first
-    /// part of them; where the store failed, its store does.
+    /// Appends the operations that the database does not have yet, those of kept ancestors that are not applied and the batch's own, and
+    /// updates the index. `StaleBatch` gives the database back as it was. Want of memory gives back the database as it was or, once the
+    /// store was called, the store, which may have a first part of the new operations. A failed store is given back so too.
     pub fn apply_batch(
         self,
         alloc: Global,
@@ -349,7 +348,7 @@ impl<
         }
     }
 
-    // The database with a batch's list, of which it lacked this. The batch's tree has the leaves, so nothing is hashed.
+    // Moves the database to a batch's list by appending what it lacks of that. The batch's tree has the leaves, so nothing is hashed.
     fn moved(
         self,
         lacking: Lacking<'_, F, U>,

@@ -109,7 +109,8 @@ pub(crate) fn spelled<F, U: Update>(
     Ok(items)
 }
 
-/// The spellings of operations that stand behind a list of this size, where none is too long and the list with them is not.
+/// The spellings of operations that come after a list of this size. A spelling of more than 65,536 bytes is refused, and then a list of
+/// more than 2^62 operations.
 pub(crate) fn spelled_behind<F, U: Update>(
     alloc: Global,
     operations: &[Operation<F, U>],
