@@ -202,7 +202,7 @@ fn root_of<F: Graftable>(alloc: Global, count: u64, first: u64) -> Result<String
 }
 
 // The next number of a text.
-fn number(word: Option<&str>) -> u64
+pub(crate) fn number(word: Option<&str>) -> u64
     ensures { result ≤ 1000 }
 {
     word.unwrap_or("").parse().unwrap_or(0).min(1000)

@@ -22,6 +22,8 @@ mod lengths;
 #[cfg(test)]
 mod overlays;
 #[cfg(test)]
+mod refusals;
+#[cfg(test)]
 mod scans;
 #[cfg(test)]
 mod trees;
