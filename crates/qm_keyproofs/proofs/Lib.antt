@@ -1,0 +1,5 @@
+mod Descent
+mod Folding
+mod Verdicts
+mod Speaking
+mod Absences

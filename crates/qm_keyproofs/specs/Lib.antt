@@ -1,0 +1,4 @@
+pub mod Claims
+pub mod Views
+pub mod Lent
+pub mod Exclusions
