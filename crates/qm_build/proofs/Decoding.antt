@@ -1,5 +1,5 @@
 -- Which items between two locations spell operations.
-use Rattle.std.proofs.Common.{Bool, ◌≡◌, ◌⊎◌, inl, inr, ◌≤◌, ◌<◌, ◌-◌, ◌∙◌, ℕ, ◌+◌, zero, suc, true, false, List, [], ◌∷◌, map, take, drop, arith, refl, ap, subst, sym, Option, Some, None, Result, Ok, Err}
+use Rattle.std.proofs.Common.{Bool, ◌≡◌, ◌⊎◌, inl, inr, ◌≤◌, ◌<◌, ◌-◌, ◌∙◌, ℕ, ◌+◌, zero, suc, true, false, List, [], ◌∷◌, map, take, drop, arith, refl, ap, subst, Option, Some, None, Result, Ok, Err}
 use Rattle.std.specs.Prelude.{IfSome, OnOk, is_none, slice_get, option_and_then}
 use Rattle.std.specs.List.{list_any}
 use Rattle.qm_model.specs.Forms.{Form, decoded}
@@ -51,23 +51,16 @@ pub one-undecoded : (form : Form) (s : Stored) (from to at : ℕ) → s.start �
 one-undecoded form s from to at low more less lost =
     one-lost (decoded form) s.items (from - s.start) (to - s.start) (at - s.start) lost.item (omega (arith, more, low)) (omega (arith, less, more, low)) lost.here lost.none
 
+-- below one more it is below, or there
 next-case : (i at : ℕ) → (i < at) ⊎ (i ≡ at) → (suc i < suc at) ⊎ (suc i ≡ suc at)
 next-case i at (inl less) = inl (omega (arith, less))
 next-case i at (inr same) = inr (ap suc same)
 
-below-or-at : (i at : ℕ) → i ≤ at → (i < at) ⊎ (i ≡ at)
+pub below-or-at : (i at : ℕ) → i ≤ at → (i < at) ⊎ (i ≡ at)
 below-or-at zero zero low = inr refl
 below-or-at zero (suc at) low = inl (omega arith)
 below-or-at (suc i) zero low = absurd (omega (arith, low))
 below-or-at (suc i) (suc at) low = next-case i at (below-or-at i at (omega (arith, low)))
-
-one-case : (form : Form) (s : Stored) (at i : ℕ) → (i < at → is_none (operation_at form s i) ≡ false) → is_none (operation_at form s at) ≡ false → (i < at) ⊎ (i ≡ at) → is_none (operation_at form s i) ≡ false
-one-case form s at i before here (inl less) = before less
-one-case form s at i before here (inr same) = subst (λ n. is_none (operation_at form s n) ≡ false) (sym same) here
-
--- one location more
-pub one-more : (form : Form) (s : Stored) (at i : ℕ) → (i < at → is_none (operation_at form s i) ≡ false) → is_none (operation_at form s at) ≡ false → i ≤ at → is_none (operation_at form s i) ≡ false
-one-more form s at i before here within = one-case form s at i before here (below-or-at i at within)
 
 -- what holds of all that may be told
 pub each : {X : Type 0} (o : Option X) {P : X → Type 0} → ((x : X) → P x) → IfSome o P

@@ -1,4 +1,7 @@
+pub mod Keeping
+pub mod Slots
 pub mod Caching
+pub mod CacheRows
 pub mod Finding
 pub mod Pushing
 pub mod Putting
@@ -9,6 +12,7 @@ pub mod Decoding
 pub mod Linking
 pub mod Behind
 pub mod Onward
+pub mod Spelling
 pub mod Floors
 pub mod Telling
 pub mod Ended

@@ -11,7 +11,7 @@ use Rattle.qm_model.specs.Operations.{update, delete, commit}
 use Rattle.qm_model.specs.Bits.{bits}
 use Rattle.qm_index.specs.Buckets.{bucket_at}
 use Rattle.qm_build.specs.Building.{between, live_bits, ArePlaced}
-use Rattle.qm_build.specs.Built.{NoneBelow, IsBuilt}
+use Rattle.qm_build.specs.Built.{NoneBelow, IsBuilt, IsRebuilt}
 use Rattle.qm_build.proofs.Pushing.{pairs}
 
 -- nothing is live before the rest of a list: then all that is live is in the rest
@@ -91,4 +91,18 @@ built index_key entries live_keys activity floor size ops low all none placed =
       indexed = λ k. subst (λ ls. IsPermutation ls (bucket_at entries k)) (pairs-locations index_key k (live_from floor (drop floor ops)) ∙ ap (λ es. map (λ (e : Live). e.location) (filter (λ e. index_key e.key == k) es)) (sym alive)) (are.indexed k);
       counted = are.counted ∙ length-map (live_from floor (drop floor ops)) (λ (e : Live). (e.key, e.location)) ∙ ap length (sym alive);
       active = ap (λ bs. set bs (size - floor - 1) true) are.marked ∙ ap (λ i. set (live_bits (drop floor ops)) i true) last ∙ bits-last (drop floor ops) (omega arith) ∙ bits-drop floor ops;
+    }
+
+-- the same of what stands from the floor on alone
+pub rebuilt : (index_key : Bytes → ℕ) (entries : List (ℕ × List ℕ)) (live_keys : ℕ) (activity : List Bool) (floor size : ℕ) (ops : List Operation) → floor < size → size ≡ length ops
+    → ArePlaced index_key entries live_keys activity floor (between floor size ops) → IsRebuilt index_key entries live_keys (set activity (size - floor - 1) true) floor (drop floor ops)
+rebuilt index_key entries live_keys activity floor size ops low all placed =
+    let left = length-drop floor ops in
+    let whole : between floor size ops ≡ drop floor ops = take_all (size - floor) (drop floor ops) (omega arith) in
+    let are = subst (ArePlaced index_key entries live_keys activity floor) whole placed in
+    let last : size - floor - 1 ≡ length (drop floor ops) - 1 = omega arith in
+    record {
+      indexed = are.indexed;
+      counted = are.counted;
+      active = ap (λ bs. set bs (size - floor - 1) true) are.marked ∙ ap (λ i. set (live_bits (drop floor ops)) i true) last ∙ bits-last (drop floor ops) (omega arith);
     }

@@ -1,9 +1,9 @@
 -- Logs that are read.
-use Rattle.std.specs.Prelude.{◌≡◌, ◌⊎◌, ◌≤◌, ◌-◌, ℕ, List, map, take, drop, All, Option, Some, None, slice_get, option_and_then}
+use Rattle.std.specs.Prelude.{◌≡◌, ◌⊎◌, ◌≤◌, ◌-◌, ℕ, List, map, take, drop, All, Option, Some, None, slice_get, option_and_then, filter_map}
 use Rattle.qm_model.specs.Causes.{Rose}
 use Rattle.qm_model.specs.Operations.{Bytes, Operation}
 use Rattle.qm_model.specs.Trees.{Shape}
-use Rattle.qm_model.specs.Forms.{Form, IsOf, decoded, spelling}
+use Rattle.qm_model.specs.Forms.{Form, IsOf, IsSpelling, decoded, spelling}
 use Rattle.qm_model.specs.StoreModel.{Stored}
 use Rattle.qm_base.specs.declared.error.Corrupt.TheVariants.{ItemDoesNotDecode}
 use Rattle.qm_base.specs.declared.error.Error.{Error}
@@ -22,9 +22,23 @@ pub record IsUndecoded (form : Form) (s : Stored) (at : ℕ) : Type 0 where
   pub here : slice_get s.items (at - s.start) ≡ Some item
   pub none : decoded form item ≡ None
 
+-- a store's item at a location spells this operation
+pub record SpellsAt (form : Form) (s : Stored) (at : ℕ) (op : Operation) : Type 0 where
+  pub item : Bytes
+  pub here : slice_get s.items (at - s.start) ≡ Some item
+  pub spells : IsSpelling form item op
+
+-- from a location on the items of a store spell those of these operations that stand there
+abbrev pub Spells : Form → Stored → ℕ → List Operation → Type 0
+Spells form s from ops = (at : ℕ) (op : Operation) → from ≤ at → slice_get ops at ≡ Some op → SpellsAt form s at op
+
 -- the items of a store from one location up to, and without, another, each as an operation, none where it spells none
 abbrev pub items_within : Form → Stored → ℕ → ℕ → List (Option Operation)
 items_within form s from to = drop (from - s.start) (take (to - s.start) (map (decoded form) s.items))
+
+-- the operations that these items spell
+abbrev pub operations_within : Form → Stored → ℕ → ℕ → List Operation
+operations_within form s from to = filter_map (λ item. item) (items_within form s from to)
 
 -- a log has the spellings of operations of this form
 pub record HasOperations {C D : Type 0} (members : store.Ghosts C) (shape : Shape) (bytes : D → Bytes) (hash : Bytes → Bytes) (form : Form) (log : Log C D) (ops : List Operation) : Type 0 where

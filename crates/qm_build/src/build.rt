@@ -1,13 +1,13 @@
 //! The rebuilding of a list, item by item.
 
-ghost use Rattle.std.specs.Prelude.{◌≡◌, ◌≢◌, ◌⊎◌, true, false, ◌+◌, ◌^◌, ◌<◌, ◌≤◌, ℕ, List, [], Some, is_none, length, slice_get, IfSome, IfOk, IfErr, OnOk};
+ghost use Rattle.std.specs.Prelude.{◌≡◌, ◌≢◌, ◌⊎◌, true, false, ◌+◌, ◌^◌, ◌<◌, ◌≤◌, ℕ, List, [], Some, is_none, length, slice_get, option_map, IfSome, IfOk, IfErr, OnOk};
 ghost use Rattle.std.specs.List.{list_any};
 ghost use Rattle.qm_model.specs.Operations as model;
 ghost use Rattle.qm_operations.specs.Views.{operation_view};
 ghost use Rattle.qm_build.specs.Building.{ArePlaced, AreWithin, between};
 ghost use Rattle.qm_build.specs.Built.{Rebuilds};
-ghost use Rattle.qm_build.specs.Cached.{Holds, AreKeys};
-ghost use Rattle.qm_build.specs.Reads.{HasOperations, KeepsLog, IsReadFault};
+ghost use Rattle.qm_build.specs.Cached.{let_go, kept_on, AreKeys};
+ghost use Rattle.qm_build.specs.Reads.{Spells, KeepsLog, IsReadFault};
 
 use crate::cache::Cache;
 use crate::moves::{move_key, note};
@@ -82,12 +82,11 @@ fn put<F: Family, I: qm_index::Unordered<Value = Location<F>>, C: Store, H: Hash
     requires within { AreWithin floor at (I.entries index.old) }
     requires counted { snapshot.old.live ≤ length snapshot.old.activity }
     ensures placed { (ops : List model.Operation)
-        → HasOperations C.Store F.shape H.Digest.bytes H.hash U.form log.old ops
         → slice_get ops at ≡ Some (operation_view U.view U.Key.bytes U.Value.bytes operation)
         → ArePlaced I.index_key (I.entries index.old) snapshot.old.live snapshot.old.activity floor
         (between floor at ops) → AreKeys U.Key.bytes ops cache.old
-        → IfSome (C.told log.old.store) (λ _.
-        OnOk result (ArePlaced I.index_key (I.entries index.new) snapshot.new.live
+        → IfSome (C.told log.old.store) (λ s. Spells U.form s floor ops
+        → OnOk result (ArePlaced I.index_key (I.entries index.new) snapshot.new.live
         snapshot.new.activity floor (between floor (at + 1) ops)
         × AreKeys U.Key.bytes ops cache.new)) }
     ensures long { OnOk result (length snapshot.new.activity ≡ length snapshot.old.activity + 1) }
@@ -109,8 +108,7 @@ fn put<F: Family, I: qm_index::Unordered<Value = Location<F>>, C: Store, H: Hash
 
 // Keeps the key of an update, and lets go of that of the update that was found.
 fn keep<K: Drop>(cache: &mut Cache<K>, at: u64, key: K, found: Option<Found>, is_update: bool)
-    ensures { (l : ℕ) (k : K) → Holds cache.new l k
-        → ((is_update ≡ true) × ((l ≡ at) × (k ≡ key))) ⊎ Holds cache.old l k }
+    ensures { cache.new ≡ kept_on cache.old (option_map (λ f. f.location) found) is_update at key }
 {
     let_go(cache, found);
     if is_update {
@@ -120,7 +118,7 @@ fn keep<K: Drop>(cache: &mut Cache<K>, at: u64, key: K, found: Option<Found>, is
 
 // Lets go of the key of the update that was found.
 fn let_go<K: Drop>(cache: &mut Cache<K>, found: Option<Found>)
-    ensures { (l : ℕ) (k : K) → Holds cache.new l k → Holds cache.old l k }
+    ensures { cache.new ≡ let_go cache.old (option_map (λ f. f.location) found) }
 {
     if let Some(found) = found {
         cache.remove(found.location);

@@ -1,7 +1,8 @@
 //! Keys of updates that were read, by location.
 
-ghost use Rattle.std.specs.Prelude.{◌≡◌, ◌≢◌, ◌⊎◌, ◌+◌, ◌*◌, ◌<◌, ◌≤◌, ℕ, None, length, slice_index_or, IfSome, IfOk, option_map};
-ghost use Rattle.qm_build.specs.Cached.{set_of, Holds, AreSlots};
+ghost use Rattle.std.specs.Prelude.{◌≡◌, ◌≢◌, ◌⊎◌, ◌+◌, ◌*◌, ◌<◌, ◌≤◌, ℕ, None, Some, length, slice_index_or, IfSome, IfNone, true, false, IfOk, option_map};
+ghost use Rattle.std.specs.NonZero.{non_zero_usize_get};
+ghost use Rattle.qm_build.specs.Cached.{IsFirst, set_of, AreSlots, empty_cache, given, put, removed};
 
 use std::alloc::{AllocError, Global};
 use std::marker::Model;
@@ -10,9 +11,8 @@ use std::num::NonZeroUsize;
 /// How many slots a set has at most.
 const WAYS: usize = 16;
 
-/// Some of the keys that were put in, by location: what it gives for a location is the key that was last put there and not
-/// removed since. A key is kept in one of the slots of its location's set; where all are taken, the key of the smallest
-/// location leaves.
+/// Some of the keys that were put in, by location. A key is kept in one of the slots of its location's set; where all are taken by
+/// other locations, the key of the smallest of these leaves.
 #[derive(Drop)]
 pub struct Cache<K> {
     ways: usize,
@@ -21,22 +21,22 @@ pub struct Cache<K> {
 }
 
 impl<K> Model for Cache<K> {
-    ghost use Rattle.std.specs.Prelude.{ℕ, List, Option};
-    ghost use Rattle.qm_build.specs.Cached.{AreSlots};
+    ghost use Rattle.qm_build.specs.Cached.{Cached, AreSlots, kept_in};
 
-    ghost Value = { List (Option (ℕ × K)) };
+    ghost Value = { Cached K };
 
-    ghost view = { λ c. c.slots.items };
+    ghost view = { λ c. record { ways = c.ways; sets = c.sets; kept = kept_in c.slots.items } };
 
     ghost invariant = { λ c. AreSlots c.ways c.sets c.slots.items };
 }
 
 impl<K: Drop> Cache<K> {
-    /// A cache of so many keys at most, without one. Want of memory is the only error.
+    /// A cache of so many keys at most, without one: it has a whole number of sets. Want of memory is the only error, and no
+    /// later call wants any.
     pub fn new(alloc: Global, capacity: NonZeroUsize) -> Result<Self, AllocError>
-        ensures { IfOk result (λ c. (at : ℕ) (k : K) → ¬ Holds c at k) }
+        ensures { IfOk result (λ c. c ≡ empty_cache (non_zero_usize_get capacity)) }
     {
-        let ways = capacity.get().min(WAYS);
+        let ways = WAYS.min(capacity.get());
         let sets = capacity.get() / ways;
         let slots = empty(alloc, sets * ways)?;
         Ok(Cache { ways, sets, slots })
@@ -44,7 +44,7 @@ impl<K: Drop> Cache<K> {
 
     /// The key for a location, if it is still there.
     pub fn get(&self, location: u64) -> Option<&K>
-        ensures { IfSome result (λ key. Holds self.now location key.now) }
+        ensures { option_map (λ key. key.now) result ≡ given self.now location }
     {
         let first = set_of(self.sets, location) * self.ways;
         key_in(&self.slots, first, first + self.ways, location)
@@ -52,8 +52,7 @@ impl<K: Drop> Cache<K> {
 
     /// Puts in the key for a location.
     pub fn put(&mut self, location: u64, key: K)
-        ensures { (at : ℕ) (k : K) → Holds self.new at k
-            → ((at ≡ location) × (k ≡ key)) ⊎ ((at ≢ location) × Holds self.old at k) }
+        ensures { self.new ≡ put self.old location key }
     {
         let first = set_of(self.sets, location) * self.ways;
         let end = first + self.ways;
@@ -64,7 +63,7 @@ impl<K: Drop> Cache<K> {
 
     /// Takes out the key for a location.
     pub fn remove(&mut self, location: u64)
-        ensures { (at : ℕ) (k : K) → Holds self.new at k → (at ≢ location) × Holds self.old at k }
+        ensures { self.new ≡ removed self.old location }
     {
         let first = set_of(self.sets, location) * self.ways;
         let end = first + self.ways;
@@ -108,7 +107,10 @@ fn location_of<K>(slot: &Option<(u64, K)>) -> Option<u64>
 // The key for a location in these slots.
 fn key_in<K>(slots: &[Option<(u64, K)>], first: usize, end: usize, location: u64) -> Option<&K>
     requires { end ≤ length slots.now }
-    ensures { IfSome result (λ key. Holds slots.now location key.now) }
+    ensures found { IfSome result (λ key. (i : ℕ)
+        × (slice_index_or slots.now i None ≡ Some (location, key.now))) }
+    ensures none { IfNone result ((i : ℕ) → first ≤ i → i < end
+        → IfSome (slice_index_or slots.now i None) (λ p. p.0 ≢ location)) }
 {
     for at in first..end {
         match &slots[at] {
@@ -127,6 +129,8 @@ fn clear_in<K: Drop>(slots: &mut Vec<Option<(u64, K)>>, first: usize, end: usize
     ensures kept { (i : ℕ)
         → (slice_index_or slots.new.items i None ≡ None)
         ⊎ (slice_index_or slots.new.items i None ≡ slice_index_or slots.old.items i None) }
+    ensures others { (i : ℕ) → IfSome (slice_index_or slots.old.items i None) (λ p. p.0 ≢ location)
+        → slice_index_or slots.new.items i None ≡ slice_index_or slots.old.items i None }
     ensures clear { (i : ℕ) → first ≤ i → i < end
         → IfSome (slice_index_or slots.new.items i None) (λ p. p.0 ≢ location) }
 {
@@ -137,16 +141,26 @@ fn clear_in<K: Drop>(slots: &mut Vec<Option<(u64, K)>>, first: usize, end: usize
     }
 }
 
+// Whether a slot is empty and another is not, or its location is below that of the other.
+fn is_first<K>(slot: &Option<(u64, K)>, other: &Option<(u64, K)>) -> bool
+    ensures yes { result ≡ true → IsFirst slot.now other.now }
+    ensures no { result ≡ false → IsFirst other.now slot.now }
+{
+    location_of(slot) < location_of(other)
+}
+
 // The first empty one of these slots, or else the one with the smallest location.
 fn room_in<K>(slots: &[Option<(u64, K)>], first: usize, end: usize) -> usize
     requires some { first < end }
     requires within { end ≤ length slots.now }
     ensures from { first ≤ result }
     ensures below { result < end }
+    ensures least { (i : ℕ) → first ≤ i → i < end
+        → IsFirst (slice_index_or slots.now result None) (slice_index_or slots.now i None) }
 {
     let mut room = first;
     for at in first..end {
-        if location_of(&slots[at]) < location_of(&slots[room]) {
+        if is_first(&slots[at], &slots[room]) {
             room = at;
         }
     }

@@ -1,6 +1,6 @@
 //! Operations and keys, read from a log.
 
-ghost use Rattle.std.specs.Prelude.{◌≡◌, ◌≢◌, ◌⊎◌, ◌↔◌, ◌≤◌, ◌<◌, ◌-◌, ℕ, List, Some, None, true, slice_get, option_map, All, IfSome, IfOk, IfErr};
+ghost use Rattle.std.specs.Prelude.{◌≡◌, ◌≢◌, ◌⊎◌, ◌↔◌, ◌≤◌, ◌<◌, ◌-◌, ℕ, List, Some, None, true, length, slice_get, option_map, All, IfSome, IfOk, IfErr};
 ghost use Rattle.qm_model.specs.Forms.{IsSpelling, decoded};
 ghost use Rattle.qm_model.specs.Live as lives;
 ghost use Rattle.qm_model.specs.Operations as model;
@@ -10,7 +10,7 @@ ghost use Rattle.qm_operations.specs.Views.{operation_view};
 ghost use Rattle.qm_index.specs.Buckets.{bucket_at};
 ghost use Rattle.qm_build.specs.Building.{key_at, IsFound};
 ghost use Rattle.qm_build.specs.Cached.{AreKeys};
-ghost use Rattle.qm_build.specs.Reads.{operation_at, HasOperations, KeepsLog, IsRebuildError, IsReadFault, IsUndecoded};
+ghost use Rattle.qm_build.specs.Reads.{operation_at, HasOperations, SpellsAt, Spells, KeepsLog, IsRebuildError, IsReadFault, IsUndecoded};
 
 use crate::cache::Cache;
 use qm_base::{ByteString, Corrupt, Error, Hasher, Location};
@@ -37,6 +37,8 @@ pub(crate) fn read_operation<F: Family, C: Store, H: Hasher, U: Update>(
         IfErr result (λ e. e ≢ Error.DataCorrupted Corrupt.ItemDoesNotDecode)) }
     ensures held { IfSome (C.told log.old.store) (λ s. IfOk result (λ op.
         operation_at U.form s at ≡ Some (operation_view U.view U.Key.bytes U.Value.bytes op))) }
+    ensures spelled { IfSome (C.told log.old.store) (λ s. IfOk result (λ op.
+        SpellsAt U.form s at (operation_view U.view U.Key.bytes U.Value.bytes op))) }
     ensures corrupt { IfSome (C.told log.old.store) (λ s. IfErr result (λ e.
         e ≡ Error.DataCorrupted Corrupt.ItemDoesNotDecode → IsUndecoded U.form s at)) }
     ensures read { KeepsLog C.Store F.shape H.Digest.bytes H.hash log.old log.new }
@@ -100,10 +102,9 @@ fn has_key<F: Family, C: Store, H: Hasher, U: Update>(
 ) -> Result<bool, Error>
     requires kept { log.old.tree.start ≤ at }
     requires below { at < log.old.tree.leaves }
-    ensures value { (ops : List model.Operation)
-        → HasOperations C.Store F.shape H.Digest.bytes H.hash U.form log.old ops
-        → IfSome (C.told log.old.store) (λ _.
-        IfOk result (λ yes. (yes ≡ true) ↔ (key_at ops at ≡ Some key.now))) }
+    ensures value { (op : model.Operation)
+        → IfSome (C.told log.old.store) (λ s. SpellsAt U.form s at op
+        → IfOk result (λ yes. (yes ≡ true) ↔ (update_key op ≡ Some key.now))) }
     ensures read { KeepsLog C.Store F.shape H.Digest.bytes H.hash log.old log.new }
     ensures error { IfErr result (IsReadFault C.Store log.old log.new) }
 {
@@ -131,11 +132,10 @@ fn is_of_key<F: Family, C: Store, H: Hasher, U: Update>(
 ) -> Result<bool, Error>
     requires kept { log.old.tree.start ≤ at }
     requires below { at < log.old.tree.leaves }
-    ensures value { (ops : List model.Operation)
-        → HasOperations C.Store F.shape H.Digest.bytes H.hash U.form log.old ops
-        → AreKeys U.Key.bytes ops cache.now
-        → IfSome (C.told log.old.store) (λ _.
-        IfOk result (λ yes. (yes ≡ true) ↔ (key_at ops at ≡ Some key.now))) }
+    ensures value { (ops : List model.Operation) (op : model.Operation)
+        → slice_get ops at ≡ Some op → AreKeys U.Key.bytes ops cache.now
+        → IfSome (C.told log.old.store) (λ s. SpellsAt U.form s at op
+        → IfOk result (λ yes. (yes ≡ true) ↔ (key_at ops at ≡ Some key.now))) }
     ensures read { KeepsLog C.Store F.shape H.Digest.bytes H.hash log.old log.new }
     ensures error { IfErr result (IsReadFault C.Store log.old log.new) }
 {
@@ -170,10 +170,11 @@ pub(crate) fn find<
     ensures place { IfOk result (λ found.
         IfSome found (λ f. slice_get (bucket_at (I.entries index.now) (I.index_key key.now)) f.place
         ≡ Some f.location)) }
-    ensures key { (ops : List model.Operation)
-        → HasOperations C.Store F.shape H.Digest.bytes H.hash U.form log.old ops
+    ensures key { (ops : List model.Operation) (from : ℕ)
+        → All (λ at. (from ≤ at) × (at < length ops))
+        (bucket_at (I.entries index.now) (I.index_key key.now))
         → AreKeys U.Key.bytes ops cache.now
-        → IfSome (C.told log.old.store) (λ _. IfOk result (λ found.
+        → IfSome (C.told log.old.store) (λ s. Spells U.form s from ops → IfOk result (λ found.
         IsFound ops key.now (bucket_at (I.entries index.now) (I.index_key key.now))
         (option_map (λ f. f.location) found))) }
     ensures read { KeepsLog C.Store F.shape H.Digest.bytes H.hash log.old log.new }

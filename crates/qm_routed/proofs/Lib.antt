@@ -1,4 +1,3 @@
-pub mod CacheRows
 pub mod Marked
 pub mod Projection
 pub mod Ranges

@@ -1,2 +1,1 @@
-pub mod Cached
 pub mod Routed

@@ -1,9 +1,9 @@
-use Rattle.std.proofs.Common.{◌≡◌, ◌+◌, ◌≤◌, ◌<◌, ℕ, false, List, length}
-use Rattle.std.specs.Prelude.{IfSome, is_none}
+use Rattle.std.proofs.Common.{◌≡◌, ◌+◌, ◌≤◌, ◌<◌, ℕ, List, length}
+use Rattle.std.specs.Prelude.{IfSome}
 use Rattle.qm_model.specs.Operations.{Operation}
 use Rattle.qm_build.specs.Building.{ArePlaced, AreWithin, between}
 use Rattle.qm_build.specs.Cached.{AreKeys}
-use Rattle.qm_build.specs.Reads.{operation_at, HasOperations, KeepsLog}
+use Rattle.qm_build.specs.Reads.{SpellsAt, Spells, KeepsLog}
 use Rattle.qm_build.proofs.build.build_snapshot.Given as goal
 
 abbrev pub invariant-loop-at : goal.invariant-loop-at
@@ -12,7 +12,7 @@ invariant-loop-at g l = record {
   here : l.at ≡ l.floor + length l.snapshot.activity;
   within : AreWithin l.floor l.at (g.I.Unordered.entries l.index);
   counted : l.snapshot.live ≤ length l.snapshot.activity;
-  placed : (ops : List Operation) → HasOperations g.C.Store g.F.Family.shape g.H.Digest.Digest.bytes g.H.Hasher.hash g.U.Update.form l.initial.log ops →
-      IfSome (g.C.Store.told l.initial.log.store) (λ _. ArePlaced g.I.Unordered.index_key (g.I.Unordered.entries l.index) l.snapshot.live l.snapshot.activity l.floor (between l.floor l.at ops) × AreKeys g.U.Key.ByteString.bytes ops l.cache);
-  decode : IfSome (g.C.Store.told l.initial.log.store) (λ s. (i : ℕ) → l.floor ≤ i → i < l.at → is_none (operation_at g.U.Update.form s i) ≡ false);
+  placed : (ops : List Operation) → l.initial.log.tree.leaves ≡ length ops →
+      IfSome (g.C.Store.told l.initial.log.store) (λ s. Spells g.U.Update.form s l.floor ops → ArePlaced g.I.Unordered.index_key (g.I.Unordered.entries l.index) l.snapshot.live l.snapshot.activity l.floor (between l.floor l.at ops) × AreKeys g.U.Key.ByteString.bytes ops l.cache);
+  decode : IfSome (g.C.Store.told l.initial.log.store) (λ s. (i : ℕ) → l.floor ≤ i → i < l.at → (op : Operation) × SpellsAt g.U.Update.form s i op);
 }

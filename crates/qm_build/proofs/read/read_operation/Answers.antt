@@ -33,6 +33,8 @@ returns g c =
           err-then result made.none (λ e none lost. (none lost).1 there.0 (subst (λ bs. IsSpelling form bs there.0) (sym c.deref.ensures.value) there.2)));
       held = IfSome_then told c.in_ok-item.ensures.held (λ s here.
           ok-then result made.decoded (λ op is. ap (option_and_then (decoded form)) here ∙ ap (decoded form) (sym c.deref.ensures.value) ∙ is));
+      spelled = IfSome_then told c.in_ok-item.ensures.held (λ s here.
+          ok-then result made.spelled (λ op own. record { item = item; here = here; spells = subst (λ bs. IsSpelling form bs (view op)) c.deref.ensures.value own }));
       corrupt = IfSome_then told c.in_ok-item.ensures.held (λ s here.
           err-then result made.none (λ e none lost. record { item = item; here = here; none = ap (decoded form) (sym c.deref.ensures.value) ∙ (none lost).0 }));
       read = record { stands = c.read.ensures.stands; tree = c.read.ensures.tree; kept = c.read.ensures.kept; later = c.read.ensures.cause.later };
@@ -54,6 +56,7 @@ returns-in_err-item g c =
       value = λ ops has. told-any _ told tt;
       decodes = λ ops has. told-any _ told other;
       held = each told (λ s. tt);
+      spelled = each told (λ s. tt);
       corrupt = each told (λ s is. absurd (other is));
       read = record { stands = c.read.ensures.stands; tree = c.read.ensures.tree; kept = c.read.ensures.kept; later = c.read.ensures.cause.later };
       error = inl fault;

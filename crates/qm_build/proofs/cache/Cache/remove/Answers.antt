@@ -1,12 +1,12 @@
-use Rattle.std.proofs.Common.{◌≢◌, subst, arith}
-use Rattle.qm_build.specs.Cached.{Holds}
-use Rattle.qm_build.proofs.Caching.{set-ends, cleared-slots, cleared-holds}
+use Rattle.std.proofs.Common.{◌≡◌, subst, arith}
+use Rattle.qm_build.specs.Cached.{removed}
+use Rattle.qm_build.proofs.Caching.{set-ends, cache_of, cleared-slots, removed-is}
 use Rattle.qm_build.proofs.cache.Cache.remove.Goals as goal
 
 pub returns : goal.returns
-returns g c = λ at key holds.
-    subst (λ old. (at ≢ c.args.location) × Holds old at key) c.self.view_is
-    (cleared-holds c.self.inside.ways c.self.inside.sets c.args.location c.set_of.result c.self.inside.slots.items c.clear_in.new.slots.items c.self.invariant c.set_of.ensures.value c.clear_in.ensures.long c.clear_in.ensures.kept c.clear_in.ensures.clear at key holds)
+returns g c =
+    subst (λ v. cache_of c.self.inside.ways c.self.inside.sets c.clear_in.new.slots.items ≡ removed v c.args.location) c.self.view_is
+    (removed-is c.self.inside.ways c.self.inside.sets c.args.location c.set_of.result c.self.inside.slots.items c.clear_in.new.slots.items c.self.invariant c.set_of.ensures.value c.clear_in.ensures.long c.clear_in.ensures.kept c.clear_in.ensures.others c.clear_in.ensures.clear)
 
 pub set_of-requires : goal.set_of-requires
 set_of-requires g c = c.self.invariant.some_sets
@@ -18,7 +18,7 @@ clear_in-requires g c =
 
 pub invariant_of-self : goal.invariant_of-self
 invariant_of-self g c =
-    cleared-slots c.self.inside.ways c.self.inside.sets c.args.location c.set_of.result c.self.inside.slots.items c.clear_in.new.slots.items c.self.invariant c.set_of.ensures.value c.clear_in.ensures.long c.clear_in.ensures.kept c.clear_in.ensures.clear
+    cleared-slots c.self.inside.ways c.self.inside.sets c.args.location c.set_of.result c.self.inside.slots.items c.clear_in.new.slots.items c.self.invariant c.set_of.ensures.value c.clear_in.ensures.long c.clear_in.ensures.kept c.clear_in.ensures.others c.clear_in.ensures.clear
 
 pub overflow_mul-first : goal.overflow_mul-first
 overflow_mul-first g c =
