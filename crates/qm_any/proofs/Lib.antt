@@ -24,3 +24,4 @@ pub mod OfferedSpans
 pub mod OfferedRanges
 pub mod OfferedProofs
 pub mod Opened
+pub mod Owned

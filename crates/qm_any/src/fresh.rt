@@ -6,6 +6,7 @@ ghost use Rattle.qm_model.specs.Causes.{IsCause};
 ghost use Rattle.qm_model.specs.Forms.{spelling};
 ghost use Rattle.qm_model.specs.Operations.{fresh};
 ghost use Rattle.qm_store.specs.Log.{IsLog};
+ghost use Rattle.qm_open.specs.Unopened.{IsUnfinished};
 ghost use Rattle.qm_any.specs.Databases.{Database};
 ghost use Rattle.qm_any.specs.Opening.{OpensAt};
 ghost use Rattle.qm_store.specs.Given.{Appended, AppendedPart, store_given};
@@ -39,8 +40,9 @@ pub(crate) fn begin<
 ) -> Result<Db<F, C, I, H, U, N>, Refusal<Db<F, C, I, H, U, N>, C>>
     requires start { C.start store ≡ 0 }
     requires empty { C.end store ≡ 0 }
-    ensures { OpensAt C.Store ⟦<Db<F, C, I, H, U, N> as LaidOut>⟧.layout H.Digest.SIZE None 0 store
-        result }
+    ensures opens { OpensAt C.Store ⟦<Db<F, C, I, H, U, N> as LaidOut>⟧.layout H.Digest.SIZE None 0
+        store result }
+    ensures causes { IfErr result (λ r. IsUnfinished U.form None r.error) }
 {
     match fresh_items::<F, U>(alloc) {
         Err(_) => Err(Refusal {

@@ -12,6 +12,7 @@ ghost use Rattle.qm_step.specs.Kinds.{HasRing};
 ghost use Rattle.qm_store.specs.Given.{store_given};
 ghost use Rattle.qm_open.specs.Opened.{IsOpened};
 ghost use Rattle.qm_open.specs.Selecting.{bits_of, floor_told, selected_view};
+ghost use Rattle.qm_open.specs.Unopened.{IsUnfinished, IsUnopened};
 ghost use Rattle.qm_any.specs.Opening.{height_of, pruned_view, OpensAt, OpensUpTo};
 
 use crate::db::{Db, LaidOut};
@@ -126,8 +127,9 @@ fn open_list<
     requires stable { IfSome (C.told store) (λ s. s.stable ≤ end_of s) }
     requires told { IfSome (C.told store) (λ s.
         floor_told U.form s (selected.size - 1) ≡ Some selected.floor) }
-    ensures { OpensAt C.Store ⟦<Db<F, C, I, H, U, N> as LaidOut>⟧.layout H.Digest.SIZE
+    ensures opens { OpensAt C.Store ⟦<Db<F, C, I, H, U, N> as LaidOut>⟧.layout H.Digest.SIZE
         (Some (selected_view selected)) chunks store result }
+    ensures causes { IfErr result (λ r. IsUnfinished U.form (Some (selected_view selected)) r.error) }
 {
     let opened = open_checked(alloc, store, hasher, config, selected, chunks)?;
     settled(alloc, opened, selected)?.commit()
@@ -191,6 +193,8 @@ pub fn init<
     ensures keys { ⟦<Db<F, C, I, H, U, N> as LaidOut>⟧.layout.index_key ≡ I.Translator.index_key }
     ensures opens { OpensUpTo C.Store ⟦<Db<F, C, I, H, U, N> as LaidOut>⟧.layout H.Digest.SIZE None
         max_size store result }
+    ensures causes { IfErr result (λ r.
+        IsUnopened U.form None max_size (C.start store) (C.end store) r.error) }
 {
     init_with(alloc, store, hasher, config, max_size, None)
 }
@@ -221,6 +225,8 @@ pub fn init_with<
     ensures keys { ⟦<Db<F, C, I, H, U, N> as LaidOut>⟧.layout.index_key ≡ I.Translator.index_key }
     ensures opens { OpensUpTo C.Store ⟦<Db<F, C, I, H, U, N> as LaidOut>⟧.layout H.Digest.SIZE
         (option_map (pruned_view N.LEN) pruned) max_size store result }
+    ensures causes { IfErr result (λ r. IsUnopened U.form (option_map (pruned_view N.LEN) pruned)
+        max_size (C.start store) (C.end store) r.error) }
 {
     // What is stable of it are items that it has.
     store.bounds();

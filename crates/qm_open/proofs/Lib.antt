@@ -4,3 +4,4 @@ pub mod Beside
 pub mod Checking
 pub mod Empty
 pub mod Heads
+pub mod Unopened

@@ -1,3 +1,4 @@
 pub mod Selecting
 pub mod Opened
 pub mod Apart
+pub mod Unopened

@@ -10,6 +10,7 @@ ghost use Rattle.qm_build.specs.Reads.{items_within, KeepsLog, IsRebuildError};
 ghost use Rattle.qm_open.specs.Apart.{links_apart};
 ghost use Rattle.qm_open.specs.Opened.{IsJudged, IsMadeOf, IsOpened};
 ghost use Rattle.qm_open.specs.Selecting.{refusal_at, selected_view};
+ghost use Rattle.qm_open.specs.Unopened.{IsUnfinished};
 
 use crate::config::Config;
 use crate::opened::{Opened, open_at};
@@ -41,7 +42,7 @@ fn check_links<F: Family, C: Store, H: Hasher, U: Update>(
         list_any is_none (items_within U.form s from log.old.tree.leaves) ≡ true)) }
     ensures read { KeepsLog C.Store F.shape H.Digest.bytes H.hash log.old log.new }
     ensures error { IfErr result (λ e. IsRebuildError C.Store log.old log.new e
-        ⊎ (e ≡ Error.DataCorrupted Corrupt.LinksFormNoRing)) }
+        ⊎ ((U.form.ordered ≡ true) × (e ≡ Error.DataCorrupted Corrupt.LinksFormNoRing))) }
 {
     if !U::is_ordered() {
         return Ok(());
@@ -87,6 +88,7 @@ pub fn open_checked<
         IsMadeOf C.Store N.LEN store selected.size chunks o.log o.live o.activity) }
     ensures judged { IsJudged C.Store store
         (refusal_at U.form F.shape H.Digest.SIZE (Some (selected_view selected))) result }
+    ensures causes { IfErr result (λ r. IsUnfinished U.form (Some (selected_view selected)) r.error) }
 {
     let mut opened = open_at(alloc, store, hasher, config, selected, chunks)?;
     match check_links::<F, C, H, U>(alloc, &mut opened.log, selected.floor) {

@@ -9,6 +9,7 @@ ghost use Rattle.qm_model.specs.Trees.{Shape};
 ghost use Rattle.qm_store.specs.Log.{IsKept};
 ghost use Rattle.qm_store.specs.Refusals.{refusal_of, IsDue};
 ghost use Rattle.qm_open.specs.Selecting.{bits_of, content_refusal, floor_told, found_of, kept_items, layout_of, selected_refusal, selected_view, up_to, AreFew, HasThreshold};
+ghost use Rattle.qm_open.specs.Unopened.{early_refusal, IsUnselected};
 
 use crate::pruned::{Pruned, bits_in, is_past, is_too_short};
 use qm_base::{Corrupt, Error, JournalError};
@@ -139,6 +140,11 @@ pub fn select_commit<F, C: Store, U: Update>(
         × (c.size ≤ C.end store.old))) }
     ensures empty { result ≡ Ok None
         → (C.start store.old ≡ 0) × (C.end store.old ≡ 0) × (bits_of pruned ≡ 0) }
+    ensures allowed { IfOk result (λ at. early_refusal pruned bound (C.start store.old)
+        (C.end store.old) (option_map selected_view at)
+        ≡ None) }
+    ensures causes { IfErr result
+        (IsUnselected pruned bound (C.start store.old) (C.end store.old)) }
     ensures kept { IsKept C.Store store.old store.new }
     ensures cause { IsCause (C.faults store.old) (C.faults store.new)
         (IsErrOf result (Error.Journal JournalError.Store)) }

@@ -1,4 +1,4 @@
-use Rattle.std.proofs.Common.{IfOk, ◌≡◌, ◌≤◌, ◌∙◌, ap, map, arith, refl, inl, subst, sym}
+use Rattle.std.proofs.Common.{None, IfOk, ◌≡◌, ◌≤◌, ◌∙◌, ap, map, arith, refl, inl, subst, sym}
 use Rattle.std.proofs.lemmas.Result.{IfOk-from_err, err_from_is_err_and}
 use Rattle.qm_base.specs.declared.error.Error.TheVariants as errors
 use Rattle.qm_model.specs.Operations.{fresh}
@@ -18,10 +18,11 @@ use Rattle.qm_open.proofs.Checking.{each-known, known-at, on-ok}
 use Rattle.qm_any.proofs.Restoring.{nothing-accepted, nothing-due, refused-none}
 use Rattle.qm_any.specs.Databases.{IsDatabase}
 use Rattle.qm_any.specs.Layouts.{layout_of}
+use Rattle.qm_open.proofs.Unopened.{fresh-unfinished, plain-unfinished}
 use Rattle.qm_any.proofs.fresh.begin.Goals as goal
 
-pub returns-in-Err : goal.returns-in-Err
-returns-in-Err g c =
+pub returns-in-Err-clause-opens : goal.returns-in-Err-clause-opens
+returns-in-Err-clause-opens g c =
     let store = c.args.store in
     let told = g.C.Store.told store in
     record {
@@ -43,8 +44,8 @@ returns-in-Err g c =
       );
     }
 
-pub returns-in-Err-empty_log : goal.returns-in-Err-empty_log
-returns-in-Err-empty_log g c =
+pub returns-in-Err-empty_log-clause-opens : goal.returns-in-Err-empty_log-clause-opens
+returns-in-Err-empty_log-clause-opens g c =
     let store = c.args.store in
     let told = g.C.Store.told store in
     let faults = g.C.Store.faults in
@@ -68,8 +69,8 @@ returns-in-Err-empty_log g c =
       back = (back.0, back.1, back.2.start, (λ some. back.2), back.3);
     }
 
-pub returns-in_err-begun-in-Ok-empty_log : goal.returns-in_err-begun-in-Ok-empty_log
-returns-in_err-begun-in-Ok-empty_log g c =
+pub returns-in_err-begun-in-Ok-empty_log-clause-opens : goal.returns-in_err-begun-in-Ok-empty_log-clause-opens
+returns-in_err-begun-in-Ok-empty_log-clause-opens g c =
     let exit = err_from_is_err_and c.from_residual.result c.from_residual.ensures.1 in
     let store = c.args.store in
     let told = g.C.Store.told in
@@ -101,8 +102,8 @@ returns-in_err-begun-in-Ok-empty_log g c =
           (later-cause (faults store) (faults log.store) (faults given) c.in-Ok-empty_log.ensures.made.later refused.cause));
     }
 
-pub returns-in_ok-begun-in-Ok-empty_log : goal.returns-in_ok-begun-in-Ok-empty_log
-returns-in_ok-begun-in-Ok-empty_log g c =
+pub returns-in_ok-begun-in-Ok-empty_log-clause-opens : goal.returns-in_ok-begun-in-Ok-empty_log-clause-opens
+returns-in_ok-begun-in-Ok-empty_log-clause-opens g c =
     let store = c.args.store in
     let told = g.C.Store.told in
     let faults = g.C.Store.faults in
@@ -150,3 +151,14 @@ returns-in_ok-begun-in-Ok-empty_log g c =
             later-cause (faults store) (faults c.in_ok-begun-in-Ok-empty_log.field-0.log.store) (faults up.store) first up.cause,
           ));
     }
+
+pub returns-in-Err-empty_log-clause-causes : goal.returns-in-Err-empty_log-clause-causes
+returns-in-Err-empty_log-clause-causes g c = fresh-unfinished g.U.Update.form c.in-Err-empty_log.refusal.error c.in-Err-empty_log.ensures.refused.causes
+
+pub returns-in_err-begun-in-Ok-empty_log-clause-causes : goal.returns-in_err-begun-in-Ok-empty_log-clause-causes
+returns-in_err-begun-in-Ok-empty_log-clause-causes g c =
+    let exit = err_from_is_err_and c.from_residual.result c.from_residual.ensures.1 in
+    rw (exit.1, exit.2) (plain-unfinished g.U.Update.form None c.in_err-begun-in-Ok-empty_log.field-0.0.error c.in_err-begun-in-Ok-empty_log.ensures.causes)
+
+pub returns-in_ok-begun-in-Ok-empty_log-clause-causes : goal.returns-in_ok-begun-in-Ok-empty_log-clause-causes
+returns-in_ok-begun-in-Ok-empty_log-clause-causes g c = err-then c.commit.result c.commit.ensures.refused (λ r up. plain-unfinished g.U.Update.form None r.error up.never)

@@ -1,8 +1,10 @@
-use Rattle.std.proofs.Common.{◌∙◌, ap, refl, sym, Some, None, Err}
+use Rattle.std.proofs.Common.{◌≡◌, inl, inr, arith, subst, subst₂, ◌∙◌, ap, refl, sym, Some, None, Err}
 use Rattle.std.specs.Prelude.{option_map}
 use Rattle.qm_model.specs.Opening.{size_of}
 use Rattle.qm_model.specs.Taken.{selected_size, LeavesOpening}
 use Rattle.qm_open.specs.Selecting.{refusal_at, refusal_up_to, selected_view}
+use Rattle.qm_model.proofs.Results.{err-then}
+use Rattle.qm_open.specs.Unopened.{early_refusal, IsUnselected}
 use Rattle.qm_open.proofs.Checking.{each-known, known-at}
 use Rattle.qm_any.specs.Layouts.{hashing_of, layout_of}
 use Rattle.qm_any.specs.Offered.{scheme_of}
@@ -39,7 +41,7 @@ returns-in-Ok-Some-clause-opens g c =
     (λ s is. sym (ap size_of (named ∙ known-at _ told s is c.in-Ok-Some.ensures.chosen ∙ selects-same form s c.pruned_bits.result c.args.max_size)))
     (told_chunks g.N.Chunks.LEN c.args.pruned) (Some c.chunks_below-chunks.result)
     (λ n is. so-pruned g.N.Chunks.LEN c.args.pruned n c.chunks_below-chunks.result is c.chunks_below-chunks.ensures.told)
-    c.open_list.result c.open_list.ensures
+    c.open_list.result c.open_list.ensures.opens
 
 pub returns-in-Ok-None-clause-opens : goal.returns-in-Ok-None-clause-opens
 returns-in-Ok-None-clause-opens g c =
@@ -60,7 +62,7 @@ returns-in-Ok-None-clause-opens g c =
     (λ s is. sym (ap size_of (named ∙ known-at _ told s is c.in-Ok-None.ensures.chosen ∙ selects-same form s c.pruned_bits.result c.args.max_size)))
     (told_chunks g.N.Chunks.LEN c.args.pruned) (Some 0)
     (λ n is. none-pruned g.N.Chunks.LEN c.args.pruned n is (empty refl).2)
-    c.begin.result c.begin.ensures
+    c.begin.result c.begin.ensures.opens
 
 pub returns-in-Err-clause-opens : goal.returns-in-Err-clause-opens
 returns-in-Err-clause-opens g c =
@@ -83,3 +85,22 @@ returns-in-Err-clause-opens g c =
       later = tt;
       back = (c.select_commit.new.store, refl, kept.start, (λ some. kept), record { later = cause.later; failed = λ same. cause.failed (c.in-Err.is ∙ ap Err same) });
     }
+
+pub returns-in-Ok-Some-clause-causes : goal.returns-in-Ok-Some-clause-causes
+returns-in-Ok-Some-clause-causes g c =
+    let selected = c.in-Ok-Some.selected in
+    let within = known-at _ c.in-Ok-Some.field-0 selected c.in-Ok-Some.field-0-is c.in-Ok-Some.ensures.within in
+    let low = within.0 in
+    let floor = within.2 in
+    let allowed = subst₂ (λ p o. early_refusal p c.args.max_size (g.C.Store.start c.args.store) (g.C.Store.«end» c.args.store) (option_map selected_view o) ≡ None) c.pruned_bits.ensures c.in-Ok-Some.field-0-is c.in-Ok-Some.ensures.allowed in
+    err-then c.open_list.result c.open_list.ensures.causes (λ r failed. (Some (selected_view selected), (omega (arith, low, floor), within.3), inr (allowed, failed)))
+
+pub returns-in-Ok-None-clause-causes : goal.returns-in-Ok-None-clause-causes
+returns-in-Ok-None-clause-causes g c =
+    let allowed = subst₂ (λ p o. early_refusal p c.args.max_size (g.C.Store.start c.args.store) (g.C.Store.«end» c.args.store) (option_map selected_view o) ≡ None) c.pruned_bits.ensures c.in-Ok-None.field-0-is c.in-Ok-None.ensures.allowed in
+    err-then c.begin.result c.begin.ensures.causes (λ r failed. (None, tt, inr (allowed, failed)))
+
+pub returns-in-Err-clause-causes : goal.returns-in-Err-clause-causes
+returns-in-Err-clause-causes g c =
+    let failed = subst (λ p. IsUnselected p c.args.max_size (g.C.Store.start c.args.store) (g.C.Store.«end» c.args.store) c.in-Err.error) c.pruned_bits.ensures c.in-Err.ensures.causes in
+    (failed.0, failed.1, inl failed.2)

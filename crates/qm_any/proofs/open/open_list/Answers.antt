@@ -1,4 +1,4 @@
-use Rattle.std.proofs.Common.{◌≡◌, ◌∙◌, ◌≤◌, min, ap, sym, subst, arith}
+use Rattle.std.proofs.Common.{Some, ◌≡◌, ◌∙◌, ◌≤◌, min, ap, sym, subst, arith}
 use Rattle.std.proofs.lemmas.Result.{IfOk-from_err, err_from_is_err_and}
 use Rattle.qm_model.proofs.Results.{ok-then, err-then}
 use Rattle.qm_model.specs.StoreModel.{end_of, rewound, settled, RewindLeaves, ReadsAs, Turns, Becomes}
@@ -12,10 +12,12 @@ use Rattle.qm_any.proofs.Lasting.{turns-behind}
 use Rattle.qm_any.proofs.Openings.{plain-due, plain-refusal}
 use Rattle.qm_any.proofs.Restoring.{refused-none, told-floor}
 use Rattle.qm_any.proofs.Taking.{leaves-some, leaves-whole, list-some, taken-some, turns-weaker, reads-rewound, given-kept, given-stable, given-unchanged}
+use Rattle.qm_open.specs.Selecting.{selected_view}
+use Rattle.qm_open.proofs.Unopened.{plain-unfinished}
 use Rattle.qm_any.proofs.open.open_list.Goals as goal
 
-pub returns : goal.returns
-returns g c =
+pub returns-clause-opens : goal.returns-clause-opens
+returns-clause-opens g c =
     record {
       opened =
           let store = c.args.store in
@@ -78,8 +80,8 @@ returns g c =
           ));
     }
 
-pub returns-in_err-opened : goal.returns-in_err-opened
-returns-in_err-opened g c =
+pub returns-in_err-opened-clause-opens : goal.returns-in_err-opened-clause-opens
+returns-in_err-opened-clause-opens g c =
     let exit = err_from_is_err_and c.from_residual.result c.from_residual.ensures.1 in
     record {
       opened = each-known (g.C.Store.told c.args.store) (λ s is list taken. IfOk-from_err c.from_residual.result _ c.from_residual.ensures.0);
@@ -107,8 +109,8 @@ returns-in_err-opened g c =
           rw (exit.1, exit.2) (back.0, back.1, back.2.start, (λ some. back.2), back.3);
     }
 
-pub returns-in_err-settled : goal.returns-in_err-settled
-returns-in_err-settled g c =
+pub returns-in_err-settled-clause-opens : goal.returns-in_err-settled-clause-opens
+returns-in_err-settled-clause-opens g c =
     let exit = err_from_is_err_and c.from_residual-in_err-settled.result c.from_residual-in_err-settled.ensures.1 in
     record {
       opened = each-known (g.C.Store.told c.args.store) (λ s is list taken. IfOk-from_err c.from_residual-in_err-settled.result _ c.from_residual-in_err-settled.ensures.0);
@@ -140,3 +142,16 @@ returns-in_err-settled g c =
             later-cause (faults c.args.store) (faults c.in_ok-opened.opened.log.store) (faults back.0) c.in_ok-opened.ensures.made.later back.3,
           );
     }
+
+pub returns-clause-causes : goal.returns-clause-causes
+returns-clause-causes g c = err-then c.commit.result c.commit.ensures.refused (λ r up. plain-unfinished g.U.Update.form (Some (selected_view c.args.selected)) r.error up.never)
+
+pub returns-in_err-opened-clause-causes : goal.returns-in_err-opened-clause-causes
+returns-in_err-opened-clause-causes g c =
+    let exit = err_from_is_err_and c.from_residual.result c.from_residual.ensures.1 in
+    rw (exit.1, exit.2) c.in_err-opened.ensures.causes
+
+pub returns-in_err-settled-clause-causes : goal.returns-in_err-settled-clause-causes
+returns-in_err-settled-clause-causes g c =
+    let exit = err_from_is_err_and c.from_residual-in_err-settled.result c.from_residual-in_err-settled.ensures.1 in
+    rw (exit.1, exit.2) (plain-unfinished g.U.Update.form (Some (selected_view c.args.selected)) c.in_err-settled.field-0.0.error c.in_err-settled.ensures.never)

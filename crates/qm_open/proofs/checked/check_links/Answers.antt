@@ -53,7 +53,7 @@ returns-in-Ok-false g c = record {
   apart = λ is. IfSome_then (g.C.Store.told c.args.log.now.store) c.in-Ok-false.ensures.ring (λ s same. apart g.U.Update.form.ordered c.in-Ok-false.field-0 _ (sym c.is_ordered.ensures ∙ c.if-not-is_ordered.false) same c.in-Ok-false.field-0-test);
   undecoded = λ is. absurd cc;
   read = c.forms_ring.ensures.read;
-  error = inr refl;
+  error = inr (sym c.is_ordered.ensures ∙ c.if-not-is_ordered.false, refl);
 }
 
 pub returns-in-Err : goal.returns-in-Err

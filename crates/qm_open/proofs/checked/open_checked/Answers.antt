@@ -11,6 +11,7 @@ use Rattle.qm_build.specs.Reads.{items_within}
 use Rattle.qm_open.specs.Selecting.{selected_view}
 use Rattle.qm_open.specs.Apart.{links_apart}
 use Rattle.qm_open.proofs.Checking.{opened-due, links-due, links-caused, content-accepted, opened-read, each-known, known-at}
+use Rattle.qm_open.proofs.Unopened.{links-unfinished, opened-unfinished}
 use Rattle.qm_open.proofs.checked.open_checked.Goals as goal
 
 pub returns-in_err-opened : goal.returns-in_err-opened
@@ -29,6 +30,7 @@ returns-in_err-opened g c =
             (λ other. known-at _ told s is (failed.other_head other)) (λ lost. known-at _ told s is (failed.undecoded lost)) failed.never);
         back = failed.back;
       };
+      causes = opened-unfinished g.U.Update.form (selected_view c.args.selected) c.in_err-opened.field-0.0.error failed.never;
     })
 
 pub returns-in-Ok : goal.returns-in-Ok
@@ -60,6 +62,7 @@ returns-in-Ok g c =
         refused = each-known told (λ s is. tt);
         back = tt;
       };
+      causes = tt;
     }
 
 pub returns-in-Err : goal.returns-in-Err
@@ -93,4 +96,5 @@ returns-in-Err g c =
               subst (λ s. IsCause (members.faults store) (members.faults s) (c.in-Err.error ≡ errors.Journal journal.Store)) (sym c.close.ensures) (links-caused members store log new c.in-Err.error made.later read.later c.in-Err.ensures.error),
             );
       };
+      causes = links-unfinished members log new form (selected_view at) c.in-Err.error c.in-Err.ensures.error;
     }
