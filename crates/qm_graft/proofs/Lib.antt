@@ -1,7 +1,7 @@
 pub mod Begun
-mod Peaks
+pub mod Peaks
 pub mod Rooting
 mod Following
 pub mod Fitting
-mod There
+pub mod There
 pub mod Viewing

@@ -55,8 +55,9 @@ fn peak_values<F: Family, D: Digest, V: Nodes<F, D>>(
     held_at(alloc, view, &positions)
 }
 
-// The grafted root of a list, whose first peaks end at or below the chunk of its floor.
-fn root_of<F: Graftable, N: Chunks, H: Hasher, V: Nodes<F, H::Digest>>(
+/// The grafted root of a list, whose first peaks end at or below the chunk of its floor, from the values of the peaks that a view of
+/// its trees holds. Want of memory is the only error.
+pub fn root_of<F: Graftable, N: Chunks, H: Hasher, V: Nodes<F, H::Digest>>(
     alloc: Global,
     hasher: &mut StandardHasher<H>,
     view: &V,
@@ -79,8 +80,8 @@ fn root_of<F: Graftable, N: Chunks, H: Hasher, V: Nodes<F, H::Digest>>(
     Ok(grafted_root(hasher, leaves, inactive, &values))
 }
 
-// The digest of the pending chunk, if there is one.
-fn pending_digest<F: Graftable, N: Chunks, H: Hasher, B: Readable<N>>(
+/// The digest of the pending chunk, if there is one. Want of memory is the only error.
+pub fn pending_digest<F: Graftable, N: Chunks, H: Hasher, B: Readable<N>>(
     alloc: Global,
     hasher: &mut StandardHasher<H>,
     bits: &B,
@@ -104,8 +105,8 @@ fn pending_digest<F: Graftable, N: Chunks, H: Hasher, B: Readable<N>>(
     }
 }
 
-// The number of bits of the partial chunk, if there is one, and its digest.
-fn partial_digest<N: Chunks, H: Hasher, B: Readable<N>>(
+/// The number of bits of the partial chunk, if there is one, and its digest. Want of memory is the only error.
+pub fn partial_digest<N: Chunks, H: Hasher, B: Readable<N>>(
     alloc: Global,
     hasher: &mut StandardHasher<H>,
     bits: &B,

@@ -1,0 +1,4 @@
+pub mod Listing
+pub mod Holding
+pub mod Chunking
+pub mod Viewed
