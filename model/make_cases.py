@@ -158,7 +158,7 @@ put('too long, in lines', ['fill 3355444 6f70656e0a'], '', 7, 0, 0)
 section('Other words.')
 ONE = "open\nbatch\nput 1 6b 76\nmerkleize 1 prop none\napply 1\nops 1\nget 6b\ninfo\n"
 modelled('one put, once more', ONE)
-for words in ('', 'run', 'run any unordered', 'run any unordered mmr mmr', 'run any unordered mmb', 'run any ordered mmb', 'run any Ordered mmr', 'run current unordered mmr', 'walk any unordered mmr', 'run any unordered MMR', 'fill any unordered mmr 1 1', '--help'):
+for words in ('', 'run', 'run any unordered', 'run any unordered mmr mmr', 'run any unordered mmb', 'run any ordered mmb', 'run any Ordered mmr', 'walk any unordered mmr', 'run any unordered MMR', 'fill any unordered mmr 1 1', '--help'):
     put('words: ' + words if words else 'no words', ['words ' + words if words else 'words'], '', 1, 0, 0, begin='again')
 put('other words before a source that fails', ['words run', 'fail source 0'], '', 1, 0, 0, begin='again')
 
@@ -325,6 +325,54 @@ for keep2 in (None, 0):
                     if before3 < before2 or before_asked < max(before2, before3): continue
                     said = lambda k: 'all' if k is None else str(k)
                     modelled('chain: keep %s and %s, applied %d, %d, %d' % (said(keep2), said(keep3), before2, before3, before_asked), ''.join(x + '\n' for x in chain(keep2, keep3, before2, before3, before_asked)))
+
+# ---- lists of commands
+section('Lists of commands: the replies of the same lines.')
+def listed(name, data, text, status, start, count):
+    put(name, lines_of(data) + ['list'], text, status, start, count)
+for row in check_rows.load_rows():
+    first, last = check_rows.stages_of(row)
+    if first > STAGE or last < STAGE or 'initial' in row or row['store'] == 'mem' or len(row['runs']) > 1: continue
+    run, = row['runs']
+    if ' '.join(run['words']) != WORDS or 'repeat' in run['input'] or run['status'] != 0: continue
+    data = check_rows.row_input(run)
+    store = model.Store()
+    status, text = qmdb.run_program(run['words'], data, store, STAGE)
+    listed('a list: ' + row['name'].replace(' any unordered mmr', ''), data, text.decode(), status, store.start, len(store.items))
+listed('an empty list', b'', '', 0, 0, 0)
+put('a list whose opening fails', lines_of(b'info\nopen\ninfo\n') + ['list', 'fail store 1'], 'refused NoDatabase\n', 6, 0, 0)
+
+# ---- current databases
+CURRENT = 'run current unordered mmr'
+CURRENT_ORDERED = 'run current ordered mmr'
+section('Worked rows of current databases, without the lines that ask for proofs of keys.')
+KEY_PROOFS = ('held', 'absent', 'chunks', 'witness', 'export')
+for row in check_rows.load_rows():
+    first, last = check_rows.stages_of(row)
+    if first > STAGE or last < STAGE or 'initial' in row or len(row['runs']) > 1: continue
+    run, = row['runs']
+    words = ' '.join(run['words'])
+    if words not in (CURRENT, CURRENT_ORDERED): continue
+    data = check_rows.row_input(run)
+    rest = b''.join(line for line in data.splitlines(keepends=True) if line.split()[:1] and line.split()[0].decode() not in KEY_PROOFS)
+    t, s, _ = modelled(row['name'], rest, words=words)
+    assert rest != data or (s, t) == (run['status'], run['output'])
+section('A prune and a sync of a current database, each call in turn that fails: 266 batches of a key make 1,066 calls, then come commit, metadata and prune, then sync and metadata. Where the log was not pruned after the metadata was put, the store is opened.')
+LONG = 'open\n' + ''.join('batch\nput %d 6b %02x\nmerkleize %d prop none\napply %d\n' % (i, i % 256, i, i) for i in range(1, 267))
+text, status, store = modelled('current, pruned', LONG + 'prune 768\ninfo\nsync\n', words=CURRENT)
+long_replies = text.splitlines(keepends=True)
+for call, replies, start, count in ((1065, 1064, 0, 796), (1066, 1065, 0, 799), (1067, 1065, 0, 799), (1069, 1067, 768, 31), (1070, 1067, 768, 31), (1068, 1065, 0, 799)):
+    put('current, pruned, store call %d fails' % call, ['fail store %d' % call], ''.join(long_replies[:replies]) + 'store fault\n', 6, start, count, begin='again')
+put('current, opened after store call 1068 failed', ['keep', 'words ' + CURRENT, '| open', '| info'], 'open 1 0 799\ninfo 0 799 797 768 live\n', 0, 0, 799)
+section('A batch of an earlier opening is refused before anything is read: call 18 would be the first of its look-ups.')
+LATE = 'open\nbatch\nput 1 61 01\nmerkleize 1 prop none\napply 1\ncommit\nbatch\nput 2 61 02\nopen\nmerkleize 2 prop none\n'
+text, status, store = modelled('current, a batch of an earlier opening', LATE, words=CURRENT)
+put('current, a batch of an earlier opening, store call 18 would fail', ['fail store 18'], text, status, store.start, len(store.items), begin='again')
+section('Lines of ordered databases, of an unordered current one.')
+modelled('no neighbours', 'open\nnext 61\nprev 61\nspan 61\nall 61\nrange * *\nkeys * *\nnext 61 from=1\n', words=CURRENT)
+section('Other words, with current in them.')
+for words in ('run current', 'run current mmr', 'run current unordered mmb', 'run Current unordered mmr', 'run any current mmr', 'current run unordered mmr', 'run current unordered mmr mmr'):
+    modelled('words: ' + words, b'', words=words)
 
 dest = sys.argv[1]
 open(dest + '/stdin', 'w').write('\n'.join(inp).lstrip('\n') + '\n')

@@ -13,6 +13,7 @@ ghost use Rattle.qm_model.proofs.MmrPeaks.{mmr_has_peaks};
 mod batches;
 mod durable;
 pub(crate) mod listed;
+mod making;
 mod ordered;
 mod proofs;
 pub(crate) mod ranges;

@@ -16,6 +16,7 @@ ghost use Rattle.sha2.specs.Sha256.{sha256};
 
 mod batches;
 mod durable;
+mod making;
 mod ordered;
 mod proofs;
 mod reads;

@@ -19,6 +19,10 @@ use Rattle.qm_lines.specs.declared.command.Command.{Command}
 use Rattle.qm_lines.specs.declared.command.Command.TheVariants as commands
 use Rattle.qm_lines.specs.declared.command.BatchCommand.{BatchCommand}
 use Rattle.qm_lines.specs.declared.command.BatchCommand.TheVariants as batches
+use Rattle.qm_lines.specs.declared.command.MakingCommand.{MakingCommand}
+use Rattle.qm_lines.specs.declared.command.MakingCommand.TheVariants as makings
+use Rattle.qm_lines.specs.declared.command.StagedCommand.{StagedCommand}
+use Rattle.qm_lines.specs.declared.command.StagedCommand.TheVariants as stagings
 use Rattle.qm_lines.specs.declared.command.ReadCommand.{ReadCommand}
 use Rattle.qm_lines.specs.declared.command.ReadCommand.TheVariants as reads
 use Rattle.qm_lines.specs.declared.command.InfoCommand.{InfoCommand}
@@ -53,16 +57,21 @@ text_of-push given a = sym (flat_map_more (λ r. reply_line r ++ 10 ∷ []) [] g
 abbrev pub own_line : Command Bytes Bytes AnyPolicy → Line AnyPolicy
 own_line = line_view (λ k. k) (λ v. v) (λ p. p)
 
-relabelled_batch : (c : BatchCommand Bytes Bytes AnyPolicy) → relabelled policy_view (own_line (commands.Batch c)) ≡ byte_line (commands.Batch c)
+relabelled_batch : (c : BatchCommand Bytes Bytes) → relabelled policy_view (own_line (commands.Batch c)) ≡ byte_line (commands.Batch c)
 relabelled_batch batches.Batch = refl
 relabelled_batch (batches.Child h keep) = refl
 relabelled_batch batches.Tip = refl
 relabelled_batch (batches.Put h key value) = refl
 relabelled_batch (batches.Del h key) = refl
-relabelled_batch (batches.Merkleize h policy meta) = refl
-relabelled_batch (batches.Stage h keys) = refl
-relabelled_batch (batches.Expand h keys) = refl
-relabelled_batch (batches.Resolve h policy meta resolution) = refl
+
+relabelled_making : (c : MakingCommand Bytes AnyPolicy) → relabelled policy_view (own_line (commands.Making c)) ≡ byte_line (commands.Making c)
+relabelled_making (makings.Merkleize h policy meta) = refl
+relabelled_making (makings.Apply h) = refl
+
+relabelled_staged : (c : StagedCommand Bytes Bytes AnyPolicy) → relabelled policy_view (own_line (commands.Staged c)) ≡ byte_line (commands.Staged c)
+relabelled_staged (stagings.Stage h keys) = refl
+relabelled_staged (stagings.Expand h keys) = refl
+relabelled_staged (stagings.Resolve h policy meta resolution) = refl
 
 relabelled_read : (c : ReadCommand Bytes) → relabelled policy_view (own_line (commands.Read c)) ≡ byte_line (commands.Read c)
 relabelled_read (reads.Get key from) = refl
@@ -88,7 +97,6 @@ relabelled_info (infos.Current question) = refl
 
 relabelled_store : (c : StoreCommand) → relabelled policy_view (own_line (commands.Store c)) ≡ byte_line (commands.Store c)
 relabelled_store (stored.Open bound) = refl
-relabelled_store (stored.Apply h) = refl
 relabelled_store (stored.Prune to) = refl
 relabelled_store stored.Commit = refl
 relabelled_store stored.Sync = refl
@@ -98,6 +106,8 @@ relabelled_store (stored.Crash keep) = refl
 
 relabelled_line : (c : Command Bytes Bytes AnyPolicy) → relabelled policy_view (own_line c) ≡ byte_line c
 relabelled_line (commands.Batch c) = relabelled_batch c
+relabelled_line (commands.Making c) = relabelled_making c
+relabelled_line (commands.Staged c) = relabelled_staged c
 relabelled_line (commands.Read c) = relabelled_read c
 relabelled_line (commands.Info c) = relabelled_info c
 relabelled_line (commands.Store c) = relabelled_store c

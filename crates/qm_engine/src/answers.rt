@@ -17,13 +17,13 @@ ghost use Rattle.qm_model.specs.Own.{Log, IsOwn};
 ghost use Rattle.qm_model.specs.StoreModel.{Turns};
 ghost use Rattle.qm_engine.specs.Answered.{after_line, IsAnswered};
 
+use crate::answering::{Answering, returned};
 use crate::runs::begin;
-use crate::session::{SessionOf, Turn, returned};
+use crate::session::{SessionOf, Turn};
 use crate::turns::turn;
 use qm_base::{ByteKey, ByteString, ByteValue, Digest, Gate, Twin};
 use qm_chain::Policy;
 use qm_lines::{AnyPolicy, Command, Reply, next_line, parse_line, reply_text};
-use qm_offer::Engine;
 use qm_store::Store;
 use std::alloc::{AllocError, Global};
 
@@ -67,9 +67,9 @@ fn push_line<K: ByteString, V: ByteString, D: Digest>(
 }
 
 // One command, whose answer goes behind the text. An ending tells why there is none.
-fn answer<X: Engine<C>, C: Store, P: Policy<X::Family, X::Key, X::Value> + Twin>(
+fn answer<X: Answering<C>, C: Store, P: Policy<X::Family, X::Key, X::Value> + Twin>(
     alloc: Global,
-    config: &X::Config,
+    opening: &X::Opening,
     session: SessionOf<X, C>,
     text: &mut Vec<u8>,
     command: &Command<X::Key, X::Value, P>,
@@ -101,7 +101,7 @@ fn answer<X: Engine<C>, C: Store, P: Policy<X::Family, X::Key, X::Value> + Twin>
         (C.faults (store_given X.inside result.0.held)) }
     ensures opened { result.0.opened ≤ session.opened + 1 }
 {
-    let (session, turn) = turn::<X, C, P>(alloc, config, session, command);
+    let (session, turn) = turn::<X, C, P>(alloc, opening, session, command);
     match turn {
         Turn::Memory => (session, Some(Ending::Memory)),
         Turn::StoreFault => (session, Some(Ending::StoreFault)),
@@ -117,9 +117,9 @@ fn answer<X: Engine<C>, C: Store, P: Policy<X::Family, X::Key, X::Value> + Twin>
 }
 
 // One line, as one command.
-fn answer_line<X: Engine<C, Key = ByteKey, Value = ByteValue>, C: Store>(
+fn answer_line<X: Answering<C, Key = ByteKey, Value = ByteValue>, C: Store>(
     alloc: Global,
-    config: &X::Config,
+    opening: &X::Opening,
     session: SessionOf<X, C>,
     text: &mut Vec<u8>,
     line: &[u8],
@@ -161,7 +161,7 @@ fn answer_line<X: Engine<C, Key = ByteKey, Value = ByteValue>, C: Store>(
         Err(_) => (session, Some(Ending::Memory)),
         Ok(None) => (session, Some(Ending::BadLine)),
         Ok(Some(command)) => {
-            let answered = answer::<X, C, AnyPolicy>(alloc, config, session, text, &command);
+            let answered = answer::<X, C, AnyPolicy>(alloc, opening, session, text, &command);
             drop(command);
             answered
         }
@@ -172,10 +172,10 @@ fn answer_line<X: Engine<C, Key = ByteKey, Value = ByteValue>, C: Store>(
 /// or to the first for which memory or the store fails. Accepted openings are numbered from 1, batches too. Of
 /// commands and replies it keeps one at a time. What is told holds of a store that such a run left, or an
 /// empty one. The gate holds the workers of an opening.
-pub fn answer_lines<X: Engine<C, Key = ByteKey, Value = ByteValue>, C: Store, G: Gate>(
+pub fn answer_lines<X: Answering<C, Key = ByteKey, Value = ByteValue>, C: Store, G: Gate>(
     alloc: Global,
     store: C,
-    config: X::Config,
+    opening: X::Opening,
     input: &[u8],
     _gate: &G,
 ) -> Answered<C>
@@ -213,7 +213,7 @@ pub fn answer_lines<X: Engine<C, Key = ByteKey, Value = ByteValue>, C: Store, G:
     };
     let mut rest = input;
     while let Some((line, behind)) = next_line(rest) {
-        let (next, ended) = answer_line::<X, C>(alloc, &config, session, &mut text, line);
+        let (next, ended) = answer_line::<X, C>(alloc, &opening, session, &mut text, line);
         session = next;
         if let Some(ending) = ended {
             return Answered {

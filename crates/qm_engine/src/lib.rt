@@ -1,11 +1,15 @@
 //! Runs of commands over any database that offers what they ask for, and the answers to the lines of an input.
 #![tactic(auto)]
 
+pub mod answering;
 pub mod answers;
 pub mod runs;
-mod session;
+pub mod session;
 mod table;
-mod turns;
+pub mod turns;
 
+pub use answering::Answering;
 pub use answers::{Answered, Ending, answer_lines};
 pub use runs::{End, Outcome, run};
+pub use session::{SessionOf, Turn};
+pub use turns::{batch_turn, info_turn, making_turn, read_turn, staged_turn, store_turn};

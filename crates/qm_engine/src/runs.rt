@@ -14,13 +14,14 @@ ghost use Rattle.qm_model.specs.Own.{Log, IsOwn};
 ghost use Rattle.qm_model.specs.StoreModel.{Turns};
 ghost use Rattle.qm_engine.specs.Runs.{IsRun};
 
-use crate::session::{Session, SessionOf, Turn, returned};
+use crate::answering::{Answering, returned};
+use crate::session::{Session, SessionOf, Turn};
 use crate::table::{Slot, push_slot};
 use crate::turns::turn;
 use qm_base::{Gate, Twin};
 use qm_chain::Policy;
 use qm_lines::{Command, Reply};
-use qm_offer::{Common, Engine};
+use qm_offer::Common;
 use qm_store::{Given, Store};
 use std::alloc::{AllocError, Global};
 
@@ -55,9 +56,9 @@ fn push_reply<K: Drop, V: Drop, D: Drop>(
 }
 
 // One command, whose reply goes last. An end tells why there is none.
-fn step<X: Engine<C>, C: Store, P: Policy<X::Family, X::Key, X::Value> + Twin>(
+fn step<X: Answering<C>, C: Store, P: Policy<X::Family, X::Key, X::Value> + Twin>(
     alloc: Global,
-    config: &X::Config,
+    opening: &X::Opening,
     session: SessionOf<X, C>,
     replies: &mut Vec<Reply<X::Key, X::Value, X::Digest>>,
     command: &Command<X::Key, X::Value, P>,
@@ -92,7 +93,7 @@ fn step<X: Engine<C>, C: Store, P: Policy<X::Family, X::Key, X::Value> + Twin>(
         (C.faults (store_given X.inside result.0.held)) }
     ensures opened { result.0.opened ≤ session.opened + 1 }
 {
-    let (session, turn) = turn::<X, C, P>(alloc, config, session, command);
+    let (session, turn) = turn::<X, C, P>(alloc, opening, session, command);
     match turn {
         Turn::Memory => (session, Some(End::Memory)),
         Turn::StoreFault => (session, Some(End::StoreFault)),
@@ -125,10 +126,10 @@ pub(crate) fn begin<X: Common<C>, C: Store>(alloc: Global, store: C) -> Result<S
 
 /// Runs the commands over the store, from no database, up to their end or to the first for which memory or the
 /// store fails. What is told holds of a store that such a run left, or an empty one. Accepted openings are numbered from 1, batches too. The gate holds the workers of an opening.
-pub fn run<X: Engine<C>, C: Store, P: Policy<X::Family, X::Key, X::Value> + Twin, G: Gate>(
+pub fn run<X: Answering<C>, C: Store, P: Policy<X::Family, X::Key, X::Value> + Twin, G: Gate>(
     alloc: Global,
     store: C,
-    config: X::Config,
+    opening: X::Opening,
     commands: &[Command<X::Key, X::Value, P>],
     _gate: &G,
 ) -> Outcome<X, C>
@@ -159,7 +160,7 @@ pub fn run<X: Engine<C>, C: Store, P: Policy<X::Family, X::Key, X::Value> + Twin
         }
     };
     for command in commands {
-        let (next, ended) = step::<X, C, P>(alloc, &config, session, &mut replies, command);
+        let (next, ended) = step::<X, C, P>(alloc, &opening, session, &mut replies, command);
         session = next;
         if let Some(end) = ended {
             return Outcome {

@@ -1,6 +1,5 @@
 // What a run holds between two commands.
-ghost use Rattle.std.specs.Prelude.{◌≡◌, ◌≤◌, IfSome};
-ghost use Rattle.qm_model.specs.StoreModel.{end_of};
+ghost use Rattle.std.specs.Prelude.{◌≡◌};
 ghost use Rattle.qm_store.specs.Given.{store_given};
 ghost use Rattle.qm_engine.specs.Turn.{turn_of_tree, turn_of_log, turn_of_error};
 
@@ -92,17 +91,6 @@ pub fn turn_of<K: Drop, V: Drop, D: Drop>(error: Error) -> Turn<K, V, D>
         Error::DataCorrupted(corrupt) => Refused::DataCorrupted(corrupt),
     };
     Turn::Reply(Reply::Refused(refused))
-}
-
-/// The store that a run gives back: the one that is held.
-pub fn returned<X: Durable<C>, C: Store>(held: Given<X, C>) -> C
-    ensures store { result ≡ store_given X.inside held }
-    ensures stable { IfSome (C.told result) (λ s. s.stable ≤ end_of s) }
-{
-    let store = into_store::<X, C>(held);
-    // What is stable of it are items that it has.
-    store.bounds();
-    store
 }
 
 /// The store that is held, by itself or inside the database.

@@ -1,7 +1,8 @@
 // One command over what a run holds.
 ghost use Rattle.std.specs.Prelude.{◌+◌, ◌^◌, ◌<◌};
+ghost use Rattle.qm_machine.specs.Lines as lines;
 ghost use Rattle.qm_machine.specs.Machine as machine;
-ghost use Rattle.qm_lines.specs.Views.{line_view, batch_view, read_view, info_view, store_view};
+ghost use Rattle.qm_lines.specs.Views.{line_view, batch_view, making_view, staged_view, read_view, info_view, store_view};
 ghost use Rattle.qm_engine.specs.Session.{Performs, PerformsHeld};
 
 mod batches;
@@ -11,6 +12,7 @@ mod proofs;
 mod reads;
 mod staged;
 
+use crate::answering::Answering;
 use crate::session::{Session, SessionOf, Turn};
 use crate::table::Slot;
 use batches::{apply, batch, child, merkleize, put, tip};
@@ -19,17 +21,19 @@ use ordered::{Question, Side, ask, beside};
 use proofs::{batch_proof, pins, prove};
 use qm_base::Twin;
 use qm_chain::Policy;
-use qm_lines::{BatchCommand, Command, InfoCommand, ReadCommand, StoreCommand};
-use qm_offer::{Batching, Durable, Engine, Neighbours, Proving, Reading, Staging};
+use qm_lines::{
+    BatchCommand, Command, InfoCommand, MakingCommand, ReadCommand, StagedCommand, StoreCommand,
+};
+use qm_offer::{Batching, Durable, Making, Neighbours, Proving, Reading, Staging};
 use qm_store::{Given, Store};
 use reads::{batch_info, batch_root, current, info, meta, ops, read, read_key, root};
 use staged::{expand, resolve, stage};
 use std::alloc::Global;
 
 /// One command: the machine's turn.
-pub fn turn<X: Engine<C>, C: Store, P: Policy<X::Family, X::Key, X::Value> + Twin>(
+pub fn turn<X: Answering<C>, C: Store, P: Policy<X::Family, X::Key, X::Value> + Twin>(
     alloc: Global,
-    config: &X::Config,
+    opening: &X::Opening,
     mut session: SessionOf<X, C>,
     command: &Command<X::Key, X::Value, P>,
 ) -> (SessionOf<X, C>, Turn<X::Key, X::Value, X::Digest>)
@@ -41,30 +45,35 @@ pub fn turn<X: Engine<C>, C: Store, P: Policy<X::Family, X::Key, X::Value> + Twi
 {
     match command {
         Command::Batch(command) => {
-            let turn = batch_turn::<X, C, P>(alloc, &mut session, command);
+            let turn = X::batch_turn::<P>(alloc, &mut session, command);
+            (session, turn)
+        }
+        Command::Making(command) => X::making_turn::<P>(alloc, session, command),
+        Command::Staged(command) => {
+            let turn = X::staged_turn::<P>(alloc, &mut session, command);
             (session, turn)
         }
         Command::Read(command) => {
-            let turn = read_turn::<X, C, P>(alloc, &mut session, command);
+            let turn = X::read_turn::<P>(alloc, &mut session, command);
             (session, turn)
         }
         Command::Info(command) => {
-            let turn = info_turn::<X, C, P>(alloc, &mut session, command);
+            let turn = X::info_turn::<P>(alloc, &mut session, command);
             (session, turn)
         }
-        Command::Store(command) => store_turn::<X, C, P>(alloc, config, session, command),
+        Command::Store(command) => X::store_turn::<P>(alloc, opening, session, command),
     }
 }
 
-// One that makes batches.
-fn batch_turn<X: Staging<C>, C: Store, P: Policy<X::Family, X::Key, X::Value> + Twin>(
+/// A command that begins or writes a batch, of whatever offers these calls.
+pub fn batch_turn<X: Batching<C>, C: Store, P: Policy<X::Family, X::Key, X::Value> + Twin>(
     alloc: Global,
     session: &mut SessionOf<X, C>,
-    command: &BatchCommand<X::Key, X::Value, P>,
+    command: &BatchCommand<X::Key, X::Value>,
 ) -> Turn<X::Key, X::Value, X::Digest>
-    ensures { Performs C.Store X.Meaning X.Key.bytes X.Value.bytes X.Digest.bytes
-        (batch_view X.Key.bytes X.Value.bytes (λ p. p) command.now) (λ s.
-        machine.turn X.scheme P.rules s (batch_view X.Key.bytes X.Value.bytes (λ p. p) command.now))
+    ensures { Performs {P = P} C.Store X.Meaning X.Key.bytes X.Value.bytes X.Digest.bytes
+        (batch_view X.Key.bytes X.Value.bytes command.now) (λ s.
+        machine.turn X.scheme P.rules s (batch_view X.Key.bytes X.Value.bytes command.now))
         session.old session.new result }
 {
     match command {
@@ -75,19 +84,76 @@ fn batch_turn<X: Staging<C>, C: Store, P: Policy<X::Family, X::Key, X::Value> + 
             put::<X, C>(alloc, session, *number, key, Some(value))
         }
         BatchCommand::Del(number, key) => put::<X, C>(alloc, session, *number, key, None),
-        BatchCommand::Merkleize(number, policy, metadata) => merkleize::<X, C, P>(
-            alloc, session, *number, policy, metadata,
-        ),
-        BatchCommand::Stage(number, keys) => stage::<X, C>(alloc, session, *number, keys),
-        BatchCommand::Expand(number, keys) => expand::<X, C>(alloc, session, *number, keys),
-        BatchCommand::Resolve(number, policy, metadata, resolution) => resolve::<X, C, P>(
+    }
+}
+
+// A batch is applied over what is held.
+fn apply_turn<X: Making<C>, C: Store, P: Policy<X::Family, X::Key, X::Value> + Twin>(
+    alloc: Global,
+    session: SessionOf<X, C>,
+    number: u64,
+) -> (SessionOf<X, C>, Turn<X::Key, X::Value, X::Digest>)
+    ensures { Performs {P = P} C.Store X.Meaning X.Key.bytes X.Value.bytes X.Digest.bytes
+        (lines.Apply number) (λ s. machine.turn X.scheme P.rules s (lines.Apply number)) session
+        result.0 result.1 }
+{
+    let Session {
+        held,
+        table,
+        opened,
+    } = session;
+    let (held, turn) = apply::<X, C>(alloc, held, &table, number);
+    let session = Session {
+        held,
+        table,
+        opened,
+    };
+    (session, turn)
+}
+
+/// A command that makes a batch's list, or applies it, of whatever offers these calls.
+pub fn making_turn<X: Making<C>, C: Store, P: Policy<X::Family, X::Key, X::Value> + Twin>(
+    alloc: Global,
+    mut session: SessionOf<X, C>,
+    command: &MakingCommand<X::Value, P>,
+) -> (SessionOf<X, C>, Turn<X::Key, X::Value, X::Digest>)
+    ensures { Performs C.Store X.Meaning X.Key.bytes X.Value.bytes X.Digest.bytes
+        (making_view X.Key.bytes X.Value.bytes (λ p. p) command.now) (λ s.
+        machine.turn X.scheme P.rules s
+        (making_view X.Key.bytes X.Value.bytes (λ p. p) command.now)) session result.0 result.1 }
+{
+    match command {
+        MakingCommand::Merkleize(number, policy, metadata) => {
+            let turn = merkleize::<X, C, P>(alloc, &mut session, *number, policy, metadata);
+            (session, turn)
+        }
+        MakingCommand::Apply(number) => apply_turn::<X, C, P>(alloc, session, *number),
+    }
+}
+
+/// A command that stages, of whatever offers these calls.
+pub fn staged_turn<X: Staging<C>, C: Store, P: Policy<X::Family, X::Key, X::Value> + Twin>(
+    alloc: Global,
+    session: &mut SessionOf<X, C>,
+    command: &StagedCommand<X::Key, X::Value, P>,
+) -> Turn<X::Key, X::Value, X::Digest>
+    ensures { Performs C.Store X.Meaning X.Key.bytes X.Value.bytes X.Digest.bytes
+        (staged_view X.Key.bytes X.Value.bytes (λ p. p) command.now) (λ s.
+        machine.turn X.scheme P.rules s
+        (staged_view X.Key.bytes X.Value.bytes (λ p. p) command.now))
+        session.old session.new result }
+{
+    match command {
+        StagedCommand::Stage(number, keys) => stage::<X, C>(alloc, session, *number, keys),
+        StagedCommand::Expand(number, keys) => expand::<X, C>(alloc, session, *number, keys),
+        StagedCommand::Resolve(number, policy, metadata, resolution) => resolve::<X, C, P>(
             alloc, session, *number, policy, metadata, resolution,
         ),
     }
 }
 
-// One that reads keys.
-fn read_turn<
+/// A command that reads keys, of whatever offers reads.
+pub fn read_turn<
     X: Reading<C> + Neighbours<C>,
     C: Store,
     P: Policy<X::Family, X::Key, X::Value> + Twin,
@@ -113,8 +179,12 @@ fn read_turn<
     }
 }
 
-// One that tells and proves.
-fn info_turn<X: Reading<C> + Proving<C>, C: Store, P: Policy<X::Family, X::Key, X::Value> + Twin>(
+/// A command that tells and proves, of whatever offers these calls.
+pub fn info_turn<
+    X: Reading<C> + Proving<C>,
+    C: Store,
+    P: Policy<X::Family, X::Key, X::Value> + Twin,
+>(
     alloc: Global,
     session: &mut SessionOf<X, C>,
     command: &InfoCommand<X::Key>,
@@ -138,8 +208,8 @@ fn info_turn<X: Reading<C> + Proving<C>, C: Store, P: Policy<X::Family, X::Key, 
     }
 }
 
-// One that takes the database, or opens it, over what is held.
-fn held_turn<X: Durable<C> + Batching<C>, C: Store, P: Policy<X::Family, X::Key, X::Value> + Twin>(
+// One that opens, settles or ends the database, over what is held.
+fn held_turn<X: Durable<C>, C: Store, P: Policy<X::Family, X::Key, X::Value> + Twin>(
     alloc: Global,
     config: &X::Config,
     held: Given<X, C>,
@@ -155,7 +225,6 @@ fn held_turn<X: Durable<C> + Batching<C>, C: Store, P: Policy<X::Family, X::Key,
 {
     match command {
         StoreCommand::Open(max_size) => open::<X, C>(alloc, config, held, opened, *max_size),
-        StoreCommand::Apply(number) => apply::<X, C>(alloc, held, table, *number),
         StoreCommand::Prune(to) => prune::<X, C>(alloc, held, *to),
         StoreCommand::Commit => commit::<X, C>(held),
         StoreCommand::Sync => sync::<X, C>(alloc, held),
@@ -165,8 +234,8 @@ fn held_turn<X: Durable<C> + Batching<C>, C: Store, P: Policy<X::Family, X::Key,
     }
 }
 
-// The same over a session.
-fn store_turn<X: Durable<C> + Batching<C>, C: Store, P: Policy<X::Family, X::Key, X::Value> + Twin>(
+/// A command that opens, settles or ends the database, of whatever offers these calls.
+pub fn store_turn<X: Durable<C>, C: Store, P: Policy<X::Family, X::Key, X::Value> + Twin>(
     alloc: Global,
     config: &X::Config,
     session: SessionOf<X, C>,

@@ -12,6 +12,10 @@ use Rattle.qm_lines.specs.declared.command.Command.{Command}
 use Rattle.qm_lines.specs.declared.command.Command.TheVariants as commands
 use Rattle.qm_lines.specs.declared.command.BatchCommand.{BatchCommand}
 use Rattle.qm_lines.specs.declared.command.BatchCommand.TheVariants as batches
+use Rattle.qm_lines.specs.declared.command.MakingCommand.{MakingCommand}
+use Rattle.qm_lines.specs.declared.command.MakingCommand.TheVariants as makings
+use Rattle.qm_lines.specs.declared.command.StagedCommand.{StagedCommand}
+use Rattle.qm_lines.specs.declared.command.StagedCommand.TheVariants as stagings
 use Rattle.qm_lines.specs.declared.command.ReadCommand.{ReadCommand}
 use Rattle.qm_lines.specs.declared.command.ReadCommand.TheVariants as reads
 use Rattle.qm_lines.specs.declared.command.InfoCommand.{InfoCommand}
@@ -60,16 +64,21 @@ question_view key (questions.Chunks start max) = lines.Chunks start (non_zero_u6
 question_view key questions.Witness = lines.Witness
 
 module _ {K V : Type 0} (key : K → Bytes) (value : V → Bytes) where
-  abbrev pub batch_view : {P Q : Type 0} → (P → Q) → BatchCommand K V P → lines.Line Q
-  batch_view policy batches.Batch = lines.Batch
-  batch_view policy (batches.Child h keep) = lines.Child h keep
-  batch_view policy batches.Tip = lines.Tip
-  batch_view policy (batches.Put h k v) = lines.Put h (key k) (value v)
-  batch_view policy (batches.Del h k) = lines.Del h (key k)
-  batch_view policy (batches.Merkleize h p m) = lines.Merkleize h (policy p) (option_map value m)
-  batch_view policy (batches.Stage h keys) = lines.Stage h (map key keys.items)
-  batch_view policy (batches.Expand h keys) = lines.Expand h (map key keys.items)
-  batch_view policy (batches.Resolve h p m r) = lines.Resolve h (policy p) (option_map value m) (slot_views value r.slots.items) (write_views key value r.others.items)
+  abbrev pub batch_view : {Q : Type 0} → BatchCommand K V → lines.Line Q
+  batch_view batches.Batch = lines.Batch
+  batch_view (batches.Child h keep) = lines.Child h keep
+  batch_view batches.Tip = lines.Tip
+  batch_view (batches.Put h k v) = lines.Put h (key k) (value v)
+  batch_view (batches.Del h k) = lines.Del h (key k)
+
+  abbrev pub making_view : {P Q : Type 0} → (P → Q) → MakingCommand V P → lines.Line Q
+  making_view policy (makings.Merkleize h p m) = lines.Merkleize h (policy p) (option_map value m)
+  making_view policy (makings.Apply h) = lines.Apply h
+
+  abbrev pub staged_view : {P Q : Type 0} → (P → Q) → StagedCommand K V P → lines.Line Q
+  staged_view policy (stagings.Stage h keys) = lines.Stage h (map key keys.items)
+  staged_view policy (stagings.Expand h keys) = lines.Expand h (map key keys.items)
+  staged_view policy (stagings.Resolve h p m r) = lines.Resolve h (policy p) (option_map value m) (slot_views value r.slots.items) (write_views key value r.others.items)
 
   abbrev pub read_view : {Q : Type 0} → ReadCommand K → lines.Line Q
   read_view (reads.Get k from) = lines.Get (key k) from
@@ -95,7 +104,6 @@ module _ {K V : Type 0} (key : K → Bytes) (value : V → Bytes) where
 
   abbrev pub store_view : {Q : Type 0} → StoreCommand → lines.Line Q
   store_view (stores.Open bound) = lines.Open bound
-  store_view (stores.Apply h) = lines.Apply h
   store_view (stores.Prune to) = lines.Prune to
   store_view stores.Commit = lines.Commit
   store_view stores.Sync = lines.Sync
@@ -104,7 +112,9 @@ module _ {K V : Type 0} (key : K → Bytes) (value : V → Bytes) where
   store_view (stores.Crash keep) = lines.Crash keep
 
   abbrev pub line_view : {P Q : Type 0} → (P → Q) → Command K V P → lines.Line Q
-  line_view policy (commands.Batch c) = batch_view policy c
+  line_view policy (commands.Batch c) = batch_view c
+  line_view policy (commands.Making c) = making_view policy c
+  line_view policy (commands.Staged c) = staged_view policy c
   line_view policy (commands.Read c) = read_view c
   line_view policy (commands.Info c) = info_view c
   line_view policy (commands.Store c) = store_view c

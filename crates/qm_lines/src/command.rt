@@ -17,9 +17,9 @@ pub enum Question<K> {
     Witness,
 }
 
-/// What makes batches. A batch goes by the number that the run gave it.
+/// What begins and writes batches. A batch goes by the number that the run gave it.
 #[derive(Drop)]
-pub enum BatchCommand<K, V, P> {
+pub enum BatchCommand<K, V> {
     /// Begins a batch.
     Batch,
     /// Begins a child of the merkleized batch of this number, which keeps so many of its kept ancestors, or all.
@@ -30,8 +30,20 @@ pub enum BatchCommand<K, V, P> {
     Put(u64, K, V),
     /// Deletes a key, in the batch of this number.
     Del(u64, K),
+}
+
+/// What makes the lists of batches, and moves the database on to them.
+#[derive(Drop)]
+pub enum MakingCommand<V, P> {
     /// Merkleizes the batch of this number under a policy, with this metadata.
     Merkleize(u64, P, Option<V>),
+    /// Applies the merkleized batch of this number.
+    Apply(u64),
+}
+
+/// What stages batches.
+#[derive(Drop)]
+pub enum StagedCommand<K, V, P> {
     /// Reads the values of keys through the batch of this number, which becomes a staged one.
     Stage(u64, Vec<K>),
     /// Reads the values of more keys through the staged batch of this number.
@@ -86,14 +98,12 @@ pub enum InfoCommand<K> {
     Current(Question<K>),
 }
 
-/// What opens the database, moves it on, makes it last or ends it.
+/// What opens the database, makes it last or ends it.
 #[derive(Drop)]
 pub enum StoreCommand {
     /// Opens the store: the longest list that it keeps and that ends with a commit, of at most so many operations where a
     /// number is given.
     Open(Option<u64>),
-    /// Applies the merkleized batch of this number.
-    Apply(u64),
     /// Forgets the operations before a location, and makes those that are left stable.
     Prune(u64),
     /// Makes the operations stable.
@@ -111,12 +121,16 @@ pub enum StoreCommand {
 /// A command with keys, values and policies of these types.
 #[derive(Drop)]
 pub enum Command<K, V, P> {
-    /// One that makes batches.
-    Batch(BatchCommand<K, V, P>),
+    /// One that begins or writes a batch.
+    Batch(BatchCommand<K, V>),
+    /// One that makes a batch's list, or applies it.
+    Making(MakingCommand<V, P>),
+    /// One that stages.
+    Staged(StagedCommand<K, V, P>),
     /// One that reads keys.
     Read(ReadCommand<K>),
     /// One that tells and proves.
     Info(InfoCommand<K>),
-    /// One that takes the database, or opens it.
+    /// One that opens, settles or ends the database.
     Store(StoreCommand),
 }

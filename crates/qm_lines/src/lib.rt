@@ -12,7 +12,10 @@ pub mod text;
 pub mod whole;
 
 pub use adapters::{StdSink, StdSource};
-pub use command::{BatchCommand, Command, InfoCommand, Question, ReadCommand, StoreCommand};
+pub use command::{
+    BatchCommand, Command, InfoCommand, MakingCommand, Question, ReadCommand, StagedCommand,
+    StoreCommand,
+};
 pub use memory::{MemSink, MemSource};
 pub use parse::{ByteCommand, next_line, parse_line};
 pub use policy::AnyPolicy;

@@ -6,6 +6,6 @@ pub mod offer;
 
 pub use meaning::Meaning;
 pub use offer::{
-    BatchSizes, Batching, Common, Durable, Engine, Neighbours, Numbers, Proving, Reading, Roots,
-    Staging,
+    BatchSizes, Batching, Common, Durable, Engine, Making, Neighbours, Numbers, Proving, Reading,
+    Roots, Staging,
 };

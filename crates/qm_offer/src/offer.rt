@@ -8,6 +8,7 @@ ghost use Rattle.qm_model.specs.Trees.{peaks};
 
 pub mod batches;
 pub mod durable;
+pub mod making;
 pub mod ordered;
 pub mod proofs;
 pub mod reads;
@@ -16,6 +17,7 @@ pub mod staged;
 use crate::meaning::Meaning;
 pub use batches::Batching;
 pub use durable::Durable;
+pub use making::Making;
 pub use ordered::Neighbours;
 pub use proofs::Proving;
 use qm_base::{ByteString, Digest};
@@ -103,4 +105,10 @@ pub trait Common<C: Store>: Meaning<C> + Drop + Sized {
 }
 
 /// A kind of database: one call for each command of a run.
-pub trait Engine<C: Store>: Durable<C> + Staging<C> + Reading<C> + Neighbours<C> + Proving<C> {}
+pub trait Engine<C: Store>: Durable<C>
+    + Batching<C>
+    + Making<C>
+    + Staging<C>
+    + Reading<C>
+    + Neighbours<C>
+    + Proving<C> {}

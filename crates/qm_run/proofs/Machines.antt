@@ -1,22 +1,21 @@
 -- The machine of the program is that of its databases.
-use Rattle.std.proofs.Common.{◌≡◌, ap, ap₂, ℕ, suc, refl, List, [], ◌∷◌, ◌∙◌, length, map, None, Option, IfSome, subst}
+use Rattle.std.proofs.Common.{◌≡◌, ap, ap₂, ℕ, suc, refl, sym, Bool, List, [], ◌∷◌, ◌∙◌, length, map, None}
 use Rattle.sha2.specs.Sha256.{sha256}
 use Rattle.qm_model.specs.Operations.{Bytes, Operation}
 use Rattle.qm_model.specs.Forms.{Form, padded, plain, spelling, variable}
 use Rattle.qm_model.specs.Live.{floor}
-use Rattle.qm_model.specs.Own.{Log, IsOwn}
-use Rattle.qm_model.specs.Policies.{policies}
 use Rattle.qm_model.specs.Proofs.{Proof, ops_proof, pins_at, proof_of}
 use Rattle.qm_model.specs.Roots.{sha256_root, sha256_proof, sha256_pins}
-use Rattle.qm_model.specs.Schemes.{Scheme, engine_of}
-use Rattle.qm_model.specs.StoreModel.{Stored, Turns}
+use Rattle.qm_model.specs.Schemes.{Scheme}
 use Rattle.qm_model.specs.Trees.{leaf, peaks, inactive_peaks, leaf_digest, digest_of, root, leaves_from, Shape}
-use Rattle.qm_machine.specs.Grammar.{commands_in}
 use Rattle.qm_any.specs.Layouts.{list_root}
-use Rattle.qm_any.specs.Offered.{scheme_of, sha256_hashing}
-use Rattle.qm_engine.specs.Answered.{IsAnswered}
-use Rattle.qm_engine.specs.Stores.{IsBeside}
-use Rattle.qm_run.specs.Schemes.{scheme}
+use Rattle.qm_model.specs.Mmr.{mmr}
+use Rattle.qm_any.specs.Offered.{scheme_of, sha256_hashing, sha256_layout}
+use Rattle.qm_current.specs.Offered.{offered_chunk, offered_name}
+use Rattle.qm_current.specs.Offered as currents
+use Rattle.qm_run.specs.declared.kind.Named.{Named}
+use Rattle.qm_run.specs.Program.{machine_at, machine_of}
+use Rattle.qm_run.specs.Schemes.{current, scheme}
 
 -- a form with lengths spells operations as the machine does
 module _ (shape : Shape) (form : Form) (lengths : form.sizes ≡ None) where
@@ -70,11 +69,10 @@ module _ (shape : Shape) (form : Form) (lengths : form.sizes ≡ None) where
       ∙ ap (λ p. machine_with (sha256_root shape) p (pins_at sha256 shape form)) proofs-same
       ∙ ap (λ p. machine_with (sha256_root shape) (sha256_proof shape) p) all-pins-same
 
-  -- so what databases answer it does
-  pub machine-answers : (told left : Option Stored) (input : Bytes) (k : ℕ) (text : Bytes)
-      → IfSome told (λ stored. (log : Log) → IsOwn (engine_of (scheme_of 32 (sha256_hashing shape form)) policies) log stored → (choices : List ℕ) → Turns told left (IsBeside None choices)
-      → IsAnswered (scheme_of 32 (sha256_hashing shape form)) policies log choices (commands_in input) k text left)
-      → IfSome told (λ stored. (log : Log) → IsOwn (engine_of (scheme shape form) policies) log stored → (choices : List ℕ) → Turns told left (IsBeside None choices)
-      → IsAnswered (scheme shape form) policies log choices (commands_in input) k text left)
-  machine-answers told left input k text is = subst (λ m. IfSome told (λ stored. (log : Log) → IsOwn (engine_of m policies) log stored → (choices : List ℕ) → Turns told left (IsBeside None choices)
-      → IsAnswered m policies log choices (commands_in input) k text left)) machines-same is
+-- the machine of current databases with chunks of 32 bytes is the program's
+pub current-same : (form : Form) (index_key : Bytes → ℕ) → currents.scheme_of 32 (sha256_layout mmr offered_chunk form index_key) offered_name ≡ current mmr form
+current-same form index_key = refl
+
+-- the machine of what is named
+pub machine-named : (named : Named) {is_current is_ordered : Bool} → named.is_current ≡ is_current → named.is_ordered ≡ is_ordered → machine_at is_current is_ordered ≡ machine_of named
+machine-named named p q = ap₂ machine_at (sym p) (sym q)

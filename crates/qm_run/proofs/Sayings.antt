@@ -1,6 +1,7 @@
 -- What each status says, from what the lines' answering gave.
-use Rattle.std.proofs.Common.{◌≡◌, ◌⊎◌, ◌+◌, ◌<◌, ◌≤◌, ◌==◌, true, false, ℕ, List, [], ◌++◌, length, take, Option, Some, None, arith, refl, sym, ◌∙◌, ap, subst, inl, inr, append-nil, Bool, IfSome}
+use Rattle.std.proofs.Common.{◌≡◌, ◌⊎◌, ◌+◌, ◌<◌, ◌≤◌, ◌==◌, true, false, ℕ, List, [], ◌++◌, length, take, Option, Some, None, arith, refl, sym, ◌∙◌, ap, subst, inl, inr, append-nil, IfSome}
 use Rattle.std.specs.Prelude.{option_map, IsSome, nat_lt}
+use Rattle.std.specs.Option.{option_and_then}
 use Rattle.std.proofs.lemmas.Bool.Decides.{nat_tests}
 use Rattle.std.proofs.lemmas.List.{take_all}
 use Rattle.qm_model.specs.Causes.{Grows, GrowsPart}
@@ -9,9 +10,10 @@ use Rattle.qm_model.specs.Own.{Log, IsOwn}
 use Rattle.qm_model.specs.StoreModel.{Stored}
 use Rattle.qm_model.specs.Policies.{policies}
 use Rattle.qm_machine.specs.Grammar.{commands_in, bad_in}
-use Rattle.qm_model.specs.Schemes.{Scheme, engine_of}
+use Rattle.qm_model.specs.Schemes.{Scheme, chunks_of, engine_of}
 use Rattle.qm_engine.specs.Answered.{IsAnswered}
 use Rattle.qm_run.specs.Program.{count, state, model_text, IsApart, IsOwnAt, bad_text, fault_text, IsPartial, SaysOver, Says, machine_of}
+use Rattle.qm_run.specs.declared.kind.Named.{Named}
 use Rattle.qm_run.specs.Endings.{tail_text, tail_status}
 use Rattle.qm_engine.specs.declared.answers.Ending.{Ending}
 use Rattle.qm_engine.specs.declared.answers.Ending.TheVariants.{Done, BadLine, Memory, StoreFault}
@@ -130,12 +132,16 @@ both (Some x) None p r h = tt
 both (Some x) (Some y) p r h = h x y p r
 
 -- where no kind is named
-pub at_none : (kind : Option Bool) (Q : Scheme → Type 0) → kind ≡ None → IfSome (option_map machine_of kind) Q
+pub at_none : (kind : Option Named) (Q : Scheme → Type 0) → kind ≡ None → IfSome (option_map machine_of kind) Q
 at_none kind Q is = subst (λ k. IfSome (option_map machine_of k) Q) (sym is) tt
 
 -- at the machine of a kind
-pub at_kind : (kind : Option Bool) (is_ordered : Bool) (Q : Scheme → Type 0) → kind ≡ Some is_ordered → Q (machine_of is_ordered) → IfSome (option_map machine_of kind) Q
-at_kind kind is_ordered Q is given = subst (λ k. IfSome (option_map machine_of k) Q) (sym is) given
+pub at_kind : (kind : Option Named) (named : Named) (Q : Scheme → Type 0) → kind ≡ Some named → Q (machine_of named) → IfSome (option_map machine_of kind) Q
+at_kind kind named Q is given = subst (λ k. IfSome (option_map machine_of k) Q) (sym is) given
+
+-- the chunks of the databases that are named
+pub named-chunks : (kind : Option Named) (named : Named) → kind ≡ Some named → option_and_then chunks_of (option_map machine_of kind) ≡ chunks_of (machine_of named)
+named-chunks kind named is = ap (λ k. option_and_then chunks_of (option_map machine_of k)) is
 
 -- numbers that a test tells apart
 pub differ : (a b : ℕ) → (a == b) ≡ false → a ≡ b → ⊥

@@ -1,6 +1,8 @@
 -- What the program may answer, write and leave.
 use Rattle.std.specs.Prelude.{◌≡◌, ◌≤◌, ◌<◌, ◌⊎◌, ℕ, suc, Bool, true, false, ◌&&◌, if◌then◌else◌, List, [], ◌∷◌, ◌++◌, length, take, codes, Option, None, Some, option_map, is_some, bytes_eq, decimal}
+use Rattle.std.specs.Option.{option_and_then}
 use Rattle.qm_model.specs.Operations.{Bytes}
+use Rattle.qm_model.specs.Opening.{Chunks}
 use Rattle.qm_model.specs.Own.{Log, IsOwn}
 use Rattle.qm_model.specs.StoreModel.{Stored, Turns}
 use Rattle.qm_model.specs.Policies.{policies}
@@ -12,31 +14,50 @@ use Rattle.qm_machine.specs.Grammar.{commands_in, bad_in}
 use Rattle.qm_machine.specs.Text.{text_of}
 use Rattle.qm_engine.specs.Stores.{IsBeside}
 use Rattle.qm_engine.specs.Runs.{after, IsOwnStore, IsOwnLeft}
-use Rattle.qm_run.specs.Schemes.{form_of, scheme}
+use Rattle.qm_run.specs.declared.kind.Named.{Named}
+use Rattle.qm_run.specs.Schemes.{current, form_of, scheme}
+
+-- whether the word names current databases
+abbrev pub family_word : Bytes → Option Bool
+family_word word = if bytes_eq word (codes "any") then Some false else (if bytes_eq word (codes "current") then Some true else None)
 
 -- whether the word names ordered databases
-abbrev pub kind_word : Bytes → Option Bool
-kind_word word = if bytes_eq word (codes "unordered") then Some false else (if bytes_eq word (codes "ordered") then Some true else None)
+abbrev pub order_word : Bytes → Option Bool
+order_word word = if bytes_eq word (codes "unordered") then Some false else (if bytes_eq word (codes "ordered") then Some true else None)
 
--- the words of the command line: run any unordered mmr, or run any ordered mmr
-abbrev pub kind_of_words : List Bytes → Option Bool
+-- which databases two words name
+abbrev pub kind_named : Bytes → Bytes → Option Named
+kind_named family order = option_and_then (λ is_current. option_map (λ is_ordered. record { is_current = is_current; is_ordered = is_ordered }) (order_word order)) (family_word family)
+
+-- the words of the command line: run, then any or current, then unordered or ordered, then mmr
+abbrev pub kind_of_four : Bytes → Bytes → Bytes → Bytes → Option Named
+kind_of_four a b c d = if bytes_eq a (codes "run") && bytes_eq d (codes "mmr") then kind_named b c else None
+
+abbrev pub kind_of_words : List Bytes → Option Named
 kind_of_words [] = None
 kind_of_words (a ∷ []) = None
 kind_of_words (a ∷ b ∷ []) = None
 kind_of_words (a ∷ b ∷ c ∷ []) = None
-kind_of_words (a ∷ b ∷ c ∷ d ∷ []) = if bytes_eq a (codes "run") && (bytes_eq b (codes "any") && bytes_eq d (codes "mmr")) then kind_word c else None
+kind_of_words (a ∷ b ∷ c ∷ d ∷ []) = kind_of_four a b c d
 kind_of_words (a ∷ b ∷ c ∷ d ∷ e ∷ ws) = None
 
 abbrev pub are_words : List Bytes → Bool
 are_words ws = is_some (kind_of_words ws)
 
--- the machine of ordered databases or of unordered ones
-abbrev pub machine_of : Bool → Scheme
-machine_of is_ordered = scheme mmr (form_of is_ordered)
+-- the machine of current databases or of any ones, ordered or unordered
+abbrev pub machine_at : Bool → Bool → Scheme
+machine_at is_current is_ordered = if is_current then current mmr (form_of is_ordered) else scheme mmr (form_of is_ordered)
+
+abbrev pub machine_of : Named → Scheme
+machine_of named = machine_at named.is_current named.is_ordered
 
 -- the machine of the words
 abbrev pub scheme_of : List Bytes → Option Scheme
 scheme_of ws = option_map machine_of (kind_of_words ws)
+
+-- the chunks of the words' databases, if they name current ones
+abbrev pub chunks_named : List Bytes → Option Chunks
+chunks_named ws = option_and_then chunks_of (scheme_of ws)
 
 abbrev pub bad_text : ℕ → Bytes
 bad_text n = codes "bad line " ++ (decimal n ++ 10 ∷ [])

@@ -1,8 +1,13 @@
 //! The program: its databases, and its top call.
 #![tactic(auto)]
 
-mod database;
+mod any;
+mod commands;
+mod current;
 mod kind;
 mod program;
 
+pub use commands::{Replies, run_commands};
+pub use kind::Named;
 pub use program::{are_words, qmdb_main};
+pub use qm_engine::End;

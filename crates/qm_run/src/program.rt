@@ -4,36 +4,44 @@ ghost use Rattle.std.specs.Prelude.{List, ◌≡◌, ◌≢◌, ◌↔◌, ◌�
 ghost use Rattle.std.specs.Io.KnownBytes.{IsAtEnd};
 ghost use Rattle.std.specs.String.{string_bytes};
 ghost use Rattle.qm_model.specs.Causes.{Rose};
-ghost use Rattle.qm_model.specs.Mmr as trees;
 ghost use Rattle.qm_model.specs.Operations.{Bytes};
 ghost use Rattle.qm_machine.specs.Grammar.{bad_in};
 ghost use Rattle.qm_model.specs.StoreModel.{Turns};
 ghost use Rattle.qm_engine.specs.Stores.{IsBeside};
-ghost use Rattle.qm_run.specs.Schemes.{scheme};
-ghost use Rattle.qm_run.specs.Program.{are_words, kind_word, kind_of_words, machine_of, scheme_of, Says, bad_text};
+ghost use Rattle.qm_model.specs.Mmr as trees;
+ghost use Rattle.qm_model.specs.Schemes.{chunks_of};
+ghost use Rattle.qm_run.specs.Schemes.{current, scheme};
+ghost use Rattle.qm_run.specs.Program.{are_words, family_word, order_word, kind_named, kind_of_four, kind_of_words, machine_of, scheme_of, chunks_named, Says, bad_text};
 ghost use Rattle.qm_run.specs.Endings.{tail_text, tail_status};
 
-use crate::database::Database;
-use crate::kind::{Kind, Link, Pair};
+use crate::kind::{Kind, Link, Named, OrderedPlaces, Pair, Places};
+use crate::{any, current};
 use qm_any::Config;
 use qm_base::{ByteKey, ByteValue, Gate, Location};
-use qm_engine::{Answered, Ending, answer_lines};
-use qm_index::{Factory, FourCap, ordered, unordered};
+use qm_engine::{Answered, Answering, Ending, answer_lines};
+use qm_index::{Factory, FourCap};
 use qm_lines::{InputError, LIMIT, Sink, SinkError, Source, read_all, write_all};
 use qm_merkle::mmr;
 use qm_store::Store;
 use std::alloc::{AllocError, Global};
 use std::num::NonZeroUsize;
 
-/// Where the keys of unordered databases are live, by their first four bytes.
-type Places = unordered::Index<FourCap, Location<mmr::Family>>;
-
-/// Where the keys of ordered databases are live, by their first four bytes.
-type OrderedPlaces = ordered::Index<FourCap, Location<mmr::Family>>;
+// Whether the word names current databases.
+fn family_named(word: &str) -> Option<bool>
+    ensures { result ≡ family_word word.now }
+{
+    if word == "any" {
+        Some(false)
+    } else if word == "current" {
+        Some(true)
+    } else {
+        None
+    }
+}
 
 // Whether the word names ordered databases.
-fn kind_named(word: &str) -> Option<bool>
-    ensures { result ≡ kind_word word.now }
+fn order_named(word: &str) -> Option<bool>
+    ensures { result ≡ order_word word.now }
 {
     if word == "unordered" {
         Some(false)
@@ -44,21 +52,28 @@ fn kind_named(word: &str) -> Option<bool>
     }
 }
 
-fn kind_of_four(a: &str, b: &str, c: &str, d: &str) -> Option<bool>
-    ensures { result
-        ≡ (if bytes_eq a.now (codes "run") &&
-        (bytes_eq b.now (codes "any") && bytes_eq d.now (codes "mmr")) then kind_word c.now else
-        None) }
+// Which databases the words name.
+fn named_by(family: &str, order: &str) -> Option<Named>
+    ensures { result ≡ kind_named family.now order.now }
 {
-    if a == "run" && b == "any" && d == "mmr" {
-        kind_named(c)
+    Some(Named {
+        is_current: family_named(family)?,
+        is_ordered: order_named(order)?,
+    })
+}
+
+fn kind_of_four(a: &str, b: &str, c: &str, d: &str) -> Option<Named>
+    ensures { result ≡ kind_of_four a.now b.now c.now d.now }
+{
+    if a == "run" && d == "mmr" {
+        named_by(b, c)
     } else {
         None
     }
 }
 
-// Whether the words of a command line are for ordered databases, where they are those of one.
-fn kind_from(words: &[String]) -> Option<bool>
+// Which databases the words of a command line are for.
+fn kind_from(words: &[String]) -> Option<Named>
     ensures { result ≡ kind_of_words (map string_bytes words.now) }
 {
     if words.len() == 4 {
@@ -125,7 +140,7 @@ fn with_tail(
 }
 
 // How the program opens its databases. An opening keeps 4,096 keys at most, to tell those with the same index key apart.
-fn opening() -> Config<FourCap, ()> {
+pub(crate) fn opening() -> Config<FourCap, ()> {
     let kept = match NonZeroUsize::new(4096) {
         Some(count) => count,
         None => NonZeroUsize::MIN,
@@ -139,18 +154,17 @@ fn opening() -> Config<FourCap, ()> {
 
 // Answers the lines of an input by databases of this kind, and writes the text.
 fn serve<
-    C: Store + Drop,
-    I: Factory<Value = Location<mmr::Family>, Translator = FourCap> + Drop,
-    U: Kind<I, Key = ByteKey, Value = ByteValue>,
+    X: Answering<C, Key = ByteKey, Value = ByteValue, Opening = Config<FourCap, ()>>,
+    C: Store,
     K: Sink,
     G: Gate,
 >(alloc: Global, input: &[u8], store: C, sink: &mut K, gate: &G) -> (u8, C)
     ensures headline { IfSome (C.told store) (λ stored. IfSome (K.text sink.old)
         (λ before. (written : Bytes) × (K.text sink.new ≡ Some (before ++ written))
-        × Says (scheme trees.mmr U.form) stored input.now result.0
+        × Says X.scheme stored input.now result.0
         (Rose (C.faults store) (C.faults result.1)) written (C.told result.1))) }
     ensures beside { (choices : List ℕ)
-        × Turns (C.told store) (C.told result.1) (IsBeside None choices) }
+        × Turns (C.told store) (C.told result.1) (IsBeside (chunks_of X.scheme) choices) }
     ensures write { result.0 ≡ 4 → Rose (K.faults sink.old) (K.faults sink.new) }
     ensures store { result.0 ≡ 6 → Rose (C.faults store) (C.faults result.1) }
     ensures codes { (result.0 ≡ 0)
@@ -164,7 +178,7 @@ fn serve<
         answered,
         ending,
         store,
-    } = answer_lines::<Database<C, I, U>, C, G>(alloc, store, opening(), input, gate);
+    } = answer_lines::<X, C, G>(alloc, store, opening(), input, gate);
     let text = match with_tail(alloc, text, ending, answered) {
         Ok(text) => text,
         Err(_) => return (5, store),
@@ -176,21 +190,21 @@ fn serve<
     }
 }
 
-// Answers the lines of an input by ordered databases or by unordered ones, and writes the text.
-fn run<C: Store + Drop, K: Sink, G: Gate>(
-    is_ordered: bool,
-    alloc: Global,
-    input: &[u8],
-    store: C,
-    sink: &mut K,
-    gate: &G,
-) -> (u8, C)
+// The same by any databases over this index and these updates.
+fn serve_any<
+    C: Store + Drop,
+    I: Factory<Value = Location<mmr::Family>, Translator = FourCap> + Drop,
+    U: Kind<I, Key = ByteKey, Value = ByteValue>,
+    K: Sink,
+    G: Gate,
+>(alloc: Global, input: &[u8], store: C, sink: &mut K, gate: &G) -> (u8, C)
     ensures headline { IfSome (C.told store) (λ stored. IfSome (K.text sink.old)
         (λ before. (written : Bytes) × (K.text sink.new ≡ Some (before ++ written))
-        × Says (machine_of is_ordered) stored input.now result.0
+        × Says (scheme trees.mmr U.form) stored input.now result.0
         (Rose (C.faults store) (C.faults result.1)) written (C.told result.1))) }
     ensures beside { (choices : List ℕ)
-        × Turns (C.told store) (C.told result.1) (IsBeside None choices) }
+        × Turns (C.told store) (C.told result.1)
+        (IsBeside (chunks_of (scheme trees.mmr U.form)) choices) }
     ensures write { result.0 ≡ 4 → Rose (K.faults sink.old) (K.faults sink.new) }
     ensures store { result.0 ≡ 6 → Rose (C.faults store) (C.faults result.1) }
     ensures codes { (result.0 ≡ 0)
@@ -199,18 +213,73 @@ fn run<C: Store + Drop, K: Sink, G: Gate>(
     ensures good { result.0 ≡ 0 → bad_in input.now ≡ None }
     ensures later { (K.faults sink.old ≤ K.faults sink.new) × (C.faults store ≤ C.faults result.1) }
 {
-    if is_ordered {
-        serve::<C, OrderedPlaces, Link, K, G>(alloc, input, store, sink, gate)
-    } else {
-        serve::<C, Places, Pair, K, G>(alloc, input, store, sink, gate)
+    serve::<any::Database<C, I, U>, C, K, G>(alloc, input, store, sink, gate)
+}
+
+// The same by current databases over this index and these updates.
+fn serve_current<
+    C: Store + Drop,
+    I: Factory<Value = Location<mmr::Family>, Translator = FourCap> + Drop,
+    U: Kind<I, Key = ByteKey, Value = ByteValue>,
+    K: Sink,
+    G: Gate,
+>(alloc: Global, input: &[u8], store: C, sink: &mut K, gate: &G) -> (u8, C)
+    ensures headline { IfSome (C.told store) (λ stored. IfSome (K.text sink.old)
+        (λ before. (written : Bytes) × (K.text sink.new ≡ Some (before ++ written))
+        × Says (current trees.mmr U.form) stored input.now result.0
+        (Rose (C.faults store) (C.faults result.1)) written (C.told result.1))) }
+    ensures beside { (choices : List ℕ)
+        × Turns (C.told store) (C.told result.1)
+        (IsBeside (chunks_of (current trees.mmr U.form)) choices) }
+    ensures write { result.0 ≡ 4 → Rose (K.faults sink.old) (K.faults sink.new) }
+    ensures store { result.0 ≡ 6 → Rose (C.faults store) (C.faults result.1) }
+    ensures codes { (result.0 ≡ 0)
+        ⊎ ((result.0 ≡ 2) ⊎ ((result.0 ≡ 4) ⊎ ((result.0 ≡ 5) ⊎ (result.0 ≡ 6)))) }
+    ensures bad { result.0 ≡ 2 → IsSome (bad_in input.now) }
+    ensures good { result.0 ≡ 0 → bad_in input.now ≡ None }
+    ensures later { (K.faults sink.old ≤ K.faults sink.new) × (C.faults store ≤ C.faults result.1) }
+{
+    serve::<current::Database<C, I, U>, C, K, G>(alloc, input, store, sink, gate)
+}
+
+// Answers the lines of an input by the databases that are named, and writes the text.
+fn run<C: Store + Drop, K: Sink, G: Gate>(
+    named: Named,
+    alloc: Global,
+    input: &[u8],
+    store: C,
+    sink: &mut K,
+    gate: &G,
+) -> (u8, C)
+    ensures headline { IfSome (C.told store) (λ stored. IfSome (K.text sink.old)
+        (λ before. (written : Bytes) × (K.text sink.new ≡ Some (before ++ written))
+        × Says (machine_of named) stored input.now result.0
+        (Rose (C.faults store) (C.faults result.1)) written (C.told result.1))) }
+    ensures beside { (choices : List ℕ)
+        × Turns (C.told store) (C.told result.1) (IsBeside (chunks_of (machine_of named)) choices) }
+    ensures write { result.0 ≡ 4 → Rose (K.faults sink.old) (K.faults sink.new) }
+    ensures store { result.0 ≡ 6 → Rose (C.faults store) (C.faults result.1) }
+    ensures codes { (result.0 ≡ 0)
+        ⊎ ((result.0 ≡ 2) ⊎ ((result.0 ≡ 4) ⊎ ((result.0 ≡ 5) ⊎ (result.0 ≡ 6)))) }
+    ensures bad { result.0 ≡ 2 → IsSome (bad_in input.now) }
+    ensures good { result.0 ≡ 0 → bad_in input.now ≡ None }
+    ensures later { (K.faults sink.old ≤ K.faults sink.new) × (C.faults store ≤ C.faults result.1) }
+{
+    match (named.is_current, named.is_ordered) {
+        (false, false) => serve_any::<C, Places, Pair, K, G>(alloc, input, store, sink, gate),
+        (false, true) => serve_any::<C, OrderedPlaces, Link, K, G>(alloc, input, store, sink, gate),
+        (true, false) => serve_current::<C, Places, Pair, K, G>(alloc, input, store, sink, gate),
+        (true, true) => {
+            serve_current::<C, OrderedPlaces, Link, K, G>(alloc, input, store, sink, gate)
+        }
     }
 }
 
-/// The program. The words are those after its name: `run any unordered mmr` or `run any ordered mmr`. It reads the
-/// source to its end, runs the commands of its lines over the store, up to the first line that is not a command, and writes
+/// The program. The words are those after its name: `run`, then `any` or `current`, then `unordered` or `ordered`, then `mmr`. It reads
+/// the source to its end, runs the commands of its lines over the store, up to the first line that is not a command, and writes
 /// the replies, one line each. It answers a status and the store.
 ///
-/// The statuses: 0, every line has its reply; 1, the words are not one of the two; 2, a line is not a command, and after the
+/// The statuses: 0, every line has its reply; 1, the words are no such ones; 2, a line is not a command, and after the
 /// replies before it `bad line` and its number were written; 3, the source failed; 4, the sink failed; 5, want of memory; 6, the
 /// store failed, and after the replies so far `store fault` was written; 7, more than 16,777,216 bytes of input.
 pub fn qmdb_main<C: Store + Drop, S: Source, K: Sink, G: Gate>(
@@ -234,7 +303,8 @@ pub fn qmdb_main<C: Store + Drop, S: Source, K: Sink, G: Gate>(
         → (result.1 ≡ store) × (sink.new ≡ sink.old) }
     ensures unread { result.0 ≡ 1 → source.new ≡ source.old }
     ensures beside { (choices : List ℕ)
-        × Turns (C.told store) (C.told result.1) (IsBeside None choices) }
+        × Turns (C.told store) (C.told result.1)
+        (IsBeside (chunks_named (map string_bytes words.now)) choices) }
 
     // When each status comes.
     ensures usage { (result.0 ≡ 1) ↔ (are_words (map string_bytes words.now) ≡ false) }
@@ -265,13 +335,13 @@ pub fn qmdb_main<C: Store + Drop, S: Source, K: Sink, G: Gate>(
         → ¬ Rose (C.faults store) (C.faults result.1)
         → (result.0 ≡ 2) ⊎ (result.0 ≡ 5)) }
 {
-    let Some(is_ordered) = kind_from(words) else {
+    let Some(named) = kind_from(words) else {
         return (1, store);
     };
     match read_all(alloc, source) {
         Err(InputError::Memory) => (5, store),
         Err(InputError::Failed) => (3, store),
         Err(InputError::TooLong) => (7, store),
-        Ok(input) => run(is_ordered, alloc, &input, store, sink, gate),
+        Ok(input) => run(named, alloc, &input, store, sink, gate),
     }
 }

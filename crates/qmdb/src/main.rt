@@ -1,4 +1,4 @@
-//! `qmdb run any (unordered|ordered) mmr`: the lines of standard input over the files of a folder, the replies on standard
+//! `qmdb run (any|current) (unordered|ordered) mmr`: the lines of standard input over the files of a folder, the replies on standard
 //! output.
 #![tactic(auto)]
 
@@ -15,7 +15,7 @@ use std::process::ExitCode;
 use std::rt::{Env, Files};
 use std::{env, fs, io};
 
-const HELP: &str = "usage: qmdb run any (unordered|ordered) mmr
+const HELP: &str = "usage: qmdb run (any|current) (unordered|ordered) mmr
        qmdb --help | --version
 
 Reads the commands of standard input, one a line, runs them over the store in the folder qmdb-data, and writes a reply line for each.
@@ -59,7 +59,7 @@ line, reply, and an example: a line and what it was answered
 h is the number of a batch; sizes, locations and n are decimal numbers; key is 2 to 64 hexadecimal digits, value 2 to 128 of them or -
 for the empty one, meta none or a value. lo is *, [key or (key, hi is *, key] or key). A slot is keep, del or put:value, a write key=value
 or key=none. policy is prop, hold, bounded:entries:skips, or rule:entries:skips with any of :drop=value, :stop=value, :swap=value>value.
-next, prev, span, all, range and keys are lines of ordered databases. A command that is refused is answered with refused and why.
+next, prev, span, all, range and keys are lines of ordered databases, proof h of any ones. A refused command is answered with refused and why.
 Statuses: 0 all answered, 1 other words, 2 a bad line, 3 and 4 the input or the output failed, 5 no memory, 6 the store failed, 7 too long.";
 
 const VERSION: &str = "qmdb 0.1.0";
@@ -100,7 +100,7 @@ fn answer(words: &[String]) -> Option<&'static str> {
 // What a status other than 0 says.
 fn reason(status: u8) -> &'static str {
     match status {
-        OTHER_WORDS => "unknown arguments; usage: qmdb run any (unordered|ordered) mmr",
+        OTHER_WORDS => "unknown arguments; usage: qmdb run (any|current) (unordered|ordered) mmr",
         2 => "bad line; the last line of the output has its number",
         NOT_READ => "the input cannot be read",
         NOT_WRITTEN => "the output cannot be written",

@@ -14,6 +14,7 @@ pub struct Case {
     pub source_fails: Vec<u64>,
     pub sink_fails: Vec<u64>,
     pub store: StoreOf,
+    pub is_list: bool,
     pub tells_items: bool,
 }
 
@@ -81,6 +82,7 @@ impl Case {
             source_fails: Vec::new(alloc),
             sink_fails: Vec::new(alloc),
             store: StoreOf::New(NewStore::new(alloc)),
+            is_list: false,
             tells_items: false,
         })
     }
@@ -107,6 +109,7 @@ impl Case {
             "head" => self.new_store()?.head = hex::decode(alloc, rest)?,
             "fail" => self.fail(rest)?,
             "keep" => self.store = StoreOf::Kept,
+            "list" => self.is_list = true,
             "items" => self.tells_items = true,
             _ => bail!("unknown: {first}"),
         }

@@ -15,6 +15,7 @@
 //! | `head HEX` | Its store's head has these bytes. |
 //! | `fail PORT N..` | The calls of these numbers fail, counted from 0. A port is `source`, `sink` or `store`. |
 //! | `keep` | Its store is the one that the case before gave back, whose calls are counted on. |
+//! | `list` | Its lines are read as a list of commands first, and the databases are unordered any ones, whatever its words are. Each line is a command, and no call of source or sink fails. |
 //! | `items` | The store's items are told, too. |
 //!
 //! Empty lines and lines that begin with `#` say nothing.

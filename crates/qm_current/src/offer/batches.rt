@@ -1,14 +1,13 @@
-//! Batches: begun, written, made and applied.
+//! Batches: begun and written.
 
 use crate::batch::MerkleizedBatch;
 use crate::db::Db;
-use qm_base::{Error, Location, Sha256, twin_option};
+use qm_base::{Location, Sha256};
 use qm_bits::Chunk32;
-use qm_chain::Policy;
 use qm_merkle::mmr;
 use qm_offer::Batching;
 use qm_step::kind::Steps;
-use qm_store::{Refusal, Store};
+use qm_store::Store;
 use std::alloc::{AllocError, Global};
 
 impl<
@@ -46,20 +45,5 @@ impl<
 
     fn del(_alloc: Global, batch: Self::Batch, key: U::Key) -> Result<Self::Batch, AllocError> {
         batch.write(key, None)
-    }
-
-    fn merkleize<P: Policy<mmr::Family, U::Key, U::Value>>(
-        &mut self,
-        alloc: Global,
-        batch: Self::Batch,
-        policy: &mut P,
-        metadata: &Option<U::Value>,
-    ) -> Result<Self::Merkleized, Error> {
-        let metadata = twin_option(alloc, metadata)?;
-        batch.merkleize(alloc, self, metadata, policy)
-    }
-
-    fn apply(self, alloc: Global, batch: &Self::Merkleized) -> Result<Self, Refusal<Self, C>> {
-        self.apply_batch(alloc, batch)
     }
 }

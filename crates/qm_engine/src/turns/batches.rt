@@ -16,7 +16,7 @@ use crate::turns::lasting::without_database;
 use qm_base::{ByteString, Error, JournalError, Twin};
 use qm_chain::Policy;
 use qm_lines::Reply;
-use qm_offer::{Batching, Common};
+use qm_offer::{Batching, Common, Making};
 use qm_store::{Given, Store};
 use std::alloc::{AllocError, Global};
 
@@ -147,7 +147,7 @@ pub fn put<'a, X: Batching<C>, C: Store>(
 }
 
 // Merkleizes under a twin of the policy.
-fn merkleize_batch<X: Batching<C>, C: Store, P: Policy<X::Family, X::Key, X::Value> + Twin>(
+fn merkleize_batch<X: Making<C>, C: Store, P: Policy<X::Family, X::Key, X::Value> + Twin>(
     alloc: Global,
     database: &mut X,
     batch: X::Batch,
@@ -165,7 +165,7 @@ fn merkleize_batch<X: Batching<C>, C: Store, P: Policy<X::Family, X::Key, X::Val
 }
 
 /// Gives a merkleized batch the number under which the batch was taken out of the table, or tells why there is none.
-pub fn put_made<X: Batching<C>, C: Store>(
+pub fn put_made<X: Common<C>, C: Store>(
     session: &mut SessionOf<X, C>,
     number: u64,
     made: Result<X::Merkleized, Error>,
@@ -190,7 +190,7 @@ pub fn put_made<X: Batching<C>, C: Store>(
 }
 
 /// Merkleizes a batch, which keeps its number.
-pub fn merkleize<X: Batching<C>, C: Store, P: Policy<X::Family, X::Key, X::Value> + Twin>(
+pub fn merkleize<X: Making<C>, C: Store, P: Policy<X::Family, X::Key, X::Value> + Twin>(
     alloc: Global,
     session: &mut SessionOf<X, C>,
     number: u64,
@@ -217,7 +217,7 @@ pub fn merkleize<X: Batching<C>, C: Store, P: Policy<X::Family, X::Key, X::Value
 }
 
 /// Applies a merkleized batch, which keeps its number.
-pub fn apply<X: Batching<C>, C: Store>(
+pub fn apply<X: Making<C>, C: Store>(
     alloc: Global,
     held: Given<X, C>,
     table: &Vec<Slot<X::Batch, X::Staged, X::Merkleized>>,

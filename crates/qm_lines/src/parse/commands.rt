@@ -14,7 +14,9 @@ use super::pieces::is;
 use super::ranges::{RangeForm, range};
 use super::staged::{KeyedForm, keyed, resolve};
 use super::unread::Unread;
-use crate::command::{BatchCommand, Command, InfoCommand, Question, ReadCommand, StoreCommand};
+use crate::command::{
+    BatchCommand, Command, InfoCommand, MakingCommand, Question, ReadCommand, StoreCommand,
+};
 use qm_base::ByteKey;
 use std::alloc::Global;
 
@@ -306,7 +308,7 @@ fn staged(alloc: Global, name: &[u8], words: &[&[u8]]) -> Result<ByteCommand, Un
     } else if is(name, b"resolve") {
         resolve(alloc, words)
     } else if is(name, b"apply") {
-        Ok(Command::Store(StoreCommand::Apply(only_number(words)?)))
+        Ok(Command::Making(MakingCommand::Apply(only_number(words)?)))
     } else if is(name, b"ops") {
         Ok(Command::Info(InfoCommand::Ops(only_number(words)?)))
     } else {

@@ -8,7 +8,7 @@ use super::keys::metadata;
 use super::numbers::number;
 use super::policies::policy;
 use super::unread::Unread;
-use crate::command::{BatchCommand, Command};
+use crate::command::{Command, MakingCommand};
 use crate::policy::AnyPolicy;
 use qm_base::ByteValue;
 use std::alloc::Global;
@@ -49,5 +49,5 @@ pub fn merkleize(alloc: Global, words: &[&[u8]]) -> Result<ByteCommand, Unread>
         return Err(Unread::Malformed);
     };
     let m = parse_merkleizing(alloc, handle, policy, metadata)?;
-    Ok(Command::Batch(BatchCommand::Merkleize(m.handle, m.policy, m.metadata)))
+    Ok(Command::Making(MakingCommand::Merkleize(m.handle, m.policy, m.metadata)))
 }

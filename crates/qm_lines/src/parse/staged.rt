@@ -9,7 +9,7 @@ use super::merkleize::parse_merkleizing;
 use super::numbers::number;
 use super::pieces::{is, pieces};
 use super::unread::Unread;
-use crate::command::{BatchCommand, Command};
+use crate::command::{Command, StagedCommand};
 use qm_base::{ByteKey, ByteValue, Resolution, Slot, Write};
 use std::alloc::{AllocError, Global};
 
@@ -98,8 +98,8 @@ pub fn keyed(alloc: Global, form: KeyedForm, words: &[&[u8]]) -> Result<ByteComm
     let handle = number(handle)?;
     let keys = some_keys(alloc, words)?;
     match form {
-        KeyedForm::Stage => Ok(Command::Batch(BatchCommand::Stage(handle, keys))),
-        KeyedForm::Expand => Ok(Command::Batch(BatchCommand::Expand(handle, keys))),
+        KeyedForm::Stage => Ok(Command::Staged(StagedCommand::Stage(handle, keys))),
+        KeyedForm::Expand => Ok(Command::Staged(StagedCommand::Expand(handle, keys))),
     }
 }
 
@@ -112,5 +112,5 @@ pub fn resolve(alloc: Global, words: &[&[u8]]) -> Result<ByteCommand, Unread>
     };
     let resolution = resolution(alloc, rest)?;
     let m = parse_merkleizing(alloc, handle, policy, metadata)?;
-    Ok(Command::Batch(BatchCommand::Resolve(m.handle, m.policy, m.metadata, resolution)))
+    Ok(Command::Staged(StagedCommand::Resolve(m.handle, m.policy, m.metadata, resolution)))
 }

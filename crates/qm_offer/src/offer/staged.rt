@@ -8,7 +8,7 @@ ghost use Rattle.qm_base.specs.Slots.{slot_views, write_views};
 ghost use Rattle.qm_store.specs.Given.{TellsFrom};
 ghost use Rattle.qm_offer.specs.Words.{AtBatch, AtStaged, CanRead, IsReadFailure, Makes, ReadsOnly, tip_of};
 
-use crate::offer::batches::Batching;
+use crate::offer::Common;
 use qm_base::{Error, Resolution};
 use qm_chain::Policy;
 use qm_store::Store;
@@ -16,7 +16,7 @@ use std::alloc::Global;
 use std::ops::Range;
 
 /// The calls on staged batches.
-pub trait Staging<C: Store>: Batching<C> {
+pub trait Staging<C: Store>: Common<C> {
     /// Reads the values of keys through a batch, as `get_through` does, and makes it a staged one with these keys. The batch
     /// is gone also where this is refused.
     fn stage(

@@ -1,5 +1,5 @@
 use Rattle.std.proofs.Common.{refl}
-use Rattle.qm_engine.proofs.Handling.{performs-reading, performs-beside}
+use Rattle.qm_engine.proofs.Handling.{performs-beside}
 use Rattle.qm_engine.proofs.turns.batch_turn.Goals as goal
 
 pub returns-in-Batch : goal.returns-in-Batch
@@ -16,15 +16,3 @@ returns-in-Put g c = rw c.in-Put.is (performs-beside (λ rest. refl) c.put.ensur
 
 pub returns-in-Del : goal.returns-in-Del
 returns-in-Del g c = rw c.in-Del.is (performs-beside (λ rest. refl) c.put-in-Del.ensures.machine c.put-in-Del.ensures.rest c.put-in-Del.ensures.never)
-
-pub returns-in-Merkleize : goal.returns-in-Merkleize
-returns-in-Merkleize g c = rw c.in-Merkleize.is (performs-reading (λ rest. refl) c.merkleize.ensures.machine c.merkleize.ensures.store c.merkleize.ensures.uses c.merkleize.ensures.opened)
-
-pub returns-in-Stage : goal.returns-in-Stage
-returns-in-Stage g c = rw c.in-Stage.is (performs-reading (λ rest. refl) (λ s k sound more rest told choices. rw c.deref.ensures.value at (c.stage.ensures.machine s k)) c.stage.ensures.store c.stage.ensures.uses c.stage.ensures.opened)
-
-pub returns-in-Expand : goal.returns-in-Expand
-returns-in-Expand g c = rw c.in-Expand.is (performs-reading (λ rest. refl) (λ s k sound more rest told choices. rw c.deref-in-Expand.ensures.value at (c.expand.ensures.machine s k)) c.expand.ensures.store c.expand.ensures.uses c.expand.ensures.opened)
-
-pub returns-in-Resolve : goal.returns-in-Resolve
-returns-in-Resolve g c = rw c.in-Resolve.is (performs-reading (λ rest. refl) c.resolve.ensures.machine c.resolve.ensures.store c.resolve.ensures.uses c.resolve.ensures.opened)

@@ -1,5 +1,5 @@
 use Rattle.std.proofs.Common.{arith, refl}
-use Rattle.qm_engine.proofs.Handling.{uses_line, handles_line, performs-held}
+use Rattle.qm_engine.proofs.Handling.{handles_line, performs-held}
 use Rattle.qm_engine.proofs.turns.held_turn.Goals as goal
 
 pub returns-in-Open : goal.returns-in-Open
@@ -10,16 +10,6 @@ returns-in-Open g c =
       left = c.open.ensures.left table c.args.opened.now;
       handles = handles_line _ _ _ _ _ _ (λ rest. refl) c.open.ensures.handles;
       opened = c.open.ensures.opened;
-    })
-
-pub returns-in-Apply : goal.returns-in-Apply
-returns-in-Apply g c =
-    let count = c.args.opened.now in
-    rw c.in-Apply.is (record {
-      machine = c.apply.ensures.machine count;
-      left = c.apply.ensures.left count;
-      handles = uses_line _ _ _ _ _ _ (λ rest. refl) c.apply.ensures.uses;
-      opened = omega arith;
     })
 
 pub returns-in-Prune : goal.returns-in-Prune

@@ -1,4 +1,4 @@
-use Rattle.std.proofs.Common.{◌≡◌, ◌<◌, ◌++◌, [], length, map, sym, Some, None, Err, refl, ◌∙◌, ap, subst, inl, inr, IfSome}
+use Rattle.std.proofs.Common.{◌≡◌, ◌<◌, ◌++◌, ℕ, List, [], length, map, sym, Some, None, Err, refl, ◌∙◌, ap, subst, inl, inr, IfSome}
 use Rattle.std.specs.Prelude.{IsSome, is_some}
 use Rattle.std.proofs.lemmas.Bool.{false≢true}
 use Rattle.std.specs.String.{string_bytes}
@@ -6,10 +6,12 @@ use Rattle.qm_model.specs.Causes.{Rose}
 use Rattle.qm_model.specs.Operations.{Bytes}
 use Rattle.qm_machine.specs.Grammar.{bad_in}
 use Rattle.qm_lines.specs.declared.whole.TheConstants.{LIMIT}
-use Rattle.qm_run.specs.Program.{Says, kind_of_words, machine_of}
+use Rattle.qm_engine.specs.Stores.{IsBeside}
+use Rattle.qm_model.specs.StoreModel.{Turns}
+use Rattle.qm_run.specs.Program.{Says, chunks_named, kind_of_words, machine_of}
 use Rattle.qm_engine.proofs.LastingStores.{turns-self}
 use Rattle.qm_engine.proofs.Loops.{each}
-use Rattle.qm_run.proofs.Sayings.{says_nothing, says_unstarted, unchanged, each_input, each_more, both, at_none, at_kind, differ, no_four, at_most_seven, not_both, served-not_early, served-few, served-good, served-bad}
+use Rattle.qm_run.proofs.Sayings.{says_nothing, says_unstarted, unchanged, each_input, each_more, both, at_none, at_kind, named-chunks, differ, no_four, at_most_seven, not_both, served-not_early, served-few, served-good, served-bad}
 use Rattle.qm_run.proofs.program.qmdb_main.Goals as goal
 
 pub returns-in_default : goal.returns-in_default
@@ -19,7 +21,7 @@ returns-in_default g c =
       headline = at_none (kind_of_words (map string_bytes c.args.words.now)) _ (sym c.kind_from.ensures ∙ c.in_default.is);
       untouched = λ e. (refl, refl);
       unread = λ e. refl;
-      beside = ([], turns-self None (g.C.Store.told c.args.store));
+      beside = ([], turns-self (chunks_named (map string_bytes c.args.words.now)) (g.C.Store.told c.args.store));
       usage = (λ e. none, λ no_words. refl);
       read = λ e. absurd (differ 1 3 refl e);
       steady = λ other. refl;
@@ -39,13 +41,13 @@ pub returns-in-Err-Memory : goal.returns-in-Err-Memory
 returns-in-Err-Memory g c =
     let are = ap is_some (sym c.kind_from.ensures ∙ c.in-Some.is) in
     record {
-      headline = at_kind (kind_of_words (map string_bytes c.args.words.now)) c.in-Some.is_ordered _ (sym c.kind_from.ensures ∙ c.in-Some.is) (each (g.C.Store.told c.args.store) (λ stored is. each_input (g.S.Source.left c.args.source.now) (λ input.
-          let m = machine_of c.in-Some.is_ordered in
+      headline = at_kind (kind_of_words (map string_bytes c.args.words.now)) c.in-Some.named _ (sym c.kind_from.ensures ∙ c.in-Some.is) (each (g.C.Store.told c.args.store) (λ stored is. each_input (g.S.Source.left c.args.source.now) (λ input.
+          let m = machine_of c.in-Some.named in
           let rose : Type 0 = Rose (g.C.Store.faults c.args.store) (g.C.Store.faults c.args.store) in
           unchanged m stored input 5 rose (g.C.Store.told c.args.store) (g.K.Sink.text c.args.sink.now) (subst (λ left. Says m stored input 5 rose [] left) (sym is) (λ log own choices turns. says_unstarted m log choices input rose stored own)))));
       untouched = λ e. (refl, refl);
       unread = λ e. absurd (differ 5 1 refl e);
-      beside = ([], turns-self None (g.C.Store.told c.args.store));
+      beside = ([], turns-self (chunks_named (map string_bytes c.args.words.now)) (g.C.Store.told c.args.store));
       usage = (λ e. absurd (differ 5 1 refl e), λ none. absurd (false≢true (sym none ∙ are)));
       read = λ e. absurd (differ 5 3 refl e);
       steady = λ other. c.in-Err-Memory.ensures.steady (λ e. absurd (cc e));
@@ -65,13 +67,13 @@ pub returns-in-Err-Failed : goal.returns-in-Err-Failed
 returns-in-Err-Failed g c =
     let are = ap is_some (sym c.kind_from.ensures ∙ c.in-Some.is) in
     record {
-      headline = at_kind (kind_of_words (map string_bytes c.args.words.now)) c.in-Some.is_ordered _ (sym c.kind_from.ensures ∙ c.in-Some.is) (each (g.C.Store.told c.args.store) (λ stored is. each_input (g.S.Source.left c.args.source.now) (λ input.
-          let m = machine_of c.in-Some.is_ordered in
+      headline = at_kind (kind_of_words (map string_bytes c.args.words.now)) c.in-Some.named _ (sym c.kind_from.ensures ∙ c.in-Some.is) (each (g.C.Store.told c.args.store) (λ stored is. each_input (g.S.Source.left c.args.source.now) (λ input.
+          let m = machine_of c.in-Some.named in
           let rose : Type 0 = Rose (g.C.Store.faults c.args.store) (g.C.Store.faults c.args.store) in
           unchanged m stored input 3 rose (g.C.Store.told c.args.store) (g.K.Sink.text c.args.sink.now) (λ log own choices turns. says_nothing m log choices input rose 3 (g.C.Store.told c.args.store) (inr (inl refl))))));
       untouched = λ e. (refl, refl);
       unread = λ e. absurd (differ 3 1 refl e);
-      beside = ([], turns-self None (g.C.Store.told c.args.store));
+      beside = ([], turns-self (chunks_named (map string_bytes c.args.words.now)) (g.C.Store.told c.args.store));
       usage = (λ e. absurd (differ 3 1 refl e), λ none. absurd (false≢true (sym none ∙ are)));
       read = λ e. c.in-Err-Failed.ensures.cause.failed (ap Err c.in-Err-Failed.field-0-is);
       steady = λ other. absurd (other refl);
@@ -91,13 +93,13 @@ pub returns-in-Err-TooLong : goal.returns-in-Err-TooLong
 returns-in-Err-TooLong g c =
     let are = ap is_some (sym c.kind_from.ensures ∙ c.in-Some.is) in
     record {
-      headline = at_kind (kind_of_words (map string_bytes c.args.words.now)) c.in-Some.is_ordered _ (sym c.kind_from.ensures ∙ c.in-Some.is) (each (g.C.Store.told c.args.store) (λ stored is. each_input (g.S.Source.left c.args.source.now) (λ input.
-          let m = machine_of c.in-Some.is_ordered in
+      headline = at_kind (kind_of_words (map string_bytes c.args.words.now)) c.in-Some.named _ (sym c.kind_from.ensures ∙ c.in-Some.is) (each (g.C.Store.told c.args.store) (λ stored is. each_input (g.S.Source.left c.args.source.now) (λ input.
+          let m = machine_of c.in-Some.named in
           let rose : Type 0 = Rose (g.C.Store.faults c.args.store) (g.C.Store.faults c.args.store) in
           unchanged m stored input 7 rose (g.C.Store.told c.args.store) (g.K.Sink.text c.args.sink.now) (λ log own choices turns. says_nothing m log choices input rose 7 (g.C.Store.told c.args.store) (inr (inr refl))))));
       untouched = λ e. (refl, refl);
       unread = λ e. absurd (differ 7 1 refl e);
-      beside = ([], turns-self None (g.C.Store.told c.args.store));
+      beside = ([], turns-self (chunks_named (map string_bytes c.args.words.now)) (g.C.Store.told c.args.store));
       usage = (λ e. absurd (differ 7 1 refl e), λ none. absurd (false≢true (sym none ∙ are)));
       read = λ e. absurd (differ 7 3 refl e);
       steady = λ other. c.in-Err-TooLong.ensures.steady (λ e. absurd (cc e));
@@ -118,13 +120,14 @@ returns-in-Ok g c =
     let are = ap is_some (sym c.kind_from.ensures ∙ c.in-Some.is) in
     record {
       headline =
-          let m = machine_of c.in-Some.is_ordered in
+          let m = machine_of c.in-Some.named in
           let rose : Type 0 = Rose (g.C.Store.faults c.args.store) (g.C.Store.faults c.run.result.1) in
-          at_kind (kind_of_words (map string_bytes c.args.words.now)) c.in-Some.is_ordered _ (sym c.kind_from.ensures ∙ c.in-Some.is) (both (g.C.Store.told c.args.store) (g.S.Source.left c.args.source.now) c.run.ensures.headline c.in-Ok.ensures.all (λ stored input served e.
+          at_kind (kind_of_words (map string_bytes c.args.words.now)) c.in-Some.named _ (sym c.kind_from.ensures ∙ c.in-Some.is) (both (g.C.Store.told c.args.store) (g.S.Source.left c.args.source.now) c.run.ensures.headline c.in-Ok.ensures.all (λ stored input served e.
           subst (λ i. IfSome (g.K.Sink.text c.args.sink.now) (λ before. (w : Bytes) × (g.K.Sink.text c.run.new.sink ≡ Some (before ++ w)) × Says m stored i c.run.result.0 rose w (g.C.Store.told c.run.result.1))) (c.deref.ensures.value ∙ e) served));
       untouched = served-not_early c.run.ensures.codes;
       unread = λ e. served-not_early c.run.ensures.codes (inl e);
-      beside = c.run.ensures.beside;
+      beside = subst (λ chunks. (choices : List ℕ) × Turns (g.C.Store.told c.args.store) (g.C.Store.told c.run.result.1) (IsBeside chunks choices))
+          (sym (named-chunks (kind_of_words (map string_bytes c.args.words.now)) c.in-Some.named (sym c.kind_from.ensures ∙ c.in-Some.is))) c.run.ensures.beside;
       usage = (λ e. served-not_early c.run.ensures.codes (inl e), λ none. absurd (false≢true (sym none ∙ are)));
       read = λ e. served-not_early c.run.ensures.codes (inr (inl e));
       steady = λ other. c.in-Ok.ensures.steady (λ e. absurd (cc e));

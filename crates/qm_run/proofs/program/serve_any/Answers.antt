@@ -1,0 +1,20 @@
+use Rattle.std.proofs.Common.{◌≡◌, ℕ, List, IfSome, refl, subst}
+use Rattle.qm_model.specs.Causes.{Rose}
+use Rattle.qm_model.specs.Mmr.{mmr}
+use Rattle.qm_model.specs.Schemes.{chunks_of}
+use Rattle.qm_model.specs.StoreModel.{Turns}
+use Rattle.qm_engine.specs.Stores.{IsBeside}
+use Rattle.qm_run.proofs.Machines.{machines-same}
+use Rattle.qm_run.proofs.Sayings.{Told}
+use Rattle.qm_run.proofs.program.serve_any.Goals as goal
+
+pub returns-clause-headline : goal.returns-clause-headline
+returns-clause-headline g c =
+    let rose : Type 0 = Rose (g.C.Store.faults c.args.store) (g.C.Store.faults c.serve.result.1) in
+    subst (λ m. IfSome (g.C.Store.told c.args.store) (λ stored. Told m stored c.args.input.now c.serve.result.0 rose (g.C.Store.told c.serve.result.1) (g.K.Sink.text c.args.sink.now) (g.K.Sink.text c.serve.new.sink)))
+    (machines-same mmr g.U.Update.form g.met.U.Kind.lengths) c.serve.ensures.headline
+
+pub returns-clause-beside : goal.returns-clause-beside
+returns-clause-beside g c =
+    subst (λ m. (choices : List ℕ) × Turns (g.C.Store.told c.args.store) (g.C.Store.told c.serve.result.1) (IsBeside (chunks_of m) choices))
+    (machines-same mmr g.U.Update.form g.met.U.Kind.lengths) c.serve.ensures.beside

@@ -1,0 +1,45 @@
+//! Batches: begun and written.
+
+use crate::current::{Database, Inside};
+use crate::kind::Kind;
+use qm_base::{ByteKey, ByteValue, Location};
+use qm_index::{Factory, FourCap};
+use qm_merkle::mmr;
+use qm_offer::Batching;
+use qm_store::Store;
+use std::alloc::{AllocError, Global};
+
+impl<
+    C: Store + Drop,
+    I: Factory<Value = Location<mmr::Family>, Translator = FourCap> + Drop,
+    U: Kind<I, Key = ByteKey, Value = ByteValue>,
+> Batching<C> for Database<C, I, U> {
+    fn batch(&self, alloc: Global) -> Result<Self::Batch, AllocError> {
+        <Inside<C, I, U> as Batching<C>>::batch(&self.db, alloc)
+    }
+
+    fn child(
+        alloc: Global,
+        batch: &Self::Merkleized,
+        keep: Option<u64>,
+    ) -> Result<Self::Batch, AllocError> {
+        <Inside<C, I, U> as Batching<C>>::child(alloc, batch, keep)
+    }
+
+    fn tip(&self, alloc: Global) -> Result<Self::Merkleized, AllocError> {
+        <Inside<C, I, U> as Batching<C>>::tip(&self.db, alloc)
+    }
+
+    fn put(
+        alloc: Global,
+        batch: Self::Batch,
+        key: ByteKey,
+        value: ByteValue,
+    ) -> Result<Self::Batch, AllocError> {
+        <Inside<C, I, U> as Batching<C>>::put(alloc, batch, key, value)
+    }
+
+    fn del(alloc: Global, batch: Self::Batch, key: ByteKey) -> Result<Self::Batch, AllocError> {
+        <Inside<C, I, U> as Batching<C>>::del(alloc, batch, key)
+    }
+}
