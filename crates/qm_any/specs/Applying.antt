@@ -3,7 +3,7 @@ use Rattle.std.specs.Prelude.{◌≡◌, ◌⊎◌, ◌≤◌, Bool, true, false
 use Rattle.qm_model.specs.Causes.{IsCause}
 use Rattle.qm_model.specs.Forms.{Form, spelling}
 use Rattle.qm_model.specs.Operations.{Bytes, Operation}
-use Rattle.qm_model.specs.StoreModel.{beside_items}
+use Rattle.qm_model.specs.StoreModel.{except_items}
 use Rattle.qm_base.specs.declared.error.Error.TheVariants.{Memory, StaleBatch, Journal}
 use Rattle.qm_base.specs.declared.error.JournalError.TheVariants as journal
 use Rattle.qm_chain.specs.Bounds.{is_at}
@@ -29,7 +29,7 @@ module _ {C : Type 0} (members : store.Ghosts C) where
   -- appends left the rest of a store: where it starts, and what it has beside its items; its count of faults did not fall
   pub record KeepsRest (old new : C) : Type 0 where
     pub start : members.start new ≡ members.start old
-    pub others : beside_items (members.told new) ≡ beside_items (members.told old)
+    pub others : except_items (members.told new) ≡ except_items (members.told old)
     pub later : members.faults old ≤ members.faults new
 
   module _ {D : Type 0} (old : Database C D) (batch : Made D) where

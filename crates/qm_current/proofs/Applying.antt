@@ -4,7 +4,7 @@ use Rattle.std.specs.Prelude.{Contains, Result, Ok, Err, IfOk, IfErr, OnOk, if�
 use Rattle.std.specs.Option.{option_map_or}
 use Rattle.qm_model.specs.Operations.{Bytes, Operation}
 use Rattle.qm_model.specs.Opening.{count_in}
-use Rattle.qm_model.specs.StoreModel.{Stored, beside_items, metadata_in}
+use Rattle.qm_model.specs.StoreModel.{Stored, except_items, metadata_in}
 use Rattle.qm_model.specs.Forms.{Form}
 use Rattle.qm_model.specs.Batches.{Commitment, Chain, IsOnChain}
 use Rattle.qm_model.proofs.Chains.{Contains-more}
@@ -32,7 +32,7 @@ on-ok (Ok x) p = p
 on-ok (Err e) p = tt
 
 -- metadata counts what it counted where it is what it was
-pub counted-beside : (o new : Option Stored) (name after : Bytes) (count now : ℕ) → beside_items new ≡ beside_items o → after ≡ name → now ≡ count → IfSome o (λ s. count_in (metadata_in s.metadata name) ≡ count)
+pub counted-beside : (o new : Option Stored) (name after : Bytes) (count now : ℕ) → except_items new ≡ except_items o → after ≡ name → now ≡ count → IfSome o (λ s. count_in (metadata_in s.metadata name) ≡ count)
     → IfSome new (λ s. count_in (metadata_in s.metadata after) ≡ now)
 counted-beside None None name after count now same named is counted = tt
 counted-beside (Some s) None name after count now same named is counted = tt

@@ -3,7 +3,7 @@ use Rattle.std.proofs.Common.{◌≡◌, ◌≢◌, inl, [], List, ℕ, Option, 
 use Rattle.qm_model.specs.Operations.{Bytes}
 use Rattle.qm_model.specs.Opening.{Chunks}
 use Rattle.qm_model.specs.Schemes.{chunks_of}
-use Rattle.qm_model.specs.StoreModel.{Stored, Turns, beside_items, without_items}
+use Rattle.qm_model.specs.StoreModel.{Stored, Turns, except_items, without_items}
 use Rattle.qm_machine.specs.Lines.{Line, Answer}
 use Rattle.qm_machine.specs.Machine.{State}
 use Rattle.qm_store.specs.declared.Store as stores
@@ -14,7 +14,7 @@ use Rattle.qm_engine.specs.declared.session.Session.{Session}
 use Rattle.qm_engine.specs.declared.table.Slot.{Slot}
 use Rattle.qm_engine.specs.declared.session.Turn.{Turn}
 use Rattle.qm_engine.specs.declared.session.Turn.TheVariants.{Reply, Memory, StoreFault}
-use Rattle.qm_engine.specs.Stores.{IsBeside}
+use Rattle.qm_engine.specs.Stores.{HasEnds}
 use Rattle.qm_engine.specs.Session.{Obeys, ObeysSteady, ObeysHeldSteady, LeavesHeldSteady, IfReply, Uses, Handles, HandlesLine, IsChosen, Performs, PerformsHeld}
 use Rattle.qm_engine.proofs.Commands.{left_none, stored-same}
 use Rattle.qm_engine.proofs.LastingStores.{stay-same}
@@ -25,7 +25,7 @@ pub obeys_steady : {X C B S M K V D : Type 0} (members : stores.Ghosts C) (means
 obeys_steady members means key value digest old new turn next obeys = λ s k sound more rest told choices. obeys s k
 
 -- and what stands beside the items
-pub beside-items : (chunks : Option Chunks) (o new : Option Stored) → beside_items new ≡ beside_items o → Turns o new (IsBeside chunks [])
+pub beside-items : (chunks : Option Chunks) (o new : Option Stored) → except_items new ≡ except_items o → Turns o new (HasEnds chunks [])
 beside-items chunks None None e = refl
 beside-items chunks None (Some t) e = absurd (cc)
 beside-items chunks (Some s) None e = absurd (cc)
@@ -79,7 +79,7 @@ module _ {X C B S M K V D P : Type 0} {members : stores.Ghosts C} {means : meani
       let same : store ≡ store_given means.inside old.held = ap (store_given means.inside) held in
       performs-reading chosen (obeys_steady members means key value digest old new turn next obeys)
       (record { start = ap members.start same; told = ap members.told same })
-      (record { start = ap members.start same; beside = ap (λ c. beside_items (members.told c)) same; later = omega (arith, ap members.faults same); fault = λ e. absurd (never e) })
+      (record { start = ap members.start same; beside = ap (λ c. except_items (members.told c)) same; later = omega (arith, ap members.faults same); fault = λ e. absurd (never e) })
       opened
 
   -- And one that leaves all as it is.

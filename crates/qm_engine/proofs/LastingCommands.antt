@@ -41,7 +41,7 @@ use Rattle.qm_engine.specs.declared.session.Turn.{Turn}
 use Rattle.qm_engine.specs.declared.session.Turn.TheVariants.{Reply, StoreFault}
 use Rattle.qm_engine.specs.Turn.{turn_of_error, turn_of_tree, given_after, turn_settled}
 use Rattle.qm_offer.specs.Words.{WritesOf, IsSettling, IsHeadOf, IsPruned, IsUnpruned, IsGivenUp}
-use Rattle.qm_engine.specs.Stores.{HasLog, IsBeside, IsLeft, moved, emptied}
+use Rattle.qm_engine.specs.Stores.{HasLog, HasEnds, IsLeft, moved, emptied}
 use Rattle.qm_model.specs.Taken.{head_at, StaysBeside, synced, after_prune, LeavesSync}
 use Rattle.qm_engine.specs.Session.{HeldIs, Holds, Handles, HandlesLine}
 use Rattle.qm_engine.proofs.LastingStores.{IsBare, became, turned-each, turns-same, turns-beside, stay-same, stays-beside, stored-settled, stored-synced, stored-after, has-become, has-emptied, has-restarted, before-start, may-before, left_imaged, left_restarted, left_destroyed, left_synced, left_pruned}
@@ -353,7 +353,7 @@ module _ {X C B S M K V D : Type 0} (members : stores.Ghosts C) (means : meaning
         (with_held members means x s.had s.database s (λ list. (lines.Done, record (machine.closed s) { log = no_log })) (λ next. IsLeft means.scheme (members.told failed.store) s.log (next.1).log) k.database
         (λ list is stands in_had. left_destroyed means.scheme peakless (members.told (means.inside x)) (members.told failed.store) s.log steady.counts k.store.told k.start k.within failed.left))
 
-  destroy-beside : (chunks : Option Chunks) (s t : Stored) → DestroyLeaves s t → IsBeside chunks [] s t
+  destroy-beside : (chunks : Option Chunks) (s t : Stored) → DestroyLeaves s t → HasEnds chunks [] s t
   destroy-beside chunks s t (inl r) = let same = imaged-beside s t r in record { metadata = inl (stay-same chunks s.metadata t.metadata same.0); ends = same.1 ∙ sym (append-nil s.ends) }
   destroy-beside chunks s t (inr r) =
       let i = r.left in
@@ -362,7 +362,7 @@ module _ {X C B S M K V D : Type 0} (members : stores.Ghosts C) (means : meaning
   pub destroyed_handles : (x : X) (c : C) → Becomes (members.told (means.inside x)) (members.told c) destroyed → members.faults (means.inside x) ≤ members.faults c
       → Handles {K = K} {V = V} {D = D} (chunks_of means.scheme) members (means.inside x) c (Reply replies.Done)
   destroyed_handles x c made later = record {
-    beside = became (members.told (means.inside x)) (members.told c) destroyed (IsBeside (chunks_of means.scheme) []) (λ s. record { metadata = inr (stay-same (chunks_of means.scheme) [] [] refl); ends = sym (append-nil s.ends) }) made;
+    beside = became (members.told (means.inside x)) (members.told c) destroyed (HasEnds (chunks_of means.scheme) []) (λ s. record { metadata = inr (stay-same (chunks_of means.scheme) [] [] refl); ends = sym (append-nil s.ends) }) made;
     later = later;
     fault = λ e. absurd (cc);
   }
@@ -372,7 +372,7 @@ module _ {X C B S M K V D : Type 0} (members : stores.Ghosts C) (means : meaning
   undestroyed_handles x refusal failed =
       subst (λ given. Handles {K = K} {V = V} {D = D} (chunks_of means.scheme) members (means.inside x) (store_given means.inside given) (turn_of_error refusal.error)) (sym failed.given)
       record {
-        beside = turned-each (members.told (means.inside x)) (members.told failed.store) DestroyLeaves (IsBeside (chunks_of means.scheme) []) (destroy-beside (chunks_of means.scheme)) failed.left;
+        beside = turned-each (members.told (means.inside x)) (members.told failed.store) DestroyLeaves (HasEnds (chunks_of means.scheme) []) (destroy-beside (chunks_of means.scheme)) failed.left;
         later = failed.cause.later;
         fault = λ e. failed.cause.failed (fault-told refusal.error e);
       }
@@ -381,7 +381,7 @@ module _ {X C B S M K V D : Type 0} (members : stores.Ghosts C) (means : meaning
   module _ (held : Given X C) (table : List (Slot B S M)) (opened : ℕ) (s : State) (k : Holds members means held table opened s) (steady : IsSteady means.scheme s) (c : C) (peakless : IsBare means.scheme) where
     -- the store chose the first of the ends to come
     pub crashed_turn : (more rest : List ℕ) → model.Turns (members.told (store_given means.inside held)) (members.told c) HasRestarted → members.start c ≡ members.start (store_given means.inside held)
-        → model.Turns (members.told (store_given means.inside held)) (members.told c) (IsBeside (chunks_of means.scheme) more) → s.choices ≡ more ++ rest → Goes (Reply replies.Done) (Store c) table opened (machine.crash s)
+        → model.Turns (members.told (store_given means.inside held)) (members.told c) (HasEnds (chunks_of means.scheme) more) → s.choices ≡ more ++ rest → Goes (Reply replies.Done) (Store c) table opened (machine.crash s)
     crashed_turn more rest made start told choices apart =
         let r = has-restarted means.scheme peakless (members.told (store_given means.inside held)) (members.told c) s.log more rest steady.counts k.store.told k.start k.within made told in
         let chosen : slice_index_or s.choices 0 0 ≡ r.0 = ap (λ xs. slice_index_or xs 0 0) (choices ∙ ap (λ xs. xs ++ rest) r.3) in
@@ -410,7 +410,7 @@ module _ {X C B S M K V D : Type 0} (members : stores.Ghosts C) (means : meaning
     pub uncrashed_left : model.Turns (members.told (store_given means.inside held)) (members.told c) (λ t. ReadsAs t.stable (IsImage t)) → IsLeft means.scheme (members.told c) s.log ((machine.crash s).1).log
     uncrashed_left made = left_imaged means.scheme peakless (members.told (store_given means.inside held)) (members.told c) s.log ((machine.crash s).1).log steady.counts k.store.told k.start k.within (at-end _ s.log k.within) made
 
-  restarted-beside : (chunks : Option Chunks) (o new : Option Stored) → model.Turns o new HasRestarted → (to : ℕ) × model.Turns o new (IsBeside chunks (to ∷ []))
+  restarted-beside : (chunks : Option Chunks) (o new : Option Stored) → model.Turns o new HasRestarted → (to : ℕ) × model.Turns o new (HasEnds chunks (to ∷ []))
   restarted-beside chunks None new is = (0, is)
   restarted-beside chunks (Some s) None is = absurd is
   restarted-beside chunks (Some s) (Some t) is = (is.to, record { metadata = inl (stay-same chunks s.metadata t.metadata (ap (λ x. x.metadata) is.same)); ends = ap (λ x. x.ends) is.same })

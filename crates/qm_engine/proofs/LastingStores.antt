@@ -27,7 +27,7 @@ use Rattle.qm_model.proofs.LastWrites.{bytes_same}
 use Rattle.qm_model.proofs.Metadata.{metadata-counted}
 use Rattle.qm_model.proofs.Openings.{empty-own, begins_take, begins_both, all_pass, not_when}
 use Rattle.qm_machine.specs.Machine as machine
-use Rattle.qm_engine.specs.Stores.{HasLog, IsBeside, least, MayBe, grown, cut, counted, moved, emptied, IsLeft}
+use Rattle.qm_engine.specs.Stores.{HasLog, HasEnds, least, MayBe, grown, cut, counted, moved, emptied, IsLeft}
 
 -- Options that turn into others.
 
@@ -61,10 +61,10 @@ stay-through : (chunks : Option Chunks) (a b c : List Named) → StayNamed chunk
 stay-through None a b c one two = two ∙ one
 stay-through (Some k) a b c one two = λ name other. two name other ∙ one name other
 
-pub beside-self : (chunks : Option Chunks) (s : Stored) → IsBeside chunks [] s s
+pub beside-self : (chunks : Option Chunks) (s : Stored) → HasEnds chunks [] s s
 beside-self chunks s = record { metadata = inl (stay-self chunks s.metadata); ends = sym (append-nil s.ends) }
 
-pub beside-through : (chunks : Option Chunks) (a b : List ℕ) (s t u : Stored) → IsBeside chunks a s t → IsBeside chunks b t u → IsBeside chunks (a ++ b) s u
+pub beside-through : (chunks : Option Chunks) (a b : List ℕ) (s t u : Stored) → HasEnds chunks a s t → HasEnds chunks b t u → HasEnds chunks (a ++ b) s u
 beside-through chunks a b s t u one two = record {
   metadata = elim two.metadata [
     | inl later ↦ elim one.metadata [
@@ -76,17 +76,17 @@ beside-through chunks a b s t u one two = record {
   ends = two.ends ∙ ap (λ xs. xs ++ b) one.ends ∙ append_assoc s.ends a b;
 }
 
-pub turns-self : (chunks : Option Chunks) (o : Option Stored) → Turns o o (IsBeside chunks [])
+pub turns-self : (chunks : Option Chunks) (o : Option Stored) → Turns o o (HasEnds chunks [])
 turns-self chunks None = refl
 turns-self chunks (Some s) = beside-self chunks s
 
-pub turns-same : (chunks : Option Chunks) (o new : Option Stored) → new ≡ o → Turns o new (IsBeside chunks [])
-turns-same chunks o new same = subst (λ p. Turns o p (IsBeside chunks [])) (sym same) (turns-self chunks o)
+pub turns-same : (chunks : Option Chunks) (o new : Option Stored) → new ≡ o → Turns o new (HasEnds chunks [])
+turns-same chunks o new same = subst (λ p. Turns o p (HasEnds chunks [])) (sym same) (turns-self chunks o)
 
-pub turns-through : (chunks : Option Chunks) (a b : List ℕ) (o p q : Option Stored) → Turns o p (IsBeside chunks a) → Turns p q (IsBeside chunks b) → Turns o q (IsBeside chunks (a ++ b))
+pub turns-through : (chunks : Option Chunks) (a b : List ℕ) (o p q : Option Stored) → Turns o p (HasEnds chunks a) → Turns p q (HasEnds chunks b) → Turns o q (HasEnds chunks (a ++ b))
 turns-through chunks a b None p q one two = by p one two
   where
-    by : (p : Option Stored) → p ≡ None → Turns p q (IsBeside chunks b) → q ≡ None
+    by : (p : Option Stored) → p ≡ None → Turns p q (HasEnds chunks b) → q ≡ None
     by None e two = two
     by (Some t) e two = absurd (cc)
 turns-through chunks a b (Some s) None q one two = absurd one
@@ -97,18 +97,18 @@ turns-through chunks a b (Some s) (Some t) (Some u) one two = beside-through chu
 cancelled : (xs a b : List ℕ) → xs ++ a ≡ xs ++ b → a ≡ b
 cancelled xs a b e = sym (drop-append_seam xs a) ∙ ap (drop (length xs)) e ∙ drop-append_seam xs b
 
-pub turns-told : (chunks : Option Chunks) (a b : List ℕ) (s : Stored) (new : Option Stored) → Turns (Some s) new (IsBeside chunks a) → Turns (Some s) new (IsBeside chunks b) → a ≡ b
+pub turns-told : (chunks : Option Chunks) (a b : List ℕ) (s : Stored) (new : Option Stored) → Turns (Some s) new (HasEnds chunks a) → Turns (Some s) new (HasEnds chunks b) → a ≡ b
 turns-told chunks a b s None one two = absurd one
 turns-told chunks a b s (Some t) one two = cancelled s.ends a b (sym one.ends ∙ two.ends)
 
 -- what is as beside the items, and only there
-pub turns-beside : (chunks : Option Chunks) (o new : Option Stored) (R : Stored → Stored → Type 0) → ((s t : Stored) → R s t → (t.metadata ≡ s.metadata) × (t.ends ≡ s.ends)) → Turns o new R → Turns o new (IsBeside chunks [])
+pub turns-beside : (chunks : Option Chunks) (o new : Option Stored) (R : Stored → Stored → Type 0) → ((s t : Stored) → R s t → (t.metadata ≡ s.metadata) × (t.ends ≡ s.ends)) → Turns o new R → Turns o new (HasEnds chunks [])
 turns-beside chunks o new R each is =
-    turned-each o new R (IsBeside chunks []) (λ s t r. let same = each s t r in record { metadata = inl (stay-same chunks s.metadata t.metadata same.0); ends = same.1 ∙ sym (append-nil s.ends) }) is
+    turned-each o new R (HasEnds chunks []) (λ s t r. let same = each s t r in record { metadata = inl (stay-same chunks s.metadata t.metadata same.0); ends = same.1 ∙ sym (append-nil s.ends) }) is
 
 -- the same of a call that may write the metadata that counts chunks
-pub stays-beside : (m : Scheme) (o new : Option Stored) → Turns o new (StaysBeside m) → Turns o new (IsBeside (chunks_of m) [])
-stays-beside m o new is = turned-each o new (StaysBeside m) (IsBeside (chunks_of m) []) (λ s t r. record { metadata = inl r.metadata; ends = r.ends ∙ sym (append-nil s.ends) }) is
+pub stays-beside : (m : Scheme) (o new : Option Stored) → Turns o new (StaysBeside m) → Turns o new (HasEnds (chunks_of m) [])
+stays-beside m o new is = turned-each o new (StaysBeside m) (HasEnds (chunks_of m) []) (λ s t r. record { metadata = inl r.metadata; ends = r.ends ∙ sym (append-nil s.ends) }) is
 
 -- Logs.
 
@@ -362,12 +362,12 @@ module _ (m : Scheme) (bare : IsBare m) where
   has-emptied told new log has made = has-become told new log no_log destroyed has made (λ s is. stored-empty s)
 
   -- where a restart chose this end
-  pub has-restarted : (told new : Option Stored) (log : Log) (more rest : List ℕ) → Counts m log → HasLog m told log → log.start ≤ log.stable → log.stable ≤ length log.list → Turns told new HasRestarted → Turns told new (IsBeside (chunks_of m) more)
+  pub has-restarted : (told new : Option Stored) (log : Log) (more rest : List ℕ) → Counts m log → HasLog m told log → log.start ≤ log.stable → log.stable ≤ length log.list → Turns told new HasRestarted → Turns told new (HasEnds (chunks_of m) more)
       → (to : ℕ) × (log.stable ≤ to) × (to ≤ length log.list) × (more ≡ to ∷ []) × HasLog m new (record log { list = take to log.list; stable = to })
   has-restarted told new log more rest counts has start within made told_more =
       let t = turned told new has.stored HasRestarted has.is made in
       let r = t.2 in
-      let ends = turned told new has.stored (IsBeside (chunks_of m) more) has.is told_more in
+      let ends = turned told new has.stored (HasEnds (chunks_of m) more) has.is told_more in
       let same : t.0 ≡ ends.0 = some-same (sym t.1 ∙ ends.1) in
       let low = r.may.stable in
       let high = r.may.within in

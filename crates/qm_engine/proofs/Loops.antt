@@ -33,7 +33,7 @@ use Rattle.qm_lines.specs.declared.reply.Reply as reply
 use Rattle.qm_engine.specs.declared.session.Turn.{Turn}
 use Rattle.qm_engine.specs.declared.session.Turn.TheVariants.{Reply}
 use Rattle.qm_engine.specs.Session.{HeldIs, SlotIs, Holds, Stands, IfReply, IsChosen}
-use Rattle.qm_engine.specs.Stores.{IsBeside}
+use Rattle.qm_engine.specs.Stores.{HasEnds}
 use Rattle.qm_engine.proofs.LastingStores.{beside-self, turns-told, turns-through}
 use Rattle.qm_engine.proofs.Owned.{counted-alike, own-of, none-left, owned}
 use Rattle.qm_engine.proofs.Followed.{turn-followed}
@@ -174,10 +174,10 @@ module _ {X C B S M : Type 0} (members : stores.Ghosts C) (means : meaning.Ghost
 
 -- The choices that a run's store made, by its parts.
 
-pub none-more : (chunks : Option Chunks) (o new : Option Stored) (stored : Stored) (more : List ℕ) → o ≡ Some stored → new ≡ o → Turns o new (IsBeside chunks more) → more ≡ []
+pub none-more : (chunks : Option Chunks) (o new : Option Stored) (stored : Stored) (more : List ℕ) → o ≡ Some stored → new ≡ o → Turns o new (HasEnds chunks more) → more ≡ []
 none-more chunks o new stored more is same told =
-    turns-told chunks more [] stored (Some stored) (subst (λ p. Turns (Some stored) p (IsBeside chunks more)) (same ∙ is) (subst (λ p. Turns p new (IsBeside chunks more)) is told)) (beside-self chunks stored)
+    turns-told chunks more [] stored (Some stored) (subst (λ p. Turns (Some stored) p (HasEnds chunks more)) (same ∙ is) (subst (λ p. Turns p new (HasEnds chunks more)) is told)) (beside-self chunks stored)
 
-pub more-parts : (chunks : Option Chunks) (o p q : Option Stored) (stored : Stored) (a b more : List ℕ) → o ≡ Some stored → Turns o p (IsBeside chunks a) → Turns p q (IsBeside chunks b) → Turns o q (IsBeside chunks more) → more ≡ a ++ b
+pub more-parts : (chunks : Option Chunks) (o p q : Option Stored) (stored : Stored) (a b more : List ℕ) → o ≡ Some stored → Turns o p (HasEnds chunks a) → Turns p q (HasEnds chunks b) → Turns o q (HasEnds chunks more) → more ≡ a ++ b
 more-parts chunks o p q stored a b more is one two told =
-    turns-told chunks more (a ++ b) stored q (subst (λ x. Turns x q (IsBeside chunks more)) is told) (subst (λ x. Turns x q (IsBeside chunks (a ++ b))) is (turns-through chunks a b o p q one two))
+    turns-told chunks more (a ++ b) stored q (subst (λ x. Turns x q (HasEnds chunks more)) is told) (subst (λ x. Turns x q (HasEnds chunks (a ++ b))) is (turns-through chunks a b o p q one two))

@@ -29,7 +29,7 @@ use Rattle.qm_engine.specs.declared.session.Session.{Session}
 use Rattle.qm_engine.specs.declared.session.Turn.{Turn}
 use Rattle.qm_engine.specs.declared.session.Turn.TheVariants.{Reply, Memory, StoreFault}
 use Rattle.qm_engine.specs.Session.{SlotIs, Holds, Stands, FollowsHeld, Uses}
-use Rattle.qm_engine.specs.Stores.{IsBeside}
+use Rattle.qm_engine.specs.Stores.{HasEnds}
 use Rattle.qm_engine.specs.Table.{writing_of, staged_of, merkleized_of}
 use Rattle.qm_engine.specs.Turn.{turn_of_error}
 use Rattle.qm_offer.specs.Words.{AtTip, CanRead, IsReadFailure, ReadsOnly}
@@ -96,7 +96,7 @@ module _ {X C B S M K V D : Type 0} (members : stores.Ghosts C) (means : meaning
   abbrev pub MovesSteady : (State → Answer × State) → List (Slot B S M) → Given X C → Turn K V D → Type 0
   MovesSteady next table new turn = record {
     machine : (s : State) → Stands members means old s → IsSteady means.scheme s
-        → (more rest : List ℕ) → Turns (members.told (store_given means.inside old.held)) (members.told (store_given means.inside new)) (IsBeside (chunks_of means.scheme) more) → s.choices ≡ more ++ rest
+        → (more rest : List ℕ) → Turns (members.told (store_given means.inside old.held)) (members.told (store_given means.inside new)) (HasEnds (chunks_of means.scheme) more) → s.choices ≡ more ++ rest
         → Goes table new turn (next s);
     store : IsUnchanged members (store_given means.inside old.held) (store_given means.inside new);
     uses : Uses members (store_given means.inside old.held) (store_given means.inside new) turn;

@@ -3,7 +3,7 @@ use Rattle.std.proofs.Common.{◌≡◌, ◌≢◌, ◌∙◌, ℕ, Bool, true, 
 use Rattle.std.specs.Prelude.{IsErrOf}
 use Rattle.qm_model.specs.Live.{value_of}
 use Rattle.qm_model.specs.Operations.{Bytes, Operation}
-use Rattle.qm_model.specs.StoreModel.{beside_items}
+use Rattle.qm_model.specs.StoreModel.{except_items}
 use Rattle.qm_model.specs.Refused as refusals
 use Rattle.qm_machine.specs.Lines.{Answer}
 use Rattle.qm_machine.specs.Lines as lines
@@ -44,7 +44,7 @@ module _ {X C B S M : Type 0} (members : stores.Ghosts C) (means : meaning.Ghost
   pub read-uses : {K V D : Type 0} (turn : Turn K V D) → (turn ≡ StoreFault → IsErrOf read (errors.Journal journal.Store)) → Uses members (store_given means.inside held) (means.inside after) turn
   read-uses turn why =
       subst (λ (h : Given X C). Uses members (store_given means.inside h) (means.inside after) turn) (sym is)
-      (record { start = reads.store.start; beside = ap beside_items reads.store.told; later = reads.faults.later; fault = λ e. reads.faults.failed (why e) })
+      (record { start = reads.store.start; beside = ap except_items reads.store.told; later = reads.faults.later; fault = λ e. reads.faults.failed (why e) })
 
 -- what a store has that only a database's was used, as that of what is held
 module _ {X C : Type 0} (members : stores.Ghosts C) (inside : X → C) {held : Given X C} {x : X} (is : held ≡ Database x) {now : C} where
@@ -168,7 +168,7 @@ module _ {X C B S M K V D : Type 0} (members : stores.Ghosts C) (means : meaning
     read_left next does = record {
       machine = does;
       store = unchanged-at members means.inside is reads.store;
-      uses = uses-at members means.inside is (record { start = reads.store.start; beside = ap beside_items reads.store.told; later = reads.faults.later; fault = reads.faults.failed });
+      uses = uses-at members means.inside is (record { start = reads.store.start; beside = ap except_items reads.store.told; later = reads.faults.later; fault = reads.faults.failed });
       opened = refl;
     }
 

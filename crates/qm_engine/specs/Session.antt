@@ -5,7 +5,7 @@ use Rattle.qm_model.specs.Live.{floor}
 use Rattle.qm_model.specs.Operations.{Bytes, Operation}
 use Rattle.qm_model.specs.Batches.{IsAmong, Apart}
 use Rattle.qm_machine.specs.Lines.{Line, Answer}
-use Rattle.qm_model.specs.StoreModel.{Turns, beside_items}
+use Rattle.qm_model.specs.StoreModel.{Turns, except_items}
 use Rattle.qm_machine.specs.Machine.{State, slot_at, choices_after}
 use Rattle.qm_machine.specs.Machine as machine
 use Rattle.qm_machine.specs.Sound.{IsSteady}
@@ -23,7 +23,7 @@ use Rattle.qm_engine.specs.declared.session.Turn.TheVariants.{Reply, Memory, Sto
 use Rattle.qm_store.specs.Given.{store_given, IsUnchanged}
 use Rattle.qm_model.specs.Opening.{Chunks}
 use Rattle.qm_model.specs.Schemes.{chunks_of}
-use Rattle.qm_engine.specs.Stores.{IsStored, IsBeside, IsLeft}
+use Rattle.qm_engine.specs.Stores.{IsStored, HasEnds, IsLeft}
 
 module _ {X C B S M : Type 0} (members : store.Ghosts C) (means : meaning.Ghosts X C B S M) where
   -- the database stands for the machine's list, one of those that the run has had, and is the instance of this number; without one
@@ -106,14 +106,14 @@ module _ {X C B S M : Type 0} (members : store.Ghosts C) (means : meaning.Ghosts
     abbrev pub ObeysHeldSteady : List (Slot B S M) → ℕ → Given X C → ℕ → Given X C → Turn K V D → (State → Answer × State) → Type 0
     ObeysHeldSteady table before old after new turn next =
         (s : State) → Holds members means old table before s → IsSteady means.scheme s
-        → (more rest : List ℕ) → Turns (members.told (store_given means.inside old)) (members.told (store_given means.inside new)) (IsBeside (chunks_of means.scheme) more) → s.choices ≡ more ++ rest
+        → (more rest : List ℕ) → Turns (members.told (store_given means.inside old)) (members.told (store_given means.inside new)) (HasEnds (chunks_of means.scheme) more) → s.choices ≡ more ++ rest
         → FollowsHeld table after new turn (next s)
 
     -- So does a session.
     abbrev pub ObeysSteady : Session X C B S M → Session X C B S M → Turn K V D → (State → Answer × State) → Type 0
     ObeysSteady old new turn next =
         (s : State) → Stands members means old s → IsSteady means.scheme s
-        → (more rest : List ℕ) → Turns (members.told (store_given means.inside old.held)) (members.told (store_given means.inside new.held)) (IsBeside (chunks_of means.scheme) more) → s.choices ≡ more ++ rest
+        → (more rest : List ℕ) → Turns (members.told (store_given means.inside old.held)) (members.told (store_given means.inside new.held)) (HasEnds (chunks_of means.scheme) more) → s.choices ≡ more ++ rest
         → Follows new turn (next s)
 
     -- The same of a command that leaves the session as it is.
@@ -124,7 +124,7 @@ module _ {X C B S M : Type 0} (members : store.Ghosts C) (means : meaning.Ghosts
 -- where a fault is told.
 pub record Uses {C K V D : Type 0} (members : store.Ghosts C) (old new : C) (turn : Turn K V D) : Type 0 where
   pub start : members.start new ≡ members.start old
-  pub beside : beside_items (members.told new) ≡ beside_items (members.told old)
+  pub beside : except_items (members.told new) ≡ except_items (members.told old)
   pub later : members.faults old ≤ members.faults new
   pub fault : turn ≡ StoreFault → Rose (members.faults old) (members.faults new)
 
@@ -138,7 +138,7 @@ pub record TurnReads {X C B S M K V D : Type 0} (members : store.Ghosts C) (mean
 -- A turn handles the store: it puts no metadata but that which counts these chunks, and no restart chooses an end; the count of faults has
 -- not fallen, and it rose where a fault is told.
 pub record Handles {C K V D : Type 0} (chunks : Option Chunks) (members : store.Ghosts C) (old new : C) (turn : Turn K V D) : Type 0 where
-  pub beside : Turns (members.told old) (members.told new) (IsBeside chunks [])
+  pub beside : Turns (members.told old) (members.told new) (HasEnds chunks [])
   pub later : members.faults old ≤ members.faults new
   pub fault : turn ≡ StoreFault → Rose (members.faults old) (members.faults new)
 
@@ -149,7 +149,7 @@ IsChosen line more = (rest : List ℕ) → choices_after line (more ++ rest) ≡
 -- A command's turn handles the store, and the ends that the command takes were chosen, where it has a reply.
 pub record HandlesLine {C K V D P : Type 0} (chunks : Option Chunks) (members : store.Ghosts C) (line : Line P) (old new : C) (turn : Turn K V D) : Type 0 where
   pub more : List ℕ
-  pub beside : Turns (members.told old) (members.told new) (IsBeside chunks more)
+  pub beside : Turns (members.told old) (members.told new) (HasEnds chunks more)
   pub chosen : IfReply turn (λ _. IsChosen line more)
   pub later : members.faults old ≤ members.faults new
   pub fault : turn ≡ StoreFault → Rose (members.faults old) (members.faults new)

@@ -22,7 +22,7 @@ pub record IsStored {C : Type 0} (members : store.Ghosts C) (m : Scheme) (c : C)
 
 -- what a store has beside items, head and stable length: calls put no metadata but that which counts these chunks, and a destroyed store
 -- has none; the ends that its restarts chose stay, and these are new
-pub record IsBeside (chunks : Option Chunks) (more : List ℕ) (old new : Stored) : Type 0 where
+pub record HasEnds (chunks : Option Chunks) (more : List ℕ) (old new : Stored) : Type 0 where
   pub metadata : StayNamed chunks old.metadata new.metadata ⊎ StayNamed chunks [] new.metadata
   pub ends : new.ends ≡ old.ends ++ more
 

@@ -10,7 +10,7 @@ ghost use Rattle.qm_machine.specs.Text.{reply_line};
 ghost use Rattle.qm_lines.specs.Views.{line_view, answer_view};
 ghost use Rattle.qm_store.specs.Given.{store_given};
 ghost use Rattle.qm_engine.specs.Session.{Stands, LeavesSteady, IsChosen};
-ghost use Rattle.qm_engine.specs.Stores.{IsBeside, IsLeft};
+ghost use Rattle.qm_engine.specs.Stores.{HasEnds, IsLeft};
 ghost use Rattle.qm_model.specs.Schemes.{engine_of, chunks_of};
 ghost use Rattle.qm_machine.specs.Sound.{IsSteady};
 ghost use Rattle.qm_model.specs.Own.{Log, IsOwn};
@@ -78,7 +78,7 @@ fn answer<X: Answering<C>, C: Store, P: Policy<X::Family, X::Key, X::Value> + Tw
     ensures machine { (s : machine.State) → Stands C.Store X.Meaning session s → IsSteady X.scheme s
         → (more rest : List ℕ)
         → Turns (C.told (store_given X.inside session.held))
-        (C.told (store_given X.inside result.0.held)) (IsBeside (chunks_of X.scheme) more)
+        (C.told (store_given X.inside result.0.held)) (HasEnds (chunks_of X.scheme) more)
         → s.choices ≡ more ++ rest
         → IfNone result.1
         (let next = machine.turn X.scheme P.rules s (line_view X.Key.bytes X.Value.bytes (λ p. p) command.now) in
@@ -89,9 +89,9 @@ fn answer<X: Answering<C>, C: Store, P: Policy<X::Family, X::Key, X::Value> + Tw
         P.rules s (line_view X.Key.bytes X.Value.bytes (λ p. p) command.now)) }
     ensures kept { OnSome result.1 (text.new.items ≡ text.old.items) }
     ensures cause { IfSome result.1 (λ e. (e ≢ Ending.Done) × (e ≢ Ending.BadLine)) }
-    ensures beside { (more : List ℕ)
+    ensures ends { (more : List ℕ)
         × Turns (C.told (store_given X.inside session.held))
-        (C.told (store_given X.inside result.0.held)) (IsBeside (chunks_of X.scheme) more)
+        (C.told (store_given X.inside result.0.held)) (HasEnds (chunks_of X.scheme) more)
         × IfNone result.1
         (IsChosen (line_view X.Key.bytes X.Value.bytes (λ p. p) command.now) more) }
     ensures later { C.faults (store_given X.inside session.held)
@@ -128,7 +128,7 @@ fn answer_line<X: Answering<C, Key = ByteKey, Value = ByteValue>, C: Store>(
     ensures machine { (s : machine.State) → Stands C.Store X.Meaning session s → IsSteady X.scheme s
         → (more rest : List ℕ)
         → Turns (C.told (store_given X.inside session.held))
-        (C.told (store_given X.inside result.0.held)) (IsBeside (chunks_of X.scheme) more)
+        (C.told (store_given X.inside result.0.held)) (HasEnds (chunks_of X.scheme) more)
         → s.choices ≡ more ++ rest
         → IfNone result.1 (IfSome (line_of line.now) (λ command.
         let next = machine.turn X.scheme policies s command in
@@ -146,9 +146,9 @@ fn answer_line<X: Answering<C, Key = ByteKey, Value = ByteValue>, C: Store>(
     ensures bad { result.1 ≡ Some Ending.BadLine → line_of line.now ≡ None }
     ensures fault_command { result.1 ≡ Some Ending.StoreFault → IsSome (line_of line.now) }
     ensures not_done { IfSome result.1 (λ e. e ≢ Ending.Done) }
-    ensures beside { (more : List ℕ)
+    ensures ends { (more : List ℕ)
         × Turns (C.told (store_given X.inside session.held))
-        (C.told (store_given X.inside result.0.held)) (IsBeside (chunks_of X.scheme) more)
+        (C.told (store_given X.inside result.0.held)) (HasEnds (chunks_of X.scheme) more)
         × IfNone result.1 (IfSome (line_of line.now) (λ command. IsChosen command more)) }
     ensures later { C.faults (store_given X.inside session.held)
         ≤ C.faults (store_given X.inside result.0.held) }
@@ -181,7 +181,7 @@ pub fn answer_lines<X: Answering<C, Key = ByteKey, Value = ByteValue>, C: Store,
 ) -> Answered<C>
     ensures machine { IfSome (C.told store) (λ stored.
         (log : Log) → IsOwn (engine_of X.scheme policies) log stored → (choices : List ℕ)
-        → Turns (C.told store) (C.told result.store) (IsBeside (chunks_of X.scheme) choices)
+        → Turns (C.told store) (C.told result.store) (HasEnds (chunks_of X.scheme) choices)
         → IsAnswered X.scheme policies log choices (commands_in input.now) result.answered
         result.text.items (C.told result.store)) }
     ensures done { result.ending ≡ Ending.Done
@@ -191,8 +191,8 @@ pub fn answer_lines<X: Answering<C, Key = ByteKey, Value = ByteValue>, C: Store,
         × (bad_in input.now ≡ Some (result.answered + 1)) }
     ensures short { result.ending ≡ Ending.StoreFault
         → result.answered < length (commands_in input.now) }
-    ensures beside { (choices : List ℕ)
-        × Turns (C.told store) (C.told result.store) (IsBeside (chunks_of X.scheme) choices) }
+    ensures ends { (choices : List ℕ)
+        × Turns (C.told store) (C.told result.store) (HasEnds (chunks_of X.scheme) choices) }
     ensures bound { result.answered ≤ length input.now }
     ensures later { C.faults store ≤ C.faults result.store }
     ensures fault { result.ending ≡ Ending.StoreFault

@@ -7,7 +7,7 @@ ghost use Rattle.qm_machine.specs.Machine as machine;
 ghost use Rattle.qm_lines.specs.Views.{line_view, answer_view};
 ghost use Rattle.qm_store.specs.Given.{store_given};
 ghost use Rattle.qm_engine.specs.Session.{Stands, LeavesSteady, IsChosen};
-ghost use Rattle.qm_engine.specs.Stores.{HasLog, IsBeside};
+ghost use Rattle.qm_engine.specs.Stores.{HasLog, HasEnds};
 ghost use Rattle.qm_model.specs.Schemes.{engine_of, chunks_of};
 ghost use Rattle.qm_machine.specs.Sound.{IsSteady};
 ghost use Rattle.qm_model.specs.Own.{Log, IsOwn};
@@ -67,7 +67,7 @@ fn step<X: Answering<C>, C: Store, P: Policy<X::Family, X::Key, X::Value> + Twin
     ensures machine { (s : machine.State) → Stands C.Store X.Meaning session s → IsSteady X.scheme s
         → (more rest : List ℕ)
         → Turns (C.told (store_given X.inside session.held))
-        (C.told (store_given X.inside result.0.held)) (IsBeside (chunks_of X.scheme) more)
+        (C.told (store_given X.inside result.0.held)) (HasEnds (chunks_of X.scheme) more)
         → s.choices ≡ more ++ rest
         → IfNone result.1
         (let next = machine.turn X.scheme P.rules s (line_view X.Key.bytes X.Value.bytes (λ p. p) command.now) in
@@ -81,9 +81,9 @@ fn step<X: Answering<C>, C: Store, P: Policy<X::Family, X::Key, X::Value> + Twin
     ensures grown { IfNone result.1 (length replies.new.items ≡ length replies.old.items + 1) }
     ensures kept { OnSome result.1 (replies.new.items ≡ replies.old.items) }
     ensures not_done { IfSome result.1 (λ e. e ≢ End.Done) }
-    ensures beside { (more : List ℕ)
+    ensures ends { (more : List ℕ)
         × Turns (C.told (store_given X.inside session.held))
-        (C.told (store_given X.inside result.0.held)) (IsBeside (chunks_of X.scheme) more)
+        (C.told (store_given X.inside result.0.held)) (HasEnds (chunks_of X.scheme) more)
         × IfNone result.1
         (IsChosen (line_view X.Key.bytes X.Value.bytes (λ p. p) command.now) more) }
     ensures later { C.faults (store_given X.inside session.held)
@@ -135,7 +135,7 @@ pub fn run<X: Answering<C>, C: Store, P: Policy<X::Family, X::Key, X::Value> + T
 ) -> Outcome<X, C>
     ensures machine { IfSome (C.told store) (λ stored.
         (log : Log) → IsOwn (engine_of X.scheme P.rules) log stored → (choices : List ℕ)
-        → Turns (C.told store) (C.told result.store) (IsBeside (chunks_of X.scheme) choices)
+        → Turns (C.told store) (C.told result.store) (HasEnds (chunks_of X.scheme) choices)
         → IsRun X.scheme P.rules log choices
         (map (line_view X.Key.bytes X.Value.bytes (λ p. p)) commands.now)
         (map (answer_view X.Key.bytes X.Value.bytes X.Digest.bytes) result.replies.items)
@@ -143,8 +143,8 @@ pub fn run<X: Answering<C>, C: Store, P: Policy<X::Family, X::Key, X::Value> + T
     ensures done { result.end ≡ End.Done → length result.replies.items ≡ length commands.now }
     ensures short { result.end ≡ End.StoreFault
         → length result.replies.items < length commands.now }
-    ensures beside { (choices : List ℕ)
-        × Turns (C.told store) (C.told result.store) (IsBeside (chunks_of X.scheme) choices) }
+    ensures ends { (choices : List ℕ)
+        × Turns (C.told store) (C.told result.store) (HasEnds (chunks_of X.scheme) choices) }
     ensures later { C.faults store ≤ C.faults result.store }
     ensures fault { result.end ≡ End.StoreFault → Rose (C.faults store) (C.faults result.store) }
 {

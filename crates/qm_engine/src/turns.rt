@@ -17,7 +17,7 @@ use crate::session::{Session, SessionOf, Turn};
 use crate::table::Slot;
 use batches::{apply, batch, child, merkleize, put, tip};
 use lasting::{close, commit, crash, destroy, open, prune, sync};
-use ordered::{Question, Side, ask, beside};
+use ordered::{Question, Side, ask, neighbour};
 use proofs::{batch_proof, pins, prove};
 use qm_base::Twin;
 use qm_chain::Policy;
@@ -170,8 +170,8 @@ pub fn read_turn<
     match command {
         ReadCommand::Get(key, from) => read_key::<X, C>(alloc, session, key, *from),
         ReadCommand::Many(keys, from) => read::<X, C>(alloc, session, keys, *from),
-        ReadCommand::Next(key, from) => beside::<X, C>(alloc, session, Side::Above, key, *from),
-        ReadCommand::Prev(key, from) => beside::<X, C>(alloc, session, Side::Below, key, *from),
+        ReadCommand::Next(key, from) => neighbour::<X, C>(alloc, session, Side::Above, key, *from),
+        ReadCommand::Prev(key, from) => neighbour::<X, C>(alloc, session, Side::Below, key, *from),
         ReadCommand::Span(key) => ask::<X, C>(alloc, session, Question::Span(key)),
         ReadCommand::All(key) => ask::<X, C>(alloc, session, Question::All(key)),
         ReadCommand::Range(low, high) => ask::<X, C>(alloc, session, Question::Range(low, high)),

@@ -198,5 +198,5 @@ abbrev pub without_items : Stored → Stored
 without_items s = record s { items = []; stable = 0; past = [] }
 
 -- what is told beside these: appends leave it as it is
-abbrev pub beside_items : Option Stored → Option Stored
-beside_items told = option_map without_items told
+abbrev pub except_items : Option Stored → Option Stored
+except_items told = option_map without_items told

@@ -6,7 +6,7 @@ use Rattle.qm_model.specs.Live.{floor}
 use Rattle.qm_model.specs.Operations.{Bytes, Operation}
 use Rattle.qm_model.specs.Opening.{found, opening_refusal}
 use Rattle.qm_model.specs.Walk.{Rules}
-use Rattle.qm_model.specs.StoreModel.{Stored, destroyed, beside_items, DestroyLeaves, Becomes, Turns}
+use Rattle.qm_model.specs.StoreModel.{Stored, destroyed, except_items, DestroyLeaves, Becomes, Turns}
 use Rattle.qm_model.specs.Writes.{Write}
 use Rattle.qm_model.specs.Step.{step}
 use Rattle.qm_model.specs.Held.{proof_lacked}
@@ -98,7 +98,7 @@ module _ {X C B S M : Type 0} (means : meaning.Ghosts X C B S M) where
         (if fits means.scheme.root (commitment means.scheme.root list) chain then map (spelling means.scheme.form) (drop (length list) tip) else [])))
     pub back : IfErr result (λ r. (x : X) → r.given ≡ Database x → x ≡ old)
     pub start : members.start (store_after means.inside result) ≡ members.start (means.inside old)
-    pub beside : beside_items (members.told (store_after means.inside result)) ≡ beside_items (members.told (means.inside old))
+    pub beside : except_items (members.told (store_after means.inside result)) ≡ except_items (members.told (means.inside old))
     pub cause : IfErr result (λ r. r.error ≡ Journal journal.Store → Rose (members.faults (means.inside old)) (members.faults (store_given means.inside r.given)))
     pub later : members.faults (means.inside old) ≤ members.faults (store_after means.inside result)
 

@@ -23,14 +23,14 @@ use Rattle.qm_store.specs.declared.Store as store
 use Rattle.qm_base.specs.declared.error.Error.{Error}
 use Rattle.qm_store.specs.Log.{Log}
 use Rattle.qm_open.specs.Opened.{IsOpened}
-use Rattle.qm_open.specs.Apart.{links_apart}
+use Rattle.qm_open.specs.Broken.{links_broken}
 
 abbrev pub three : Bool → Bool → Bool → Option Refused
 three matches lost apart = first_refusal (when (not matches) (DataCorrupted HeadDoesNotMatch) ∷ when lost (DataCorrupted ItemDoesNotDecode) ∷ when apart (DataCorrupted LinksFormNoRing) ∷ [])
 
 module _ (form : Form) (shape : Shape) (size : ℕ) (s : Stored) (start : ℕ) (from : s.start ≡ start) (at : opening.Selected) where
   abbrev apart : Bool
-  apart = links_apart form s at.floor at.size
+  apart = links_broken form s at.floor at.size
 
   abbrev content : Option Refused
   content = content_refusal (any_layout form shape size) (any_found form s) (Some at)

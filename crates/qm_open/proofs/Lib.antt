@@ -1,6 +1,6 @@
 pub mod Selecting
 pub mod Refusing
-pub mod Beside
+pub mod Rebuilt
 pub mod Checking
 pub mod Empty
 pub mod Heads

@@ -1,4 +1,4 @@
 pub mod Selecting
 pub mod Opened
-pub mod Apart
+pub mod Broken
 pub mod Unopened

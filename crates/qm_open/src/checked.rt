@@ -7,7 +7,7 @@ ghost use Rattle.qm_model.specs.Operations.{Operation};
 ghost use Rattle.qm_model.specs.Schemes.{any_scheme};
 ghost use Rattle.qm_model.specs.Taken.{HasList};
 ghost use Rattle.qm_build.specs.Reads.{items_within, KeepsLog, IsRebuildError};
-ghost use Rattle.qm_open.specs.Apart.{links_apart};
+ghost use Rattle.qm_open.specs.Broken.{links_broken};
 ghost use Rattle.qm_open.specs.Opened.{IsJudged, IsMadeOf, IsOpened};
 ghost use Rattle.qm_open.specs.Selecting.{refusal_at, selected_view};
 ghost use Rattle.qm_open.specs.Unopened.{IsUnfinished};
@@ -33,10 +33,10 @@ fn check_links<F: Family, C: Store, H: Hasher, U: Update>(
     requires kept { C.start log.old.store ≤ from }
     requires below { from ≤ log.old.tree.leaves }
     ensures ring { IfSome (C.told log.old.store) (λ s.
-        OnOk result (links_apart U.form s from log.old.tree.leaves ≡ false)) }
-    ensures apart { IfErr result (λ e. e ≡ Error.DataCorrupted Corrupt.LinksFormNoRing
+        OnOk result (links_broken U.form s from log.old.tree.leaves ≡ false)) }
+    ensures broken { IfErr result (λ e. e ≡ Error.DataCorrupted Corrupt.LinksFormNoRing
         → IfSome (C.told log.old.store) (λ s.
-        links_apart U.form s from log.old.tree.leaves ≡ true)) }
+        links_broken U.form s from log.old.tree.leaves ≡ true)) }
     ensures undecoded { IfErr result (λ e. e ≡ Error.DataCorrupted Corrupt.ItemDoesNotDecode
         → IfSome (C.told log.old.store) (λ s.
         list_any is_none (items_within U.form s from log.old.tree.leaves) ≡ true)) }

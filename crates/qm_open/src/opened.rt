@@ -11,7 +11,7 @@ ghost use Rattle.qm_open.specs.Opened.{HasLongHead, IsMadeOf, IsOpened, IsUnread
 
 use crate::config::Config;
 use crate::fresh::store_of;
-use crate::parts::{Held, beside};
+use crate::parts::{Held, rebuilt};
 use crate::select::Selected;
 use qm_base::{Digest, Hasher, Location};
 use qm_bits::{Chunks, Prunable};
@@ -78,7 +78,7 @@ pub(crate) fn open_at<
         Ok(log) => {
             let mut log = log;
             let mut index = I::new(alloc, translator);
-            match beside::<N, F, C, I, H, U>(
+            match rebuilt::<N, F, C, I, H, U>(
                 alloc,
                 &mut index,
                 &mut log,

@@ -70,7 +70,7 @@ pub(crate) struct Held<N: Chunks, D, V> {
 
 /// What a log's list has beside it, of which the index was empty, rebuilt from its floor on. The first `chunks` chunks of
 /// its bits are pruned. It reads the items from the floor on once, and the last of them once more.
-pub(crate) fn beside<
+pub(crate) fn rebuilt<
     N: Chunks,
     F: Family,
     C: Store,

@@ -12,7 +12,7 @@ use Rattle.qm_machine.specs.Machine.{State, initial, answers}
 use Rattle.qm_model.specs.Schemes.{Scheme, chunks_of, engine_of}
 use Rattle.qm_machine.specs.Grammar.{commands_in, bad_in}
 use Rattle.qm_machine.specs.Text.{text_of}
-use Rattle.qm_engine.specs.Stores.{IsBeside}
+use Rattle.qm_engine.specs.Stores.{HasEnds}
 use Rattle.qm_engine.specs.Runs.{after, IsOwnStore, IsOwnLeft}
 use Rattle.qm_run.specs.declared.kind.Named.{Named}
 use Rattle.qm_run.specs.Schemes.{current, form_of, scheme}
@@ -122,4 +122,4 @@ module _ (m : Scheme) (log : Log) (choices : List ℕ) (input : Bytes) where
 abbrev pub Says : Scheme → Stored → Bytes → ℕ → Type 0 → Bytes → Option Stored → Type 0
 Says m stored input status rose written left =
     (log : Log) → IsOwn (engine_of m policies) log stored
-    → (choices : List ℕ) → Turns (Some stored) left (IsBeside (chunks_of m) choices) → SaysOver m log choices input status rose written left
+    → (choices : List ℕ) → Turns (Some stored) left (HasEnds (chunks_of m) choices) → SaysOver m log choices input status rose written left

@@ -8,7 +8,7 @@ ghost use Rattle.qm_model.specs.Schemes.{chunks_of, engine_of};
 ghost use Rattle.qm_model.specs.StoreModel.{Turns};
 ghost use Rattle.qm_lines.specs.Views.{answer_view, line_view};
 ghost use Rattle.qm_engine.specs.Runs.{IsRun};
-ghost use Rattle.qm_engine.specs.Stores.{IsBeside};
+ghost use Rattle.qm_engine.specs.Stores.{HasEnds};
 ghost use Rattle.qm_run.specs.Program.{machine_at};
 ghost use Rattle.qm_run.specs.Schemes.{scheme};
 
@@ -43,7 +43,7 @@ fn run_any<
     ensures machine { IfSome (C.told store) (λ stored. (log : Log)
         → IsOwn (engine_of (scheme trees.mmr U.form) P.rules) log stored → (choices : List ℕ)
         → Turns (C.told store) (C.told result.store)
-        (IsBeside (chunks_of (scheme trees.mmr U.form)) choices)
+        (HasEnds (chunks_of (scheme trees.mmr U.form)) choices)
         → IsRun (scheme trees.mmr U.form) P.rules log choices
         (map (line_view ⟦<ByteKey as ByteString>⟧.bytes ⟦<ByteValue as ByteString>⟧.bytes
         (λ p. p)) commands.now)
@@ -79,7 +79,7 @@ pub fn run_commands<C: Store + Drop, P: Policy<mmr::Family, ByteKey, ByteValue> 
     ensures machine { IfSome (C.told store) (λ stored. (log : Log)
         → IsOwn (engine_of (machine_at false false) P.rules) log stored → (choices : List ℕ)
         → Turns (C.told store) (C.told result.store)
-        (IsBeside (chunks_of (machine_at false false)) choices)
+        (HasEnds (chunks_of (machine_at false false)) choices)
         → IsRun (machine_at false false) P.rules log choices
         (map (line_view ⟦<ByteKey as ByteString>⟧.bytes ⟦<ByteValue as ByteString>⟧.bytes
         (λ p. p)) commands.now)

@@ -7,7 +7,7 @@ ghost use Rattle.qm_model.specs.Causes.{Rose};
 ghost use Rattle.qm_model.specs.Operations.{Bytes};
 ghost use Rattle.qm_machine.specs.Grammar.{bad_in};
 ghost use Rattle.qm_model.specs.StoreModel.{Turns};
-ghost use Rattle.qm_engine.specs.Stores.{IsBeside};
+ghost use Rattle.qm_engine.specs.Stores.{HasEnds};
 ghost use Rattle.qm_model.specs.Mmr as trees;
 ghost use Rattle.qm_model.specs.Schemes.{chunks_of};
 ghost use Rattle.qm_run.specs.Schemes.{current, scheme};
@@ -163,8 +163,8 @@ fn serve<
         (λ before. (written : Bytes) × (K.text sink.new ≡ Some (before ++ written))
         × Says X.scheme stored input.now result.0
         (Rose (C.faults store) (C.faults result.1)) written (C.told result.1))) }
-    ensures beside { (choices : List ℕ)
-        × Turns (C.told store) (C.told result.1) (IsBeside (chunks_of X.scheme) choices) }
+    ensures ends { (choices : List ℕ)
+        × Turns (C.told store) (C.told result.1) (HasEnds (chunks_of X.scheme) choices) }
     ensures write { result.0 ≡ 4 → Rose (K.faults sink.old) (K.faults sink.new) }
     ensures store { result.0 ≡ 6 → Rose (C.faults store) (C.faults result.1) }
     ensures codes { (result.0 ≡ 0)
@@ -202,9 +202,9 @@ fn serve_any<
         (λ before. (written : Bytes) × (K.text sink.new ≡ Some (before ++ written))
         × Says (scheme trees.mmr U.form) stored input.now result.0
         (Rose (C.faults store) (C.faults result.1)) written (C.told result.1))) }
-    ensures beside { (choices : List ℕ)
+    ensures ends { (choices : List ℕ)
         × Turns (C.told store) (C.told result.1)
-        (IsBeside (chunks_of (scheme trees.mmr U.form)) choices) }
+        (HasEnds (chunks_of (scheme trees.mmr U.form)) choices) }
     ensures write { result.0 ≡ 4 → Rose (K.faults sink.old) (K.faults sink.new) }
     ensures store { result.0 ≡ 6 → Rose (C.faults store) (C.faults result.1) }
     ensures codes { (result.0 ≡ 0)
@@ -228,9 +228,9 @@ fn serve_current<
         (λ before. (written : Bytes) × (K.text sink.new ≡ Some (before ++ written))
         × Says (current trees.mmr U.form) stored input.now result.0
         (Rose (C.faults store) (C.faults result.1)) written (C.told result.1))) }
-    ensures beside { (choices : List ℕ)
+    ensures ends { (choices : List ℕ)
         × Turns (C.told store) (C.told result.1)
-        (IsBeside (chunks_of (current trees.mmr U.form)) choices) }
+        (HasEnds (chunks_of (current trees.mmr U.form)) choices) }
     ensures write { result.0 ≡ 4 → Rose (K.faults sink.old) (K.faults sink.new) }
     ensures store { result.0 ≡ 6 → Rose (C.faults store) (C.faults result.1) }
     ensures codes { (result.0 ≡ 0)
@@ -255,8 +255,8 @@ fn run<C: Store + Drop, K: Sink, G: Gate>(
         (λ before. (written : Bytes) × (K.text sink.new ≡ Some (before ++ written))
         × Says (machine_of named) stored input.now result.0
         (Rose (C.faults store) (C.faults result.1)) written (C.told result.1))) }
-    ensures beside { (choices : List ℕ)
-        × Turns (C.told store) (C.told result.1) (IsBeside (chunks_of (machine_of named)) choices) }
+    ensures ends { (choices : List ℕ)
+        × Turns (C.told store) (C.told result.1) (HasEnds (chunks_of (machine_of named)) choices) }
     ensures write { result.0 ≡ 4 → Rose (K.faults sink.old) (K.faults sink.new) }
     ensures store { result.0 ≡ 6 → Rose (C.faults store) (C.faults result.1) }
     ensures codes { (result.0 ≡ 0)
@@ -302,9 +302,9 @@ pub fn qmdb_main<C: Store + Drop, S: Source, K: Sink, G: Gate>(
     ensures untouched { (result.0 ≡ 1) ⊎ ((result.0 ≡ 3) ⊎ (result.0 ≡ 7))
         → (result.1 ≡ store) × (sink.new ≡ sink.old) }
     ensures unread { result.0 ≡ 1 → source.new ≡ source.old }
-    ensures beside { (choices : List ℕ)
+    ensures ends { (choices : List ℕ)
         × Turns (C.told store) (C.told result.1)
-        (IsBeside (chunks_named (map string_bytes words.now)) choices) }
+        (HasEnds (chunks_named (map string_bytes words.now)) choices) }
 
     // When each status comes.
     ensures usage { (result.0 ≡ 1) ↔ (are_words (map string_bytes words.now) ≡ false) }

@@ -8,7 +8,7 @@ use Rattle.qm_roots.specs.Canonical.{Canonical, IsCanonical}
 
 -- their numbers agree: the canonical root is that of as many operations as there are, and the grafted tree forgot the chunks whose
 -- bits are pruned
-pub record IsBeside {C D : Type 0} (db : anys.Database C D) (own : Canonical D) : Type 0 where
+pub record HasEnds {C D : Type 0} (db : anys.Database C D) (own : Canonical D) : Type 0 where
   pub size_is : own.size ≡ db.commitment.size
   pub forgotten : own.tree.start ≡ db.activity.pruned
 

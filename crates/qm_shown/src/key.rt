@@ -4,7 +4,7 @@ ghost use Rattle.std.specs.Prelude.{◌≡◌, ◌≤◌, ◌<◌, ◌*◌, ◌^
 ghost use Rattle.qm_model.specs.RangeProofs as range_proofs;
 ghost use Rattle.qm_graft.specs.Grafting.{grafting};
 ghost use Rattle.qm_keyproofs.specs.Views.{operation_view};
-ghost use Rattle.qm_shown.specs.Beside.{AtBoth, IsBeside};
+ghost use Rattle.qm_shown.specs.Beside.{AtBoth, HasEnds};
 ghost use Rattle.qm_shown.specs.Refusals.{from_refusal, IsDue};
 
 use crate::error::ProofError;
@@ -37,7 +37,7 @@ pub fn proof_at<
     own: &Canonical<F, N, H::Digest>,
     at: Location<F>,
 ) -> Result<OperationProof<F, N, H::Digest>, ProofError>
-    requires { IsBeside {C = C} {D = H.Digest} db.now own.now }
+    requires { HasEnds {C = C} {D = H.Digest} db.now own.now }
     ensures loc { IfOk result (λ p. p.loc ≡ at) }
     ensures proof { AtBoth C.Store ⟦<Db<F, C, I, H, U, N> as LaidOut>⟧.layout db.now own.now
         (λ list. IfOk result (λ p. operation_view H.Digest.bytes p

@@ -3,7 +3,7 @@
 ghost use Rattle.std.specs.Prelude.{◌≡◌};
 ghost use Rattle.qm_graft.specs.Grafting.{AreGrafted};
 ghost use Rattle.qm_makers.specs.Lists.{AreOf};
-ghost use Rattle.qm_shown.specs.Beside.{AtBoth, IsBeside};
+ghost use Rattle.qm_shown.specs.Beside.{AtBoth, HasEnds};
 
 use qm_any::db::{Db, LaidOut};
 use qm_base::{Digest, Hasher, Location};
@@ -29,7 +29,7 @@ pub(crate) fn parts<
     own: &'a Canonical<F, N, H::Digest>,
     ops_root: &'a H::Digest,
 ) -> Parts<'a, F, N, H::Digest>
-    requires beside { IsBeside {C = C} {D = H.Digest} db.now own.now }
+    requires beside { HasEnds {C = C} {D = H.Digest} db.now own.now }
     requires root { H.Digest.bytes ops_root.now ≡ db.now.commitment.root }
     ensures grafted { AreGrafted F.shape N.LEN result.operations.now result.grafted.now
         result.bits.now }

@@ -9,7 +9,7 @@ ghost use Rattle.qm_graft.specs.Grafting.{grafting};
 ghost use Rattle.qm_keyproofs.specs.Views.{chunk_views, range_view};
 ghost use Rattle.qm_operations.specs.Views.{operation_views};
 ghost use Rattle.qm_any.specs.Databases.{IsLeft};
-ghost use Rattle.qm_shown.specs.Beside.{AtBoth, IsBeside};
+ghost use Rattle.qm_shown.specs.Beside.{AtBoth, HasEnds};
 ghost use Rattle.qm_shown.specs.Refusals.{from_refusal, IsDue};
 
 use crate::error::ProofError;
@@ -47,7 +47,7 @@ pub fn range_proof<
     start: Location<F>,
     max: NonZeroU64,
 ) -> Result<ShownRange<F, N, H::Digest, U>, ProofError>
-    requires { IsBeside {C = C} {D = H.Digest} db.old own.now }
+    requires { HasEnds {C = C} {D = H.Digest} db.old own.now }
     ensures offered { AtBoth C.Store ⟦<Db<F, C, I, H, U, N> as LaidOut>⟧.layout db.old own.now
         (λ list. OnOk result (from_refusal C.Store N.LEN db.old list start ≡ None)) }
     ensures proof { AtBoth C.Store ⟦<Db<F, C, I, H, U, N> as LaidOut>⟧.layout db.old own.now
@@ -109,7 +109,7 @@ fn proof_between<
     start: Location<F>,
     end: Location<F>,
 ) -> Result<(RangeProof<H::Digest>, Vec<ChunkBytes<N>>), MerkleError>
-    requires beside { IsBeside {C = C} {D = H.Digest} db.now own.now }
+    requires beside { HasEnds {C = C} {D = H.Digest} db.now own.now }
     requires order { start < end }
     requires within { end ≤ db.now.commitment.size }
     requires kept { C.start db.now.log.store ≤ start }

@@ -4,7 +4,7 @@ ghost use Rattle.std.specs.Prelude.{◌≡◌, IfOk};
 ghost use Rattle.qm_model.specs.RangeProofs as range_proofs;
 ghost use Rattle.qm_graft.specs.Grafting.{grafting};
 ghost use Rattle.qm_keyproofs.specs.Views.{witness_view};
-ghost use Rattle.qm_shown.specs.Beside.{AtBoth, IsBeside};
+ghost use Rattle.qm_shown.specs.Beside.{AtBoth, HasEnds};
 
 use crate::parts::parts;
 use qm_any::db::{Db, LaidOut};
@@ -32,7 +32,7 @@ pub fn ops_root_witness<
     db: &Db<F, C, I, H, U, N>,
     own: &Canonical<F, N, H::Digest>,
 ) -> Result<OpsRootWitness<H::Digest>, AllocError>
-    requires { IsBeside {C = C} {D = H.Digest} db.now own.now }
+    requires { HasEnds {C = C} {D = H.Digest} db.now own.now }
     ensures { AtBoth C.Store ⟦<Db<F, C, I, H, U, N> as LaidOut>⟧.layout db.now own.now (λ list.
         IfOk result (λ w. witness_view H.Digest.bytes w
         ≡ range_proofs.witness H.hash F.shape (grafting N.LEN) U.form list)) }

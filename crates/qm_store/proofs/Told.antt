@@ -2,7 +2,7 @@
 use Rattle.std.proofs.Common.{◌≡◌, ◌≤◌, List, [], ◌∷◌, ◌++◌, take, length, ap, sym, subst, append-nil, length-append, arith, refl, Option, Some, None}
 use Rattle.std.proofs.Math.Seq.{take-length}
 use Rattle.qm_model.specs.Operations.{Bytes}
-use Rattle.qm_model.specs.StoreModel.{Stored, end_of, rest_of, found_by, appended, IsImage, HasAppended, Becomes, Fails, Grows, without_items, beside_items}
+use Rattle.qm_model.specs.StoreModel.{Stored, end_of, rest_of, found_by, appended, IsImage, HasAppended, Becomes, Fails, Grows, without_items, except_items}
 use Rattle.qm_model.proofs.Stores.{fails-unmoved, found-image, image-grown}
 use Rattle.qm_base.specs.declared.error.Error.{Error}
 use Rattle.qm_store.specs.declared.Store as store
@@ -12,13 +12,13 @@ use Rattle.qm_store.specs.Log.{Log, IsKept, HasGrown, HasGrownPart, IsRefused, s
 use Rattle.qm_store.specs.Given.{Appended, AppendedPart, IsUnchanged}
 
 -- what appends leave as it is
-beside-grown : (old new : Option Stored) (more : List Bytes) → Becomes old new (appended more) → beside_items new ≡ beside_items old
-beside-grown None new more is = ap beside_items is
+beside-grown : (old new : Option Stored) (more : List Bytes) → Becomes old new (appended more) → except_items new ≡ except_items old
+beside-grown None new more is = ap except_items is
 beside-grown (Some s) None more is = absurd is
 beside-grown (Some s) (Some t) more is = ap (λ x. Some (without_items x)) is
 
-beside-part : (old new : Option Stored) (more : List Bytes) → Grows old new more → beside_items new ≡ beside_items old
-beside-part None new more is = ap beside_items is
+beside-part : (old new : Option Stored) (more : List Bytes) → Grows old new more → except_items new ≡ except_items old
+beside-part None new more is = ap except_items is
 beside-part (Some s) None more is = absurd is
 beside-part (Some s) (Some t) more is = ap (λ x. Some (without_items x)) is.now.reads
 
@@ -64,10 +64,10 @@ module _ {C : Type 0} (members : store.Ghosts C) (old new : C) where
   unchanged-appended-part more is = record { start = is.start; told = subst (λ o. Grows (members.told old) o more) (sym is.told) (part-none (members.told old) more) }
 
   -- what a store tells beside its items stays where these grow
-  pub appended-beside : (more : List Bytes) → Appended members old new more → beside_items (members.told new) ≡ beside_items (members.told old)
+  pub appended-beside : (more : List Bytes) → Appended members old new more → except_items (members.told new) ≡ except_items (members.told old)
   appended-beside more is = beside-grown (members.told old) (members.told new) more is.told
 
-  pub part-beside : (more : List Bytes) → AppendedPart members old new more → beside_items (members.told new) ≡ beside_items (members.told old)
+  pub part-beside : (more : List Bytes) → AppendedPart members old new more → except_items (members.told new) ≡ except_items (members.told old)
   part-beside more is = beside-part (members.told old) (members.told new) more is.told
 
 -- a log that refused these gives back a store with a first part of them

@@ -106,7 +106,7 @@ pub fn ask<X: Neighbours<C>, C: Store>(
 }
 
 // The nearest live key on a side of this one, on the list that a merkleized batch makes.
-fn beside_from<X: Neighbours<C>, C: Store>(
+fn neighbour_from<X: Neighbours<C>, C: Store>(
     alloc: Global,
     database: &mut X,
     batch: &X::Merkleized,
@@ -131,7 +131,7 @@ fn beside_from<X: Neighbours<C>, C: Store>(
 }
 
 /// The nearest live key on a side of this one, through a merkleized batch where its number is given.
-pub fn beside<X: Neighbours<C>, C: Store>(
+pub fn neighbour<X: Neighbours<C>, C: Store>(
     alloc: Global,
     session: &mut SessionOf<X, C>,
     side: Side,
@@ -159,7 +159,7 @@ pub fn beside<X: Neighbours<C>, C: Store>(
     let Some(batch) = merkleized_at(&session.table, number) else {
         return no_such_handle(number);
     };
-    match beside_from::<X, C>(alloc, x, batch, side, key) {
+    match neighbour_from::<X, C>(alloc, x, batch, side, key) {
         Ok(key) => Turn::Reply(Reply::Beside(key)),
         Err(error) => turn_of(error),
     }

@@ -30,7 +30,7 @@ returns-in-Err g c =
       bad = λ e. absurd (memory-not_bad e);
       fault_command = λ e. absurd (memory-no_fault e);
       not_done = memory_cause.0;
-      beside = ([], turns-self (chunks_of g.X.Meaning.scheme) told, tt);
+      ends = ([], turns-self (chunks_of g.X.Meaning.scheme) told, tt);
       later = le_refl _;
       fault = λ e. absurd (memory-no_fault e);
       opened = one_at_most c.args.session.opened;
@@ -48,7 +48,7 @@ returns-in-Ok-None g c =
       bad = λ e. sym (rw c.in-Ok-None.field-0-is at c.in-Ok-None.ensures);
       fault_command = λ e. absurd (bad-no_fault e);
       not_done = bad-not_done;
-      beside = ([], turns-self (chunks_of g.X.Meaning.scheme) told, tt);
+      ends = ([], turns-self (chunks_of g.X.Meaning.scheme) told, tt);
       later = le_refl _;
       fault = λ e. absurd (bad-no_fault e);
       opened = one_at_most c.args.session.opened;
@@ -57,7 +57,7 @@ returns-in-Ok-None g c =
 pub returns-in-Ok-Some : goal.returns-in-Ok-Some
 returns-in-Ok-Some g c =
     let line : Some (byte_line c.in-Ok-Some.command) ≡ line_of c.args.line.now = line_is c.in-Ok-Some.field-0-is c.in-Ok-Some.ensures in
-    let beside = c.answer-answered.ensures.beside in
+    let ends = c.answer-answered.ensures.ends in
     record {
       machine = λ s k sound more rest told choices.
           subst (λ (o : Option (Line Policy)). IfNone c.answer-answered.result.1 (IfSome o (λ command. Apart g.X.Meaning.scheme.root (turn g.X.Meaning.scheme policies s command).1.had
@@ -74,10 +74,10 @@ returns-in-Ok-Some g c =
       bad = λ e. absurd ((ended-at _ e c.answer-answered.ensures.cause).1 refl);
       fault_command = λ e. ap is_some (sym line);
       not_done = some-then c.answer-answered.result.1 c.answer-answered.ensures.cause (λ e why. why.0);
-      beside = (
-        beside.0,
-        beside.1,
-        subst (λ (o : Option (Line Policy)). IfNone c.answer-answered.result.1 (IfSome o (λ command. IsChosen command beside.0))) line (none-then c.answer-answered.result.1 (same_chosen c.in-Ok-Some.command beside.0) beside.2),
+      ends = (
+        ends.0,
+        ends.1,
+        subst (λ (o : Option (Line Policy)). IfNone c.answer-answered.result.1 (IfSome o (λ command. IsChosen command ends.0))) line (none-then c.answer-answered.result.1 (same_chosen c.in-Ok-Some.command ends.0) ends.2),
       );
       later = c.answer-answered.ensures.later;
       fault = c.answer-answered.ensures.fault;

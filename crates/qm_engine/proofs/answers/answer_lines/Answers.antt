@@ -27,7 +27,7 @@ loop-line-init g c =
       at = at_start c.args.input.now;
       room = omega arith;
       opened = omega (arith, c.in-Ok.ensures.opened);
-      beside = ([], turns-same (chunks_of g.X.Meaning.scheme) (g.C.Store.told c.args.store) _ same);
+      ends = ([], turns-same (chunks_of g.X.Meaning.scheme) (g.C.Store.told c.args.store) _ same);
       later = omega (arith, ap g.C.Store.faults c.in-Ok.ensures.store);
       machine = λ stored log is own more rest told.
           subst (λ xs. Apart m.root (after m policies log (xs ++ rest) lines 0).had → (c.new-text.result.items ≡ text_of (answers m policies (initial log (xs ++ rest)) (take 0 lines))) × Between g.C.Store g.X.Meaning policies c.in-Ok.session rest (after m policies log (xs ++ rest) lines 0))
@@ -43,7 +43,7 @@ returns-in-Err g c = record {
   done = λ e. absurd (memory_cause.0 e);
   bad = λ e. absurd (memory_cause.1 e);
   short = λ e. absurd (memory-not_fault e);
-  beside = ([], turns-same (chunks_of g.X.Meaning.scheme) (g.C.Store.told c.args.store) _ (ap g.C.Store.told c.in-Err.ensures.back));
+  ends = ([], turns-same (chunks_of g.X.Meaning.scheme) (g.C.Store.told c.args.store) _ (ap g.C.Store.told c.in-Err.ensures.back));
   bound = omega arith;
   later = omega (arith, ap g.C.Store.faults c.in-Err.ensures.back);
   fault = λ e. absurd (memory-not_fault e);
@@ -53,8 +53,8 @@ pub returns-in-Some-ended : goal.returns-in-Some-ended
 returns-in-Some-ended g c =
     let m = g.X.Meaning.scheme in
     let kept : c.answer_line-next.new.text.items ≡ c.loop-line.text.items = ended-at _ c.in-Some-ended.is c.answer_line-next.ensures.kept in
-    let before = c.loop-line.invariant.beside in
-    let behind = c.answer_line-next.ensures.beside in
+    let before = c.loop-line.invariant.ends in
+    let behind = c.answer_line-next.ensures.ends in
     record {
       machine = each (g.C.Store.told c.args.store) (λ stored is log own choices told.
           rw (kept, c.returned.ensures.store) (subst (λ xs. IsAnswered m policies log xs (commands_in c.args.input.now) c.loop-line.answered c.loop-line.text.items (g.C.Store.told (store_given g.X.Meaning.inside c.answer_line-next.result.0.held)))
@@ -73,7 +73,7 @@ returns-in-Some-ended g c =
       short = λ e.
           at_short c.args.input.now c.loop-line.rest.now c.in-Some.line.now c.in-Some.behind.now c.loop-line.answered c.loop-line.invariant.at c.in-Some.ensures.some
           (line_of c.in-Some.line.now) refl (c.answer_line-next.ensures.fault_command (c.in-Some-ended.is ∙ ap Some e));
-      beside = rw c.returned.ensures.store (before.0 ++ behind.0, turns-through (chunks_of g.X.Meaning.scheme) before.0 behind.0 (g.C.Store.told c.args.store) _ _ before.1 behind.1);
+      ends = rw c.returned.ensures.store (before.0 ++ behind.0, turns-through (chunks_of g.X.Meaning.scheme) before.0 behind.0 (g.C.Store.told c.args.store) _ _ before.1 behind.1);
       bound = omega (arith, c.loop-line.invariant.room);
       later = rw c.returned.ensures.store (omega (arith, c.loop-line.invariant.later, c.answer_line-next.ensures.later));
       fault = λ e.
@@ -87,14 +87,14 @@ loop-line-preserved g c =
     let lines = commands_in c.args.input.now in
     let k = c.loop-line.answered in
     let some = none-at _ c.in_default-ended.is c.answer_line-next.ensures.command in
-    let before = c.loop-line.invariant.beside in
-    let behind = c.answer_line-next.ensures.beside in
+    let before = c.loop-line.invariant.ends in
+    let behind = c.answer_line-next.ensures.ends in
     record {
       at = at_next c.args.input.now c.loop-line.rest.now c.in-Some.line.now c.in-Some.behind.now k c.loop-line.invariant.at c.in-Some.ensures.some (line_of c.in-Some.line.now) refl some;
       room = omega (arith, c.in-Some.ensures.shorter);
       opened = omega arith;
       later = omega arith;
-      beside = (before.0 ++ behind.0, turns-through (chunks_of g.X.Meaning.scheme) before.0 behind.0 (g.C.Store.told c.args.store) _ _ before.1 behind.1);
+      ends = (before.0 ++ behind.0, turns-through (chunks_of g.X.Meaning.scheme) before.0 behind.0 (g.C.Store.told c.args.store) _ _ before.1 behind.1);
       machine = λ stored log is own more rest told.
           subst (λ xs. Apart m.root (after m policies log xs lines (k + 1)).had → (c.answer_line-next.new.text.items ≡ text_of (answers m policies (initial log xs) (take (k + 1) lines))) × Between g.C.Store g.X.Meaning policies c.answer_line-next.result.0 rest (after m policies log xs lines (k + 1)))
           (sym (ap (λ xs. xs ++ rest) (more-parts (chunks_of g.X.Meaning.scheme) (g.C.Store.told c.args.store) _ _ stored before.0 behind.0 more is before.1 behind.1 told) ∙ append_assoc before.0 behind.0 rest))
@@ -120,7 +120,7 @@ returns g c =
       done = λ e. at_end c.args.input.now c.loop-line.rest.now c.loop-line.answered c.loop-line.invariant.at c.in_default.ensures.none;
       bad = λ e. absurd (done-not_bad e);
       short = λ e. absurd (done-not_fault e);
-      beside = rw c.returned-2.ensures.store c.loop-line.invariant.beside;
+      ends = rw c.returned-2.ensures.store c.loop-line.invariant.ends;
       bound = omega (arith, c.loop-line.invariant.room);
       later = rw c.returned-2.ensures.store c.loop-line.invariant.later;
       fault = λ e. absurd (done-not_fault e);

@@ -9,7 +9,7 @@ use Rattle.qm_model.specs.Schemes.{chunks_of, engine_of}
 use Rattle.qm_machine.specs.Text.{text_of}
 use Rattle.qm_store.specs.Given.{store_given}
 use Rattle.qm_lines.proofs.Inputs.{IsAt}
-use Rattle.qm_engine.specs.Stores.{IsBeside}
+use Rattle.qm_engine.specs.Stores.{HasEnds}
 use Rattle.qm_engine.specs.Runs.{after}
 use Rattle.qm_engine.proofs.Loops.{Between}
 use Rattle.qm_engine.proofs.answers.answer_lines.Given as goal
@@ -20,10 +20,10 @@ invariant-loop-line g l =
       at : IsAt l.input l.rest l.answered;
       room : l.answered + length l.rest ≤ length l.input;
       opened : l.session.opened ≤ l.answered;
-      beside : (more : List ℕ) × Turns (g.C.Store.told l.fn.store) (g.C.Store.told (store_given g.X.Meaning.inside l.session.held)) (IsBeside (chunks_of g.X.Meaning.scheme) more);
+      ends : (more : List ℕ) × Turns (g.C.Store.told l.fn.store) (g.C.Store.told (store_given g.X.Meaning.inside l.session.held)) (HasEnds (chunks_of g.X.Meaning.scheme) more);
       later : g.C.Store.faults l.fn.store ≤ g.C.Store.faults (store_given g.X.Meaning.inside l.session.held);
       machine : (stored : Stored) (log : Log) → g.C.Store.told l.fn.store ≡ Some stored → IsOwn (engine_of g.X.Meaning.scheme policies) log stored
-          → (more rest : List ℕ) → Turns (g.C.Store.told l.fn.store) (g.C.Store.told (store_given g.X.Meaning.inside l.session.held)) (IsBeside (chunks_of g.X.Meaning.scheme) more)
+          → (more rest : List ℕ) → Turns (g.C.Store.told l.fn.store) (g.C.Store.told (store_given g.X.Meaning.inside l.session.held)) (HasEnds (chunks_of g.X.Meaning.scheme) more)
           → Apart g.X.Meaning.scheme.root (after g.X.Meaning.scheme policies log (more ++ rest) (commands_in l.input) l.answered).had
           → (l.text.items ≡ text_of (answers g.X.Meaning.scheme policies (initial log (more ++ rest)) (take l.answered (commands_in l.input))))
           × Between g.C.Store g.X.Meaning policies l.session rest (after g.X.Meaning.scheme policies log (more ++ rest) (commands_in l.input) l.answered);

@@ -25,7 +25,7 @@ loop-command-init g c =
       count = ap length c.new-replies.ensures.items;
       opened = omega (arith, c.in-Ok.ensures.opened);
       later = omega (arith, ap g.C.Store.faults c.in-Ok.ensures.store);
-      beside = ([], turns-same (chunks_of g.X.Meaning.scheme) (g.C.Store.told c.args.store) _ same);
+      ends = ([], turns-same (chunks_of g.X.Meaning.scheme) (g.C.Store.told c.args.store) _ same);
       machine = λ stored log is own more rest told.
           subst (λ xs. Apart m.root (after m rules log (xs ++ rest) lines 0).had → (map a c.new-replies.result.items ≡ answers m rules (initial log (xs ++ rest)) (take 0 lines)) × Between g.C.Store g.X.Meaning rules c.in-Ok.session rest (after m rules log (xs ++ rest) lines 0))
           (sym (none-more (chunks_of g.X.Meaning.scheme) (g.C.Store.told c.args.store) _ stored more is same told))
@@ -43,7 +43,7 @@ returns-in-Err g c =
           (λ apart. (none, log-of g.X.Meaning.scheme g.P.Policy.rules _ stored log (ap g.C.Store.told c.in-Err.ensures.back ∙ is) own, own.kept)));
       done = λ e. absurd (end-memory_not_done e);
       short = λ e. absurd (end-memory_not_fault e);
-      beside = ([], turns-same (chunks_of g.X.Meaning.scheme) (g.C.Store.told c.args.store) _ (ap g.C.Store.told c.in-Err.ensures.back));
+      ends = ([], turns-same (chunks_of g.X.Meaning.scheme) (g.C.Store.told c.args.store) _ (ap g.C.Store.told c.in-Err.ensures.back));
       later = omega (arith, ap g.C.Store.faults c.in-Err.ensures.back);
       fault = λ e. absurd (end-memory_not_fault e);
     }
@@ -54,8 +54,8 @@ returns-in-Some g c =
     let a = answer_view g.X.Key.ByteString.bytes g.X.Value.ByteString.bytes g.X.Digest.Digest.bytes in
     let i = c.loop-command.command-index in
     let kept : c.step-next.new.replies.items ≡ c.loop-command.replies.items = ended-at _ c.in-Some.is c.step-next.ensures.kept in
-    let before = c.loop-command.invariant.beside in
-    let behind = c.step-next.ensures.beside in
+    let before = c.loop-command.invariant.ends in
+    let behind = c.step-next.ensures.ends in
     record {
       machine = each (g.C.Store.told c.args.store) (λ stored is log own choices told.
           rw (kept, c.returned.ensures.store) (subst (λ xs. IsRun g.X.Meaning.scheme g.P.Policy.rules log xs (map f c.args.commands.now) (map a c.loop-command.replies.items) (g.C.Store.told (store_given g.X.Meaning.inside c.step-next.result.0.held)))
@@ -70,7 +70,7 @@ returns-in-Some g c =
           (c.step-next.ensures.left s between.stands (sound-steady g.X.Meaning.scheme g.P.Policy.rules g.X.Meaning.bounds s between.sound) apart)))));
       done = λ e. absurd (ended-at _ c.in-Some.is c.step-next.ensures.not_done e);
       short = λ e. omega (arith, ap length kept, c.loop-command.invariant.count, c.loop-command-test.true);
-      beside = rw c.returned.ensures.store (before.0 ++ behind.0, turns-through (chunks_of g.X.Meaning.scheme) before.0 behind.0 (g.C.Store.told c.args.store) _ _ before.1 behind.1);
+      ends = rw c.returned.ensures.store (before.0 ++ behind.0, turns-through (chunks_of g.X.Meaning.scheme) before.0 behind.0 (g.C.Store.told c.args.store) _ _ before.1 behind.1);
       later = rw c.returned.ensures.store (omega (arith, c.loop-command.invariant.later, c.step-next.ensures.later));
       fault = λ e.
           let rose = c.step-next.ensures.fault (c.in-Some.is ∙ ap Some e) in
@@ -86,14 +86,14 @@ loop-command-preserved g c =
     let lines = map f c.args.commands.now in
     let i = c.loop-command.command-index in
     let grown = none-at _ c.in_default.is c.step-next.ensures.grown in
-    let before = c.loop-command.invariant.beside in
-    let behind = c.step-next.ensures.beside in
+    let before = c.loop-command.invariant.ends in
+    let behind = c.step-next.ensures.ends in
     let chosen = none-at _ c.in_default.is behind.2 in
     record {
       count = grown ∙ ap (λ n. n + 1) c.loop-command.invariant.count;
       opened = omega arith;
       later = omega arith;
-      beside = (before.0 ++ behind.0, turns-through (chunks_of g.X.Meaning.scheme) before.0 behind.0 (g.C.Store.told c.args.store) _ _ before.1 behind.1);
+      ends = (before.0 ++ behind.0, turns-through (chunks_of g.X.Meaning.scheme) before.0 behind.0 (g.C.Store.told c.args.store) _ _ before.1 behind.1);
       machine = λ stored log is own more rest told.
           subst (λ xs. Apart m.root (after m rules log xs lines (i + 1)).had → (map a c.step-next.new.replies.items ≡ answers m rules (initial log xs) (take (i + 1) lines)) × Between g.C.Store g.X.Meaning rules c.step-next.result.0 rest (after m rules log xs lines (i + 1)))
           (sym (ap (λ xs. xs ++ rest) (more-parts (chunks_of g.X.Meaning.scheme) (g.C.Store.told c.args.store) _ _ stored before.0 behind.0 more is before.1 behind.1 told) ∙ append_assoc before.0 behind.0 rest))
@@ -122,7 +122,7 @@ returns g c =
           (λ apart. let at_end = c.loop-command.invariant.machine stored log is own choices [] (rw c.returned-2.ensures.store at told) apart in (at_end.0, (at_end.1).stands.store.told, (at_end.1).sound.kept)))));
       done = λ e. omega (arith, c.loop-command.invariant.count, c.loop-command.auto.command-index-end, c.loop-command-test.false);
       short = λ e. absurd (end-done_not_fault e);
-      beside = rw c.returned-2.ensures.store c.loop-command.invariant.beside;
+      ends = rw c.returned-2.ensures.store c.loop-command.invariant.ends;
       later = rw c.returned-2.ensures.store c.loop-command.invariant.later;
       fault = λ e. absurd (end-done_not_fault e);
     }

@@ -9,10 +9,10 @@ pub returns-in-Many : goal.returns-in-Many
 returns-in-Many g c = rw c.in-Many.is (performs-reading (λ rest. refl) (λ s k sound more rest told choices. rw c.deref.ensures.value at (c.read.ensures.machine s k)) c.read.ensures.store c.read.ensures.uses c.read.ensures.opened)
 
 pub returns-in-Next : goal.returns-in-Next
-returns-in-Next g c = rw c.in-Next.is (performs-reading (λ rest. refl) (λ s k sound more rest told choices. c.beside.ensures.machine s k) c.beside.ensures.store c.beside.ensures.uses c.beside.ensures.opened)
+returns-in-Next g c = rw c.in-Next.is (performs-reading (λ rest. refl) (λ s k sound more rest told choices. c.neighbour.ensures.machine s k) c.neighbour.ensures.store c.neighbour.ensures.uses c.neighbour.ensures.opened)
 
 pub returns-in-Prev : goal.returns-in-Prev
-returns-in-Prev g c = rw c.in-Prev.is (performs-reading (λ rest. refl) (λ s k sound more rest told choices. c.beside-in-Prev.ensures.machine s k) c.beside-in-Prev.ensures.store c.beside-in-Prev.ensures.uses c.beside-in-Prev.ensures.opened)
+returns-in-Prev g c = rw c.in-Prev.is (performs-reading (λ rest. refl) (λ s k sound more rest told choices. c.neighbour-in-Prev.ensures.machine s k) c.neighbour-in-Prev.ensures.store c.neighbour-in-Prev.ensures.uses c.neighbour-in-Prev.ensures.opened)
 
 pub returns-in-Span : goal.returns-in-Span
 returns-in-Span g c = rw c.in-Span.is (performs-reading (λ rest. refl) (λ s k sound more rest told choices. c.ask.ensures.machine s k) c.ask.ensures.store c.ask.ensures.uses c.ask.ensures.opened)

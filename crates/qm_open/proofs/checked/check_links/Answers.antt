@@ -32,7 +32,7 @@ returns-then-not-is_ordered g c =
     let unordered : g.U.Update.form.ordered ≡ false = sym c.is_ordered.ensures ∙ c.if-not-is_ordered.true in
     record {
       ring = each (g.C.Store.told log.store) (λ s. rw unordered refl);
-      apart = tt;
+      broken = tt;
       undecoded = tt;
       read = read-none g.C.Store g.F.Family.shape g.H.Digest.Digest.bytes g.H.Hasher.hash log;
       error = tt;
@@ -41,7 +41,7 @@ returns-then-not-is_ordered g c =
 pub returns-in-Ok-true : goal.returns-in-Ok-true
 returns-in-Ok-true g c = record {
   ring = IfSome_then (g.C.Store.told c.args.log.now.store) c.in-Ok-true.ensures.ring (λ s same. formed g.U.Update.form.ordered c.in-Ok-true.field-0 _ same c.in-Ok-true.field-0-test);
-  apart = tt;
+  broken = tt;
   undecoded = tt;
   read = c.forms_ring.ensures.read;
   error = tt;
@@ -50,7 +50,7 @@ returns-in-Ok-true g c = record {
 pub returns-in-Ok-false : goal.returns-in-Ok-false
 returns-in-Ok-false g c = record {
   ring = each (g.C.Store.told c.args.log.now.store) (λ s. tt);
-  apart = λ is. IfSome_then (g.C.Store.told c.args.log.now.store) c.in-Ok-false.ensures.ring (λ s same. apart g.U.Update.form.ordered c.in-Ok-false.field-0 _ (sym c.is_ordered.ensures ∙ c.if-not-is_ordered.false) same c.in-Ok-false.field-0-test);
+  broken = λ is. IfSome_then (g.C.Store.told c.args.log.now.store) c.in-Ok-false.ensures.ring (λ s same. apart g.U.Update.form.ordered c.in-Ok-false.field-0 _ (sym c.is_ordered.ensures ∙ c.if-not-is_ordered.false) same c.in-Ok-false.field-0-test);
   undecoded = λ is. absurd cc;
   read = c.forms_ring.ensures.read;
   error = inr (sym c.is_ordered.ensures ∙ c.if-not-is_ordered.false, refl);
@@ -63,7 +63,7 @@ returns-in-Err g c =
     let failed = c.in-Err.ensures in
     record {
       ring = each told (λ s. tt);
-      apart = λ is. absurd (no-links g.C.Store log c.forms_ring.new.log c.in-Err.error failed.error is);
+      broken = λ is. absurd (no-links g.C.Store log c.forms_ring.new.log c.in-Err.error failed.error is);
       undecoded = λ is. IfSome_then told failed.corrupt (λ s lost. lost is);
       read = c.forms_ring.ensures.read;
       error = inl failed.error;

@@ -9,7 +9,7 @@ use Rattle.qm_store.specs.Log.{IsKept}
 use Rattle.qm_store.proofs.Stores.{kept-then}
 use Rattle.qm_build.specs.Reads.{items_within}
 use Rattle.qm_open.specs.Selecting.{selected_view}
-use Rattle.qm_open.specs.Apart.{links_apart}
+use Rattle.qm_open.specs.Broken.{links_broken}
 use Rattle.qm_open.proofs.Checking.{opened-due, links-due, links-caused, content-accepted, opened-read, each-known, known-at}
 use Rattle.qm_open.proofs.Unopened.{links-unfinished, opened-unfinished}
 use Rattle.qm_open.proofs.checked.open_checked.Goals as goal
@@ -58,7 +58,7 @@ returns-in-Ok g c =
             each-known told (λ s is.
             let fine = known-at _ told s is opened.read in
             content-accepted form g.F.Family.shape g.H.Digest.Digest.SIZE s (g.C.Store.start store) (known-at _ told s is (g.met.C.Store.told_start store)) (selected_view at) fine.0 fine.1
-            (subst (λ n. links_apart form s at.floor n ≡ false) made.ends (known-at _ (g.C.Store.told log.store) s (made.kept.told ∙ is) c.in-Ok.ensures.ring)));
+            (subst (λ n. links_broken form s at.floor n ≡ false) made.ends (known-at _ (g.C.Store.told log.store) s (made.kept.told ∙ is) c.in-Ok.ensures.ring)));
         refused = each-known told (λ s is. tt);
         back = tt;
       };
@@ -85,7 +85,7 @@ returns-in-Err g c =
             each-known told (λ s is.
             let fine = known-at _ told s is opened.read in
             links-due form g.F.Family.shape g.H.Digest.Digest.SIZE s (members.start store) (known-at _ told s is (g.met.C.Store.told_start store)) (selected_view at) members log new c.in-Err.error fine.0 fine.1
-            (λ links. subst (λ n. links_apart form s at.floor n ≡ true) made.ends (known-at _ (members.told log.store) s (made.kept.told ∙ is) (c.in-Err.ensures.apart links)))
+            (λ links. subst (λ n. links_broken form s at.floor n ≡ true) made.ends (known-at _ (members.told log.store) s (made.kept.told ∙ is) (c.in-Err.ensures.broken links)))
             (λ lost. subst (λ n. list_any is_none (items_within form s at.floor n) ≡ true) made.ends (known-at _ (members.told log.store) s (made.kept.told ∙ is) (c.in-Err.ensures.undecoded lost)))
             c.in-Err.ensures.error);
         back =

@@ -39,16 +39,16 @@ wider-behind (inl a) = inl a
 wider-behind (inr (inl b)) = inr (inl b)
 wider-behind (inr (inr c)) = inr (inr (inl c))
 
-pub returns-in-Ok-beside : goal.returns-in-Ok-beside
-returns-in-Ok-beside g c =
+pub returns-in-Ok-rebuilt : goal.returns-in-Ok-rebuilt
+returns-in-Ok-rebuilt g c =
     let members = g.C.Store in
     let form = g.U.Update.form in
     let store = c.args.store in
     let made = c.in-Ok.log.store in
     let told = members.told store in
     let opened = c.in-Ok.ensures in
-    let rebuilt = c.in-Ok-beside.ensures in
-    let read = c.beside.ensures.read in
+    let rebuilt = c.in-Ok-rebuilt.ensures in
+    let read = c.rebuilt.ensures.read in
     record {
       stands = each-known told (λ s is list has low.
           let shape = g.F.Family.shape in
@@ -61,7 +61,7 @@ returns-in-Ok-beside g c =
           known-at _ (members.told made) s (opened.kept.told ∙ is) (rebuilt.opened list (record { logged = logged; of = has.of }) has.good low));
       made = record {
         ends = ap (λ t. t.leaves) read.tree ∙ opened.size;
-        kept = kept-then members store made c.beside.new.log.store opened.kept read.kept;
+        kept = kept-then members store made c.rebuilt.new.log.store opened.kept read.kept;
         later = omega (arith, opened.later, read.later);
         pruned = rebuilt.pruned;
         bits = (rebuilt.bits.0 ∙ opened.size, omega (arith, rebuilt.bits.1, opened.size));
@@ -70,18 +70,18 @@ returns-in-Ok-beside g c =
       refused = tt;
     }
 
-pub returns-in-Err-beside : goal.returns-in-Err-beside
-returns-in-Err-beside g c =
+pub returns-in-Err-rebuilt : goal.returns-in-Err-rebuilt
+returns-in-Err-rebuilt g c =
     let members = g.C.Store in
     let form = g.U.Update.form in
     let store = c.args.store in
     let log = c.in-Ok.log in
-    let new = c.beside.new.log in
+    let new = c.rebuilt.new.log in
     let told = members.told store in
     let opened = c.in-Ok.ensures in
-    let read = c.beside.ensures.read in
-    let error = c.in-Err-beside.error in
-    let refused = c.in-Err-beside.ensures in
+    let read = c.rebuilt.ensures.read in
+    let error = c.in-Err-rebuilt.error in
+    let refused = c.in-Err-rebuilt.ensures in
     let which = which-error members log new error refused.error in
     record {
       stands = each told (λ s list has low. tt);

@@ -2,7 +2,7 @@ use Rattle.std.proofs.Common.{◌≡◌, ◌∙◌, ℕ, ◌+◌, ◌-◌, ◌*�
 use Rattle.std.proofs.lemmas.List.{take_all}
 use Rattle.std.proofs.lemmas.Result.{IfOk-from_err}
 use Rattle.qm_bits.specs.Bitmaps.{Bitmap, bit_count}
-use Rattle.qm_open.proofs.Beside.{clear-below, one-more}
+use Rattle.qm_open.proofs.Rebuilt.{clear-below, one-more}
 use Rattle.qm_open.proofs.parts.activity_from.Goals as goal
 
 pub loop-at-init : goal.loop-at-init

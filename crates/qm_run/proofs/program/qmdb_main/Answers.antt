@@ -6,7 +6,7 @@ use Rattle.qm_model.specs.Causes.{Rose}
 use Rattle.qm_model.specs.Operations.{Bytes}
 use Rattle.qm_machine.specs.Grammar.{bad_in}
 use Rattle.qm_lines.specs.declared.whole.TheConstants.{LIMIT}
-use Rattle.qm_engine.specs.Stores.{IsBeside}
+use Rattle.qm_engine.specs.Stores.{HasEnds}
 use Rattle.qm_model.specs.StoreModel.{Turns}
 use Rattle.qm_run.specs.Program.{Says, chunks_named, kind_of_words, machine_of}
 use Rattle.qm_engine.proofs.LastingStores.{turns-self}
@@ -21,7 +21,7 @@ returns-in_default g c =
       headline = at_none (kind_of_words (map string_bytes c.args.words.now)) _ (sym c.kind_from.ensures ∙ c.in_default.is);
       untouched = λ e. (refl, refl);
       unread = λ e. refl;
-      beside = ([], turns-self (chunks_named (map string_bytes c.args.words.now)) (g.C.Store.told c.args.store));
+      ends = ([], turns-self (chunks_named (map string_bytes c.args.words.now)) (g.C.Store.told c.args.store));
       usage = (λ e. none, λ no_words. refl);
       read = λ e. absurd (differ 1 3 refl e);
       steady = λ other. refl;
@@ -47,7 +47,7 @@ returns-in-Err-Memory g c =
           unchanged m stored input 5 rose (g.C.Store.told c.args.store) (g.K.Sink.text c.args.sink.now) (subst (λ left. Says m stored input 5 rose [] left) (sym is) (λ log own choices turns. says_unstarted m log choices input rose stored own)))));
       untouched = λ e. (refl, refl);
       unread = λ e. absurd (differ 5 1 refl e);
-      beside = ([], turns-self (chunks_named (map string_bytes c.args.words.now)) (g.C.Store.told c.args.store));
+      ends = ([], turns-self (chunks_named (map string_bytes c.args.words.now)) (g.C.Store.told c.args.store));
       usage = (λ e. absurd (differ 5 1 refl e), λ none. absurd (false≢true (sym none ∙ are)));
       read = λ e. absurd (differ 5 3 refl e);
       steady = λ other. c.in-Err-Memory.ensures.steady (λ e. absurd (cc e));
@@ -73,7 +73,7 @@ returns-in-Err-Failed g c =
           unchanged m stored input 3 rose (g.C.Store.told c.args.store) (g.K.Sink.text c.args.sink.now) (λ log own choices turns. says_nothing m log choices input rose 3 (g.C.Store.told c.args.store) (inr (inl refl))))));
       untouched = λ e. (refl, refl);
       unread = λ e. absurd (differ 3 1 refl e);
-      beside = ([], turns-self (chunks_named (map string_bytes c.args.words.now)) (g.C.Store.told c.args.store));
+      ends = ([], turns-self (chunks_named (map string_bytes c.args.words.now)) (g.C.Store.told c.args.store));
       usage = (λ e. absurd (differ 3 1 refl e), λ none. absurd (false≢true (sym none ∙ are)));
       read = λ e. c.in-Err-Failed.ensures.cause.failed (ap Err c.in-Err-Failed.field-0-is);
       steady = λ other. absurd (other refl);
@@ -99,7 +99,7 @@ returns-in-Err-TooLong g c =
           unchanged m stored input 7 rose (g.C.Store.told c.args.store) (g.K.Sink.text c.args.sink.now) (λ log own choices turns. says_nothing m log choices input rose 7 (g.C.Store.told c.args.store) (inr (inr refl))))));
       untouched = λ e. (refl, refl);
       unread = λ e. absurd (differ 7 1 refl e);
-      beside = ([], turns-self (chunks_named (map string_bytes c.args.words.now)) (g.C.Store.told c.args.store));
+      ends = ([], turns-self (chunks_named (map string_bytes c.args.words.now)) (g.C.Store.told c.args.store));
       usage = (λ e. absurd (differ 7 1 refl e), λ none. absurd (false≢true (sym none ∙ are)));
       read = λ e. absurd (differ 7 3 refl e);
       steady = λ other. c.in-Err-TooLong.ensures.steady (λ e. absurd (cc e));
@@ -126,8 +126,8 @@ returns-in-Ok g c =
           subst (λ i. IfSome (g.K.Sink.text c.args.sink.now) (λ before. (w : Bytes) × (g.K.Sink.text c.run.new.sink ≡ Some (before ++ w)) × Says m stored i c.run.result.0 rose w (g.C.Store.told c.run.result.1))) (c.deref.ensures.value ∙ e) served));
       untouched = served-not_early c.run.ensures.codes;
       unread = λ e. served-not_early c.run.ensures.codes (inl e);
-      beside = subst (λ chunks. (choices : List ℕ) × Turns (g.C.Store.told c.args.store) (g.C.Store.told c.run.result.1) (IsBeside chunks choices))
-          (sym (named-chunks (kind_of_words (map string_bytes c.args.words.now)) c.in-Some.named (sym c.kind_from.ensures ∙ c.in-Some.is))) c.run.ensures.beside;
+      ends = subst (λ chunks. (choices : List ℕ) × Turns (g.C.Store.told c.args.store) (g.C.Store.told c.run.result.1) (HasEnds chunks choices))
+          (sym (named-chunks (kind_of_words (map string_bytes c.args.words.now)) c.in-Some.named (sym c.kind_from.ensures ∙ c.in-Some.is))) c.run.ensures.ends;
       usage = (λ e. served-not_early c.run.ensures.codes (inl e), λ none. absurd (false≢true (sym none ∙ are)));
       read = λ e. served-not_early c.run.ensures.codes (inr (inl e));
       steady = λ other. c.in-Ok.ensures.steady (λ e. absurd (cc e));

@@ -3,7 +3,7 @@ use Rattle.qm_model.specs.Causes.{Rose}
 use Rattle.qm_model.specs.Mmr.{mmr}
 use Rattle.qm_model.specs.Schemes.{chunks_of}
 use Rattle.qm_model.specs.StoreModel.{Turns}
-use Rattle.qm_engine.specs.Stores.{IsBeside}
+use Rattle.qm_engine.specs.Stores.{HasEnds}
 use Rattle.qm_run.proofs.Machines.{machines-same}
 use Rattle.qm_run.proofs.Sayings.{Told}
 use Rattle.qm_run.proofs.program.serve_any.Goals as goal
@@ -14,7 +14,7 @@ returns-clause-headline g c =
     subst (λ m. IfSome (g.C.Store.told c.args.store) (λ stored. Told m stored c.args.input.now c.serve.result.0 rose (g.C.Store.told c.serve.result.1) (g.K.Sink.text c.args.sink.now) (g.K.Sink.text c.serve.new.sink)))
     (machines-same mmr g.U.Update.form g.met.U.Kind.lengths) c.serve.ensures.headline
 
-pub returns-clause-beside : goal.returns-clause-beside
-returns-clause-beside g c =
-    subst (λ m. (choices : List ℕ) × Turns (g.C.Store.told c.args.store) (g.C.Store.told c.serve.result.1) (IsBeside (chunks_of m) choices))
-    (machines-same mmr g.U.Update.form g.met.U.Kind.lengths) c.serve.ensures.beside
+pub returns-clause-ends : goal.returns-clause-ends
+returns-clause-ends g c =
+    subst (λ m. (choices : List ℕ) × Turns (g.C.Store.told c.args.store) (g.C.Store.told c.serve.result.1) (HasEnds (chunks_of m) choices))
+    (machines-same mmr g.U.Update.form g.met.U.Kind.lengths) c.serve.ensures.ends

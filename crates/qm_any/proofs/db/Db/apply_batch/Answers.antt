@@ -5,7 +5,7 @@ use Rattle.qm_merkle.specs.Batches.{stops}
 use Rattle.qm_chain.specs.Bounds.{is_at}
 use Rattle.qm_step.specs.Views.{changes_view}
 use Rattle.qm_any.specs.Layouts.{layout_of}
-use Rattle.qm_model.specs.StoreModel.{beside_items}
+use Rattle.qm_model.specs.StoreModel.{except_items}
 use Rattle.qm_open.proofs.Checking.{on-ok}
 use Rattle.qm_store.proofs.Told.{appended-beside, part-beside, unchanged-appended-part}
 use Rattle.qm_any.specs.Applying.{can_apply, lacked, store_in}
@@ -57,7 +57,7 @@ returns-in-Ok g c =
           let items = map (λ v. v.items) c.in-Ok.lacking.items.items in
           record {
             start = after-both store_in c.moved.result (λ s. start s ≡ start old) (ok-then c.moved.result c.moved.ensures.grown (λ next grown. grown.start)) (err-then c.moved.result c.moved.ensures.part (λ r part. part.start));
-            others = after-both store_in c.moved.result (λ s. beside_items (told s) ≡ beside_items (told old))
+            others = after-both store_in c.moved.result (λ s. except_items (told s) ≡ except_items (told old))
                 (ok-then c.moved.result c.moved.ensures.grown (λ next grown. appended-beside g.C.Store old next.log.store items grown))
                 (err-then c.moved.result c.moved.ensures.part (λ r part. part-beside g.C.Store old (store_given store_in r.given) items part));
             later = after-both store_in c.moved.result (λ s. faults old ≤ faults s) c.moved.ensures.later (err-then c.moved.result c.moved.ensures.cause (λ r cause. cause.later));

@@ -1,7 +1,7 @@
 use Rattle.std.proofs.Common.{◌≡◌, ◌∙◌, ◌<◌, ◌*◌, suc, true, Err, Ok, ap, ap₂, subst, sym, get_or}
 use Rattle.std.specs.Prelude.{Contains}
 use Rattle.qm_model.specs.Batches.{Commitment}
-use Rattle.qm_model.specs.StoreModel.{beside_items}
+use Rattle.qm_model.specs.StoreModel.{except_items}
 use Rattle.qm_model.proofs.Results.{ok-four}
 use Rattle.qm_store.specs.Given.{store_given}
 use Rattle.qm_roots.specs.Canonical.{IsCanonical}
@@ -78,7 +78,7 @@ returns-in-Ok g c =
       ));
       counted = λ counted. ok-four r is c.joined.ensures.numbered is is (λ db any number _ _.
           counted-beside (members.told old.log.store) (members.told db.any.log.store) c.args.self.name db.name old.activity.pruned db.any.activity.pruned
-          (ap (λ (d : anys.Database g.row.C.Denot g.row.H-Digest.Denot). beside_items (members.told d.log.store)) any ∙ rest.others)
+          (ap (λ (d : anys.Database g.row.C.Denot g.row.H-Digest.Denot). except_items (members.told d.log.store)) any ∙ rest.others)
           (number.1 ∙ ap (λ (d : Database g.row.C.Denot g.row.H-Digest.Denot). d.name) c.self.view_is)
           (ap (λ (d : anys.Database g.row.C.Denot g.row.H-Digest.Denot). d.activity.pruned) any ∙ c.in-Ok.ensures.moved.1 ∙ ap (λ (d : anys.Database g.row.C.Denot g.row.H-Digest.Denot). d.activity.pruned) any_is)
           counted);

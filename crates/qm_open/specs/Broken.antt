@@ -6,5 +6,5 @@ use Rattle.qm_model.specs.StoreModel.{Stored}
 use Rattle.qm_build.specs.Reads.{items_within}
 
 -- the links of an ordered list, from its floor on up to its size, form no ring
-abbrev pub links_apart : Form → Stored → ℕ → ℕ → Bool
-links_apart form s floor size = form.ordered && not (is_ring (filter_map (λ item. item) (items_within form s floor size)))
+abbrev pub links_broken : Form → Stored → ℕ → ℕ → Bool
+links_broken form s floor size = form.ordered && not (is_ring (filter_map (λ item. item) (items_within form s floor size)))

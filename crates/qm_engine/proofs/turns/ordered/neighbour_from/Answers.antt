@@ -1,4 +1,4 @@
-use Rattle.qm_engine.proofs.turns.ordered.beside_from.Goals as goal
+use Rattle.qm_engine.proofs.turns.ordered.neighbour_from.Goals as goal
 
 pub returns-in-Above : goal.returns-in-Above
 returns-in-Above g c = record {

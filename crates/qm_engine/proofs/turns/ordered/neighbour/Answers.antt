@@ -3,17 +3,17 @@ use Rattle.qm_engine.specs.Ordered.{key_beside}
 use Rattle.qm_engine.proofs.Moves.{found_ok, found_err}
 use Rattle.qm_machine.specs.Machine.{beside_in, beside_of, slot_at}
 use Rattle.qm_engine.proofs.ReadStores.{not_offered, none_ordered, no_beside}
-use Rattle.qm_engine.proofs.turns.ordered.beside.Goals as goal
+use Rattle.qm_engine.proofs.turns.ordered.neighbour.Goals as goal
 
 pub returns-in-Ok : goal.returns-in-Ok
 returns-in-Ok g c =
     let ordered = sym c.is_ordered.ensures ∙ c.if-not-is_ordered.false in
-    found_ok g.C.Store g.X.Meaning g.X.Key.ByteString.bytes g.X.Value.ByteString.bytes g.X.Digest.Digest.bytes c.args.session.now c.in-Database.is c.beside_from.ensures.reads c.args.from c.in-Some.number c.in-Some.is (key_beside c.args.side (g.X.Key.ByteString.bytes c.args.key.now)) c.in-Some-merkleized_at.batch.now
+    found_ok g.C.Store g.X.Meaning g.X.Key.ByteString.bytes g.X.Value.ByteString.bytes g.X.Digest.Digest.bytes c.args.session.now c.in-Database.is c.neighbour_from.ensures.reads c.args.from c.in-Some.number c.in-Some.is (key_beside c.args.side (g.X.Key.ByteString.bytes c.args.key.now)) c.in-Some-merkleized_at.batch.now
     ordered c.in-Some-merkleized_at.ensures c.in-Ok.key (c.in-Ok.ensures.readable ordered) (c.in-Ok.ensures.beside ordered)
 
 pub returns-in-Err : goal.returns-in-Err
 returns-in-Err g c =
-    found_err g.C.Store g.X.Meaning g.X.Key.ByteString.bytes g.X.Value.ByteString.bytes g.X.Digest.Digest.bytes c.args.session.now c.in-Database.is c.beside_from.ensures.reads c.args.from c.in-Some.number c.in-Some.is (key_beside c.args.side (g.X.Key.ByteString.bytes c.args.key.now)) c.in-Some-merkleized_at.batch.now
+    found_err g.C.Store g.X.Meaning g.X.Key.ByteString.bytes g.X.Value.ByteString.bytes g.X.Digest.Digest.bytes c.args.session.now c.in-Database.is c.neighbour_from.ensures.reads c.args.from c.in-Some.number c.in-Some.is (key_beside c.args.side (g.X.Key.ByteString.bytes c.args.key.now)) c.in-Some-merkleized_at.batch.now
     (sym c.is_ordered.ensures ∙ c.if-not-is_ordered.false) c.in-Some-merkleized_at.ensures c.in-Err.error c.in-Err.is c.turn_of.ensures c.in-Err.ensures.failure
 
 pub returns-then-not-is_ordered : goal.returns-then-not-is_ordered

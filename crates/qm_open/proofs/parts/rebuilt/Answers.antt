@@ -11,8 +11,8 @@ use Rattle.qm_build.specs.Built.{NoneBelow}
 use Rattle.qm_build.specs.Reads.{HasOperations, KeepsLog, IsRebuildError, IsUndecoded, items_within}
 use Rattle.qm_build.proofs.Reading.{error-then, operations-then, read-then}
 use Rattle.qm_build.proofs.Decoding.{each, known, over, one-undecoded, then-told}
-use Rattle.qm_open.proofs.Beside.{from-floor}
-use Rattle.qm_open.proofs.parts.beside.Goals as goal
+use Rattle.qm_open.proofs.Rebuilt.{from-floor}
+use Rattle.qm_open.proofs.parts.rebuilt.Goals as goal
 
 -- want of memory is no item that spells no operation
 no-item : errors.Memory ≡ errors.DataCorrupted corrupt.ItemDoesNotDecode → ⊥
