@@ -30,7 +30,7 @@ All-at P [] k d all default = default
 All-at P (x ∷ xs) zero d all default = All-head P x xs all
 All-at P (x ∷ xs) (suc k) d all default = All-at P xs k d (All-tail P x xs all) default
 
--- what follows from a test follows where the call that makes it succeeds
+-- what follows from a test follows if the call that makes it succeeds
 pub ok-tested : {X E : Type 0} (r : Result X E) (test : Bool) (P : Type 0) → is_ok r ≡ test → (test ≡ true → P) → OnOk r P
 ok-tested (Ok x) test P is give = give (sym is)
 ok-tested (Err e) test P is give = tt
@@ -124,7 +124,7 @@ module _ {D : Type 0} (batch : Made D) (agreed : AreAgreed batch) where
       let all = states batch.bounds in
       at-among sizes current (child_boundary keep batch.bounds) (child_tips keep batch.bounds) (All-at among all keep batch.bounds.db states-reached boundary-reached) (All-take among keep all states-reached) on
 
-  -- the steps that a child keeps, behind its own, start where the states end at which it can be applied
+  -- the steps that a child keeps, after its own, start where the states end at which it can be applied
   pub child-starts : (keep : ℕ) → keep ≤ suc (length batch.bounds.ancestors)
       → batch.bounds.tip.size ∷ bases (take keep batch.layers) ≡ map (λ c. c.size) (child_tips keep batch.bounds) ++ (child_boundary keep batch.bounds).size ∷ []
   child-starts keep few =

@@ -19,7 +19,7 @@ module _ {X : Type 0} (value : X → Layer) (n : ℕ) (steps : List X) where
   from-here : (i : ℕ) (x : X) → i < length steps → x ≡ get_or steps i x → drop i steps ≡ x ∷ drop (i + 1) steps
   from-here i x within is = drop_more steps i x within ∙ ap (λ y. y ∷ drop (i + 1) steps) (sym is)
 
-  -- nor is the next, where it starts where the list ends or later
+  -- nor is the next, if it starts where the list ends or later
   pub passed-one : (i : ℕ) (x : X) → i < length steps → x ≡ get_or steps i x → n ≤ (value x).base → Passed i → Passed (i + 1)
   passed-one i x within is from so_far =
       let front = map value (take i steps) in
@@ -31,7 +31,7 @@ module _ {X : Type 0} (value : X → Layer) (n : ℕ) (steps : List X) where
       ∙ sym (append_assoc front (value x ∷ []) (unapplied n rest))
       ∙ ap (λ ls. ls ++ unapplied n rest) (ap (λ y. front ++ value y ∷ []) is ∙ sym (map_more value steps i x within))
 
-  -- and these are all, where the next starts before
+  -- and these are all, if the next starts before
   pub passed-before : (i : ℕ) (x : X) → i < length steps → x ≡ get_or steps i x → (value x).base < n → Passed i → map value (take i steps) ≡ unapplied n (map value steps)
   passed-before i x within is before so_far =
       let front = map value (take i steps) in
@@ -42,13 +42,13 @@ module _ {X : Type 0} (value : X → Layer) (n : ℕ) (steps : List X) where
       ∙ ap (λ ls. front ++ ls) (unapplied-none n (value x) rest low)
       ∙ append-nil front)
 
-  -- or where there is no next
+  -- or if there is no next
   pub passed-all : (i : ℕ) → length steps ≤ i → Passed i → map value steps ≡ unapplied n (map value steps)
   passed-all i past so_far =
       sym (so_far ∙ ap₂ (λ xs ys. map value xs ++ unapplied n (map value ys)) (take_all i steps past) (drop_of_length-le steps past) ∙ append-nil (map value steps))
 
 module _ {X D : Type 0} (value : X → Layer) (batch : Made D) where
-  -- the newest step of a batch puts its own operations behind its base
+  -- the newest step of a batch puts its own operations after its base
   pub own-count : (steps : List X) (x : X) → map value steps ≡ batch.layers → AreAgreed batch → x ≡ get_or steps 0 x → batch.bounds.base.size + length (value x).operations ≡ batch.bounds.tip.size
   own-count [] x same agreed is = absurd (omega (arith, ap length (subst (λ ls. take 1 (bases ls) ≡ batch.bounds.base.size ∷ []) (sym same) agreed.own)))
   own-count (y ∷ ys) x same agreed is =
@@ -56,7 +56,7 @@ module _ {X D : Type 0} (value : X → Layer) (batch : Made D) where
       let joined = subst (AreJoined batch.bounds.tip.size) (sym same) agreed.joined in
       omega (arith, ap (λ ns. get_or ns 0 0) own, ap (λ z. length (value z).operations) is, joined.0)
 
-  -- which are what its list has behind it
+  -- which are what its list has after that base
   pub own-behind : (steps : List X) (x : X) (chain : Chain) (tip : List Operation) → map value steps ≡ batch.layers → LeadThrough batch.layers tip (bases_of chain) → x ≡ get_or steps 0 x → (value x).operations ≡ own_operations chain tip
   own-behind [] x chain tip same leads is = absurd (subst (λ ls. LeadThrough ls tip (bases_of chain)) (sym same) leads)
   own-behind (y ∷ ys) x chain tip same leads is =

@@ -23,7 +23,7 @@ take-contains (suc n) [] x h = h
 take-contains (suc n) (y ∷ ys) x (zero, within, is) = (0, omega arith, is)
 take-contains (suc n) (y ∷ ys) x (suc i, within, is) = Contains-more ys y x (take-contains n ys x (i, omega arith, is))
 
--- the same behind one more
+-- the same with one more in front
 more-contains : {A : Type 0} (y : A) (n : ℕ) (xs : List A) (x : A) → Contains (y ∷ take n xs) x → Contains (y ∷ xs) x
 more-contains y n xs x h = take-contains (suc n) (y ∷ xs) x h
 
@@ -69,7 +69,7 @@ pub child-bases : (keep : ℕ) (above : Chain) (tip : List Operation) → map (�
 child-bases keep above tip = take-views (λ (k : Kept). k.base) keep (record { base = above.base; tip = tip } ∷ above.kept)
 
 module _ (root : List Operation → Bytes) where
-  -- what stands for kept tips and the boundary, from the newest on: that of the boundary where only so many are kept
+  -- what stands for kept tips and the boundary, from the newest on: that of the boundary if only so many are kept
   boundary-at : (base : List Operation) (kept : List Kept) (n : ℕ) (d : Commitment) → AreLinked base kept → n ≤ length kept
       → get_or (map (λ (k : Kept). commitment root k.tip) kept ++ commitment root (oldest_base base kept) ∷ []) n d ≡ commitment root (oldest_base base (take n kept))
   boundary-at base [] zero d linked few = refl

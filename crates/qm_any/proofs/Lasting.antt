@@ -29,7 +29,7 @@ use Rattle.qm_any.specs.Databases.{Database, State, IsDatabase, over}
 use Rattle.qm_model.proofs.Stores.{leaves-now}
 use Rattle.qm_any.specs.Lasting.{bits_from, cut_to, given_up, over_log, HasLasted, HasLeftPruned, HasPruned, HasPrunedLog, IsGivenUp, IsHeadAt}
 
--- what holds where both do
+-- what holds if both do
 pub ok-two : {X E : Type 0} {P Q R : X → Type 0} (r : Result X E) → IfOk r P → IfOk r Q → ((x : X) → P x → Q x → R x) → IfOk r R
 ok-two (Ok x) p q join = join x p q
 ok-two (Err e) p q join = tt
@@ -38,7 +38,7 @@ pub ok-three : {X E : Type 0} {P Q R S : X → Type 0} (r : Result X E) → IfOk
 ok-three (Ok x) p q s join = join x p q s
 ok-three (Err e) p q s join = tt
 
--- a store that became another still tells what it holds, where it did
+-- a store that became another still tells what it holds, if it did
 pub still-told : (o new : Option Stored) (f : Stored → Stored) → Becomes o new f → IsSome o → IsSome new
 still-told None new f becomes some = absurd (cc some)
 still-told (Some s) None f becomes some = absurd becomes
@@ -64,7 +64,7 @@ reads-itself f s all = record {
     same : s ≡ left_at (end_of s) s
     same = ap (λ n. record s { stable = n }) all ∙ ap (λ xs. record s { items = xs; stable = end_of s }) (sym (take_all (end_of s - s.start) s.items (omega arith)))
 
--- bits that are dropped behind others are dropped behind all of these
+-- what is dropped first, and what is dropped after it, are all that is dropped
 passed : (p q w : ℕ) → p ≤ q → p * w + (q - p) * w ≡ q * w
 passed p q w low = spread p (q - p) w ∙ ap (λ n. n * w) (omega (arith, low))
   where
@@ -141,7 +141,7 @@ itself : (start to : ℕ) (o : Option Stored) → to ≤ start → Becomes o o (
 itself start to None low = refl
 itself start to (Some s) low = sym (ap (λ t. if t then pruned to [] s else s) (le-ltb start to low))
 
--- and one that is, where it is pruned
+-- and one that is, if it is pruned
 become : (start to : ℕ) (head : Bytes) (o new : Option Stored) → start < to → Becomes o new (pruned to head) → Becomes o new (cut_to start to head)
 become start to head None new less is = is
 become start to head (Some s) None less is = is
@@ -200,7 +200,7 @@ module _ {C D : Type 0} (members : store.Ghosts C) where
       by (variants.Log log) error refused never = absurd (never log refl)
       by (variants.Store s) error refused never = record { store = s; given = refl; left = refused.left s refl; never = refused.never; cause = refused.cause }
 
-  -- a prune gives up the store, also where memory lacked before its store was called
+  -- a prune gives up the store, also if memory lacked before its store was called
   pub cut-given-up : (hashing : Hashing D) (to : ℕ) (head : Bytes) (self : Database C D) (state : State) (old : Log C D) (r : LogRefusal (Log C D) C) → self ≡ over state old → IfSome (members.told self.log.store) (λ s. s.stable ≡ end_of s)
       → old.tree.start < to → IsRefused members (logs.HasLeftPruned members to head) old r.given r.error → IsHeadAt members hashing to old head
       → IsGivenUp members {X = Database C D} (λ _. HasLeftPruned members hashing (λ s. s) to self.log) self.log.store (given_up r)

@@ -174,7 +174,7 @@ module _ {D : Type 0} (root : Bytes) (meta : Option Bytes) where
       ∙ ap (λ x. sealed_with parent.bounds.tip (child_boundary keep parent.bounds) tree.leaves (child_tips keep parent.bounds) plan.floor own x count) same
       ∙ ap (sealed_with parent.bounds.tip (child_boundary keep parent.bounds) tree.leaves (child_tips keep parent.bounds) plan.floor own tree) live)
 
--- the operations of a plan stand behind its base list
+-- the operations of a plan stand after its base list
 pub plan-behind : (plan : Plan) (base tip : List Operation) → IsPlan plan base tip → tip ≡ base ++ plan.operations
 plan-behind plan base tip is = sym (take-append-drop (length base) tip) ∙ ap₂ (λ front back. front ++ back) is.changes.begins (sym is.operations)
 
@@ -184,7 +184,7 @@ plan-length plan base tip is = sym (length-append base plan.operations) ∙ ap l
 
 module _ {D : Type 0} {hashing : Hashing D} (parent : Made D) (keep : ℕ) (chain above : Chain)
     (few : keep ≤ suc (length parent.bounds.ancestors)) (made : IsMade hashing parent above chain.base) (kept : chain.kept ≡ kept_by keep above chain.base) where
-  -- a child's steps start from the first lists from which the parent's start, behind its own
+  -- a child's steps, after its own, start from the first lists from which the parent's start
   child-older : map (λ (k : Kept). k.base) chain.kept ≡ take keep (bases_of above)
   child-older = ap (map (λ (k : Kept). k.base)) kept ∙ child-bases keep above chain.base
 
@@ -358,7 +358,7 @@ kind-low form = by form.ordered
     by true = ordered-low
     by false = unordered-low
 
--- the list of a step of such a kind has low floors, where that before it has them
+-- the list of a step of such a kind has low floors, if that before it has them
 step-low : {P : Type 0} (kind : Kind) (rules : Rules P) (base : List Operation) (ws : List Write) (policy : P) (meta : Option Bytes) → AreLow kind → All IsLow base
     → length (step kind rules base ws policy meta) ≤ 2 ^ 62 → All IsLow (step kind rules base ws policy meta)
 step-low {P} kind rules base ws policy meta low lows few =
@@ -396,7 +396,7 @@ module _ {P : Type 0} (form : Form) (rules : Rules P) (base : List Operation) (w
   pub stepped-metadata : meta ≡ last_metadata (stepped form rules base ws policy meta)
   stepped-metadata = step-metadata (kind_of form) rules base ws policy meta
 
-  -- it is of the form of its base list, where operations with low floors behind that are and it is not too long
+  -- it is of the form of its base list, if operations with low floors after that are and it is not too long
   pub stepped-of : (own : List Operation) → All (IsOf form) base → take (length base) (stepped form rules base ws policy meta) ≡ base → own ≡ drop (length base) (stepped form rules base ws policy meta)
       → (All IsLow own → All (IsOf form) own) → length (stepped form rules base ws policy meta) ≤ 2 ^ 62 → All (IsOf form) (stepped form rules base ws policy meta)
   stepped-of own all begins is of few =
@@ -446,7 +446,7 @@ child-kept view bounds keep older state same some is =
     ∙ ap (λ cs. get_or (cs ++ bounds.db ∷ []) (keep - 1) bounds.db) same
     ∙ ap (λ n. child_boundary n bounds) count
 
--- or, where it keeps all of them, its parent's boundary
+-- or, if it keeps all of them, its parent's boundary
 state-last : {A : Type 0} (view : A → Commitment) (db : Commitment) (older : List A) (n : ℕ) → slice_get older n ≡ None → db ≡ get_or (map view older ++ db ∷ []) n db
 state-last view db [] zero is = refl
 state-last view db [] (suc n) is = refl
@@ -460,7 +460,7 @@ child-last view bounds keep older same some is =
     ∙ ap (λ cs. get_or (cs ++ bounds.db ∷ []) (keep - 1) bounds.db) same
     ∙ ap (λ n. child_boundary n bounds) count
 
--- an error that tells what is too long is of no batch left behind
+-- an error that tells what is too long is not that of a stale batch
 pub too_long-fresh : (spelt : List Bytes) (size : ℕ) (e : Error) → IsTooLong spelt size e → e ≢ errors.StaleBatch
 too_long-fresh spelt size e (inl long) stale = absurd (cc (long.2, stale))
 too_long-fresh spelt size e (inr many) stale = absurd (cc (many.2, stale))

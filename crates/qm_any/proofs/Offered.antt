@@ -36,7 +36,7 @@ use Rattle.qm_offer.specs.declared.meaning.Meaning as meaning
 use Rattle.qm_offer.specs.Words.{Fits, IsReadFailure, Makes, ReadsOnly, Takes}
 
 module _ {D : Type 0} (hashing : Hashing D) where
-  -- a merkleized batch fits where its bounds say so
+  -- a merkleized batch fits if its bounds say so
   pub at-made : (list : List Operation) (chain : Chain) (tip : List Operation) (current : Commitment) (made : Made D) → current ≡ list_commitment hashing list → IsMade hashing made chain tip
       → is_at current made.bounds.db made.bounds.ancestors ≡ fits (list_root hashing) (list_commitment hashing list) chain
   at-made list chain tip current made is batch =
@@ -52,7 +52,7 @@ module _ {D : Type 0} (hashing : Hashing D) where
     inactivity_floor = 0;
   }
 
-  -- a batch does where the states that it keeps of its parent say so
+  -- a batch does if the states that it keeps of its parent say so
   pub on-begun : (list : List Operation) (chain above : Chain) (current : Commitment) (begun : Begun D) → begun.keep ≤ suc (length begun.parent.bounds.ancestors) → current ≡ list_commitment hashing list
       → IsBegun hashing begun chain above → is_on current begun ≡ fits (list_root hashing) (list_commitment hashing list) chain
   on-begun list chain above current begun few is batch =
@@ -69,11 +69,11 @@ module _ {D : Type 0} (hashing : Hashing D) where
 apart : true ≡ false → ⊥
 apart is = cc
 
--- where a batch does not fit the list is not on its chain
+-- if a batch does not fit the list is not on its chain
 pub off-chain : (root : List Operation → Bytes) (list : List Operation) (chain : Chain) → fits root (commitment root list) chain ≡ false → IsOnChain list chain → ⊥
 off-chain root list chain unfit on = apart (sym (fits-on_chain root list chain on) ∙ unfit)
 
--- where it can not be read the list is not known
+-- if it can not be read the list is not known
 pub unknown : (root : List Operation → Bytes) (list : List Operation) (chain : Chain) (tip : List Operation) → readable root (commitment root list) chain tip ≡ false → IsKnown list chain tip → ⊥
 unknown root list chain tip closed known = apart (sym (readable-known root list chain tip known) ∙ closed)
 
@@ -89,7 +89,7 @@ log-kept members old new e (inl memory) stale = absurd (cc (memory, stale))
 log-kept members old new e (inr (inl fault)) stale = absurd (cc (fault.0, stale))
 log-kept members old new e (inr (inr pruned)) stale = absurd (cc (pruned.2, stale))
 
--- where it is for no item that is gone it is told as no refusal
+-- if it is for no item that is gone it is told as no refusal
 pub log-untold : {C D : Type 0} (members : store.Ghosts C) (old new : Log C D) (e : Error) → IsOfKeptItem e → IsReadError members old new e → refusal_of e ≡ None
 log-untold members old new e whole (inl memory) = ap refusal_of memory
 log-untold members old new e whole (inr (inl fault)) = ap refusal_of fault.0
@@ -140,7 +140,7 @@ module _ {C D : Type 0} (members : store.Ghosts C) (old new : Log C D) (can : Bo
   never-read (inr (inr told)) stale = log-kept members old new e told.1 stale
 
 module _ {C D : Type 0} (members : store.Ghosts C) (layout : Layout D) (db : Database C D) where
-  -- where the store tells all from the list's floor on, no live operation stands below its start
+  -- if the store tells all from the list's floor on, no live operation stands below its start
   pub none-below : (list : List Operation) → IsDatabase members layout db list → TellsFrom members db.log.store list → NoneBelow db.log.tree.start list
   none-below list is tells =
       All-weaker (λ e. floor list ≤ e.location) (λ e. db.log.tree.start ≤ e.location)
@@ -153,7 +153,7 @@ module _ {C D : Type 0} (members : store.Ghosts C) (layout : Layout D) (db : Dat
       err-each (IsDatabase members layout db) (λ list e. TellsFrom members db.log.store list → IsOfKeptItem e) r
       (λ list is. err-when IsOfKeptItem r (λ tells. whole list is (none-below list is tells)))
 
-  -- nor does a walk that reads nothing below a limit, where the floor is not above it
+  -- nor does a walk that reads nothing below a limit, if the floor is not above it
   pub kept-from : {X : Type 0} (r : Result X Error) (limit : ℕ) → ((list : List Operation) → IsDatabase members layout db list → NoneBelow db.log.tree.start list → db.log.tree.start ≤ limit → IfErr r IsOfKeptItem)
       → IfErr r (λ e. (list : List Operation) → IsDatabase members layout db list → TellsFrom members db.log.store list → floor list ≤ limit → IsOfKeptItem e)
   kept-from r limit whole =
@@ -222,7 +222,7 @@ some-intro None P give = tt
 some-intro (Some a) P give = give a refl
 
 module _ (form : Form) (chain : Chain) (tip : List Operation) where
-  -- why a tip is refused, where no spelling is too long
+  -- why a tip is refused, if no spelling is too long
   short : too_long (own_spellings form chain.base tip) ≡ None → tip_refusal form chain tip ≡ too_many (length tip)
   short none = ap (λ o. option_or (option_map (λ n. Journal (ItemTooLarge n)) o) (too_many (length tip))) none
 
@@ -239,7 +239,7 @@ module _ (form : Form) (chain : Chain) (tip : List Operation) where
   due e r fresh (inr (inr (inr many))) told =
       short many.0 ∙ ap (λ b. if b then Some (Merkle (LocationOverflow (length tip))) else None) (lt-ltb (2 ^ 62) (length tip) many.1) ∙ sym (ap refusal_of many.2) ∙ told
 
-  -- a merkleize that is refused, and not as stale, is so for that where the database is on the chain and lacks no item of it; its
+  -- a merkleize that is refused, and not as stale, is so for that if the database is on the chain and lacks no item of it; its
   -- batch is of an instance that the database takes, and fits
   pub refused-due : {C D : Type 0} (members : store.Ghosts C) (old new : Log C D) (T P On Low : Type 0) (e : Error) → e ≢ errors.StaleBatch → (Low → IsOfKeptItem e) → (On → IsRefused form chain.base tip e ⊎ IsReadError members old new e)
       → T → (e ≢ errors.Memory → P) → IfSome (refusal_of e) (λ r. T × P × (On → Low → tip_refusal form chain tip ≡ Some r))
@@ -250,7 +250,7 @@ module _ (form : Form) (chain : Chain) (tip : List Operation) where
       either r told low (inl long) = due e r fresh long told
       either r told low (inr read) = absurd (none-some r (sym (log-untold members old new e (whole low) read) ∙ told))
 
--- What comes of a merkleize, by what it says of the tip that it makes, which is this one. It fits where it is on.
+-- What comes of a merkleize, by what it says of the tip that it makes, which is this one. It fits if it is on the chain.
 pub makes : {X C B S M D : Type 0} (means : meaning.Ghosts X C B S M) (members : store.Ghosts C) (old : X) (was is : Log C D) (list : List Operation) (chain : Chain) (own tip : List Operation) (r : Result M Error) (on : Bool)
     → means.scheme.grafts ≡ None
     → own ≡ tip

@@ -38,7 +38,7 @@ use Rattle.qm_any.specs.Databases.{Database, Made, IsDatabase, IsMade, AreAgreed
 use Rattle.qm_any.proofs.Agreed.{known-reached, start-within}
 use Rattle.qm_any.specs.Layouts.{hashing_with}
 
--- a node has a digest where one is given
+-- a node has a digest if one is given
 given-some : {D : Type 0} (bytes : D → Bytes) (found : Option D) (digest : Bytes) → Gives bytes found digest → IsSome found
 given-some bytes None digest is = cc
 given-some bytes (Some d) digest is = refl
@@ -88,7 +88,7 @@ module _ (shape : Shape) (births : Births) (family : IsFamily shape births) wher
   not-between x low n early = ap (λ a. a && nat_lt (shape.position x) (shape.size n)) (before x low early)
 
   module _ {D : Type 0} (bytes : D → Bytes) (hash : Bytes → Bytes) where
-    -- the tree of a log holds a node of its leaves exactly where that came after its start or is one of the peaks there
+    -- the tree of a log holds a node of its leaves exactly if that came after its start or is one of the peaks there
     log-held : (kept : Kept D) (leaves : List Bytes) → Stands shape bytes hash kept leaves → (x : Node) → shape.birth x ≤ length leaves
         → is_some (node_at shape kept (shape.position x)) ≡ is_held shape kept.start (length leaves) (shape.position x)
     log-held kept leaves stands x born = ⊎_elim late early (cases_lt kept.start (shape.birth x))
@@ -148,7 +148,7 @@ module _ (shape : Shape) (births : Births) (family : IsFamily shape births) wher
         others : (shape.birth x ≤ length old → is_some (layers_at shape older p) ≡ true) → shape.birth x ≤ layer.tree.start → (is_some (layer_at shape layer p) || is_some (layers_at shape older p)) ≡ true
         others rest early = ap (λ b. is_some (layer_at shape layer p) || b) (rest (omega (arith, early, history.0.start))) ∙ or-true (is_some (layer_at shape layer p))
 
-    -- and none that came before, where they add nodes alone
+    -- and none that came before, if they add nodes alone
     layers-lack : (low : ℕ) (layers : List (Layer D)) (new : List Bytes) (lists : List (List Bytes)) → IsHistory shape bytes hash layers (new ∷ lists) → All (IsAdding shape) layers → All (λ n. low ≤ n) (stops (length new) layers)
         → (x : Node) → shape.birth x ≤ low → is_some (layers_at shape layers (shape.position x)) ≡ false
     layers-lack low [] new lists history adding above x early = refl
@@ -219,7 +219,7 @@ lacked-due at holds ps e same lacked = ⊎_elim
     subst (λ x. IsDue x (first_pruned holds ps)) (sym lack.2) (ap (option_map (λ p. Merkle (ElementPruned p))) (sym same ∙ lack.1)))
     lacked
 
--- and of positions behind others, none of which is lacked
+-- and of positions after others, none of which is lacked
 later-lacked : {D : Type 0} (at : ℕ → Option D) (xs ys : List ℕ) (e : Error) → first_lacked at xs ≡ None → IsLacked at ys e → IsLacked at (xs ++ ys) e
 later-lacked at xs ys e none lacked = ⊎_elim
     (λ (memory : e ≡ errors.Memory). inl memory)

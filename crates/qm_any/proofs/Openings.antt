@@ -1,4 +1,4 @@
--- What an opening gives back where one of its calls refused, and what the other clauses say there.
+-- What an opening gives back if one of its calls refused, and what the other clauses say there.
 use Rattle.std.proofs.Common.{◌≡◌, ◌⊎◌, inl, inr, Option, refl, subst}
 use Rattle.std.specs.Prelude.{IsSome}
 use Rattle.qm_model.specs.Causes.{IsCause}

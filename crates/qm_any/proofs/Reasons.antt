@@ -22,13 +22,13 @@ read-fresh members old new e (inl memory) stale = absurd (cc (memory, stale))
 read-fresh members old new e (inr (inl failed)) stale = absurd (cc (failed.0, stale))
 read-fresh members old new e (inr (inr pruned)) stale = absurd (cc (pruned.2, stale))
 
--- where a read failed in the store, the store's faults rose
+-- if a read failed in the store, the store's faults rose
 pub read-cause : {C D : Type 0} (members : store.Ghosts C) (old new : Log C D) (e : Error) → IsReadError members old new e → e ≡ errors.Journal journal.Store → Rose (members.faults old.store) (members.faults new.store)
 read-cause members old new e (inl memory) fault = absurd (cc (memory, fault))
 read-cause members old new e (inr (inl failed)) fault = failed.1
 read-cause members old new e (inr (inr pruned)) fault = absurd (cc (pruned.2, fault))
 
--- what holds anyway holds where all went well
+-- what holds anyway holds if all went well
 pub on-ok : {T E : Type 0} (done : Result T E) {P : Type 0} → P → OnOk done P
 on-ok (Ok value) holds = holds
 on-ok (Err e) holds = tt
@@ -44,7 +44,7 @@ module _ {D : Type 0} (at : ℕ → Option D) (positions : List ℕ) (e : Error)
   lacked-never (inl memory) = inl memory
   lacked-never (inr (p, first, lacked)) = inr (inr (p, lacked))
 
-  -- so it is that of nodes that are asked for where the database's state is known
+  -- so it is that of nodes that are asked for if the database's state is known
   pub lacked-node : (known : Bool) → known ≡ true → IsLacked at positions e → IsNodeError known at positions e
   lacked-node known is lacked = record {
     stale = λ stale. absurd (lacked-fresh lacked stale);

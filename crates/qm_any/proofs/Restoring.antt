@@ -109,7 +109,7 @@ told-floor form s size f list long of same low some is = by (slice_get s.items (
         let told : option_and_then commit_floor (slice_get list (size - 1)) ≡ Some f = ap (option_and_then commit_floor) (spelled.1 ∙ sym decodes) ∙ ap (λ o. option_and_then commit_floor (option_and_then (decoded form) o)) (sym here) ∙ is in
         sym (floor-last 0 list (size - 1) f (omega (arith, long, some)) told)
 
--- where no reason is due, none is there
+-- if no reason is due, none is there
 pub refused-none : (due : Option Refused) → due ≡ None → IsSome due → ⊥
 refused-none None none some = absurd (cc some)
 refused-none (Some r) none some = absurd (cc none)
@@ -170,7 +170,7 @@ module _ (chunk : ℕ) (power : (e : ℕ) × (chunk ≡ 2 ^ e)) where
   few-seen most None seen is few = subst AreFew (sym is) tt
   few-seen most (Some p) seen is few = subst AreFew (sym is) (height-low most, subst (λ n. p.0 * n ≤ 2 ^ 62) (sym height-spans) few)
 
-  -- where they have that number of bits, chunks of them reach no further
+  -- if they have that number of bits, chunks of them reach no further
   pub bits-seen : (p : ℕ × Option ℕ) (floor : ℕ) → bits_of (Some (pruned_view chunk p)) ≤ floor → p.0 * (8 * chunk) ≤ floor
   bits-seen p floor low = subst (λ n. p.0 * n ≤ floor) height-spans low
 
@@ -201,7 +201,7 @@ pub so-pruned : (chunk : ℕ) (pruned : Option (ℕ × Option ℕ)) (n chunks : 
 so-pruned chunk None n chunks is told = tt
 so-pruned chunk (Some p) n chunks is told = is ∙ told
 
--- where they have no bit, none is told
+-- if they have no bit, none is told
 pub none-pruned : (chunk : ℕ) (pruned : Option (ℕ × Option ℕ)) (n : ℕ) → n ≡ 0 → bits_of (option_map (pruned_view chunk) pruned) ≡ 0 → IfSome (told_chunks chunk pruned) (λ k. n ≡ k)
 none-pruned chunk None n is none = tt
 none-pruned chunk (Some p) n is none =

@@ -16,7 +16,7 @@ use Rattle.qm_step.proofs.Steps.{map-twice}
 use Rattle.qm_any.specs.Databases.{read_under}
 use Rattle.qm_any.proofs.Reading.{value-found}
 
--- where nothing is staged and nothing else is written, the recorded writes are all
+-- if nothing is staged and nothing else is written, the recorded writes are all
 pub slotted-staged : {F U K V : Type 0} (view : U → Operation) (key : K → Bytes) (value : V → Bytes) (ws : List Write) (reads : List (Read F U K V)) (slots : List (Slot V)) (others : List (declared.Write K V)) → reads ≡ [] → slots ≡ [] → others ≡ []
     → slotted ws (map (λ (r : Bytes × Option (ℕ × Operation)). r.0) (reads_view view key reads)) (slot_views value slots) (write_views key value others) ≡ ws
 slotted-staged view key value ws reads slots others no_reads no_slots no_others =
@@ -47,7 +47,7 @@ pub slotted-reads : {F U K V : Type 0} (view : U → Operation) (key : K → Byt
 slotted-reads view key value own recorded now reads staged slots others same is are =
     ap₂ (λ ws ks. slotted ws ks (slot_views value slots) (write_views key value others)) same (staged-keys view key now reads staged is are)
 
--- and of one that has more behind what it had
+-- and of one that has more after what it had
 pub staged-keys-more : {F U K V : Type 0} (view : U → Operation) (key : K → Bytes) (all had : List (Bytes × Option (ℕ × Operation))) (found : List (Read F U K V)) (keys : List K) → all ≡ had ++ reads_view view key found
     → keys_of key found ≡ map key keys → map (λ r. r.0) all ≡ map (λ r. r.0) had ++ map key keys
 staged-keys-more view key all had found keys more are =
@@ -90,7 +90,7 @@ module _ {F U K V : Type 0} (view : U → Operation) (key : K → Bytes) (base :
   pub staged-reads : (now reads : List (Read F U K V)) (staged : List (Bytes × Option (ℕ × Operation))) → now ≡ reads → reads_view view key reads ≡ staged → All (IsStagedRead base) staged → AreReads view key now base
   staged-reads now reads staged is same all = subst (All IsFound) (sym is) (reads-back reads (subst (All (IsStagedRead base)) (sym same) all))
 
-  -- and more behind what it had
+  -- and more after what it had
   pub staged-more : (all had : List (Bytes × Option (ℕ × Operation))) (found : List (Read F U K V)) → all ≡ had ++ reads_view view key found
       → All (IsStagedRead base) had → AreReads view key found base → All (IsStagedRead base) all
   staged-more all had found more before are =

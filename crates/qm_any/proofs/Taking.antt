@@ -29,7 +29,7 @@ image-rewound to s image is =
       same = is.same ∙ ap {B = Stored} (λ items. record s { items = items; stable = is.to; past = image.past }) (take-take (is.to - s.start) (to - s.start) s.items low);
     }
 
--- so a call that fails behind a rewind leaves what the rewind may
+-- so a call that fails after a rewind leaves what the rewind may
 pub reads-rewound : (to : ℕ) (s new : Stored) → ReadsAs (rewound to s).stable (IsImage (rewound to s)) new → ReadsAs (min s.stable to) (RewindLeaves to s) new
 reads-rewound to s new is = record { image = is.image; left = image-rewound to s is.image is.left; reads = is.reads; least_stable = is.least_stable; within = is.within }
 
@@ -72,7 +72,7 @@ unmoved more s = record {
 }
 
 module _ (m : Scheme) where
-  -- where a list is selected its size is no 0
+  -- if a list is selected its size is no 0
   pub taken-some : (size : ℕ) (s : Stored) → 0 < size → taken m size s ≡ settled (rewound size s)
   taken-some zero s some = absurd (omega (arith, some))
   taken-some (suc n) s some = refl
@@ -98,7 +98,7 @@ turns-weaker None new R S weaker turns = turns
 turns-weaker (Some s) None R S weaker turns = turns
 turns-weaker (Some s) (Some t) R S weaker turns = weaker s t refl turns
 
--- where it is what it was
+-- if it is what it was
 pub turns-kept : (o new : Option Stored) (R : Stored → Stored → Type 0) → new ≡ o → ((s : Stored) → o ≡ Some s → R s s) → Turns o new R
 turns-kept o new R same whole = subst (λ t. Turns o t R) (sym same) (by o whole)
   where
@@ -115,7 +115,7 @@ module _ {C X : Type 0} (members : store.Ghosts C) (inside : X → C) (given : G
   pub given-unchanged : (old s : C) → given ≡ variants.Store s → IsKept members old s → IsUnchanged members old (store_given inside given)
   given-unchanged old s is kept = subst (λ g. IsUnchanged members old (store_given inside g)) (sym is) (record { start = kept.start; told = kept.told })
 
--- nor where nothing more was changed behind reads
+-- nor if nothing more was changed after reads
 pub unchanged-behind : {C : Type 0} (members : store.Ghosts C) (old middle new : C) → IsKept members old middle → IsUnchanged members middle new → IsUnchanged members old new
 unchanged-behind members old middle new kept same = record { start = same.start ∙ kept.start; told = same.told ∙ kept.told }
 

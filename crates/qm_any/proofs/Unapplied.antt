@@ -28,7 +28,7 @@ use Rattle.qm_store.specs.Given.{Appended}
 use Rattle.qm_any.specs.Databases.{Database, Made, IsDatabase, IsMade, bases_of, unapplied, operations_in, bases, AreJoined}
 use Rattle.qm_any.proofs.Known.{contains-mapped, on_chain-base}
 
--- one more behind a list is what h makes of one more of another's elements
+-- one more after a list is what h makes of one more of another's elements
 pub mapped-behind : {A B X Y : Type 0} (h : B → Y) (f : A → B) (view : X → Y) (first : List Y) (xs : List A) (i : ℕ) (d : A) (made more : List X) (x : X) → i < length xs → d ≡ get_or xs i d
     → more ≡ made ++ x ∷ [] → view x ≡ h (f d) → map view made ≡ first ++ map h (map f (take i xs)) → map view more ≡ first ++ map h (map f (take (i + 1) xs))
 mapped-behind h f view first xs i d made more x within here pushed shown so_far =
@@ -60,14 +60,14 @@ all-whole f P Q xs i past so_far = subst (λ ys. All P (map f ys) → All Q (map
 pub diffs-first : {X Y V Z : Type 0} (view : X → Z) (value : Y → V) (f : V → Z) (xs : List X) (ys part : List Y) (k : ℕ) → map view xs ≡ map f (map value ys) → part ≡ take k ys → map view (take k xs) ≡ map f (map value part)
 diffs-first view value f xs ys part k same first = sym (take-map view k xs) ∙ ap (take k) same ∙ take-map f k (map value ys) ∙ ap (map f) (take-map value k ys ∙ ap (map value) (sym first))
 
--- the newest layer is lacking where it starts from the list's end or later, and nothing is where it starts before
+-- the newest layer is lacking if it starts from the list's end or later, and nothing is if it starts before
 pub unapplied-more : (n : ℕ) (layer : Layer) (layers : List Layer) → nat_le n layer.base ≡ true → unapplied n (layer ∷ layers) ≡ layer ∷ unapplied n layers
 unapplied-more n layer layers from = ap (λ b. if b then layer ∷ unapplied n layers else []) from
 
 pub unapplied-none : (n : ℕ) (layer : Layer) (layers : List Layer) → nat_le n layer.base ≡ false → unapplied n (layer ∷ layers) ≡ []
 unapplied-none n layer layers before = ap (λ b. if b then layer ∷ unapplied n layers else []) before
 
--- no layer starts behind where the newest ends
+-- no layer starts after the end of the newest
 pub joined-below : (size from : ℕ) (layers : List Layer) → AreJoined size layers → Contains (size ∷ bases layers) from → from ≤ size
 joined-below size from [] joined among = ⊎_elim
     (λ (same : size ≡ from). omega (arith, same))
@@ -157,7 +157,7 @@ base-list (layer ∷ layers) tip (base ∷ older) n leads among = ⊎_elim
     (rest.0, Contains-later base older rest.0 rest.1, rest.2))
     (first_or_later layer.base (bases layers) n among)
 
--- what lies behind a size where a layer starts is what a list of this size lacks
+-- what lies after a size at which a layer starts is what a list of this size lacks
 pub lacked-behind : (layers : List Layer) (tip : List Operation) (older : List (List Operation)) (n : ℕ) → LeadThrough layers tip older → Contains (bases layers) n → drop n tip ≡ operations_in (unapplied n layers)
 lacked-behind layers tip older n leads among =
     let here = base-list layers tip older n leads among in
@@ -221,7 +221,7 @@ module _ {C D : Type 0} (members : store.Ghosts C) (layout : Layout D) where
         ring = made.ring;
       }
 
-  -- what a database lacks of a batch's list is what lies behind its size
+  -- what a database lacks of a batch's list is what lies after its size
   pub lacked-spelled : (batch : Made D) (chain : Chain) (tip : List Operation) (n m : ℕ) (items : List Bytes) → IsMade layout.hashing batch chain tip → n ≡ m → Contains (bases batch.layers) n
       → items ≡ map (spelling layout.hashing.form) (operations_in (unapplied n batch.layers)) → items ≡ map (spelling layout.hashing.form) (drop m tip)
   lacked-spelled batch chain tip n m items made same among spelled =

@@ -127,7 +127,7 @@ pub unspelled-refused : (form : Form) (plan : Plan) (base tip : List Operation) 
 unspelled-refused form plan base tip size e is count (inl memory) = inl memory
 unspelled-refused form plan base tip size e is count (inr long) = inr (inr (plan-refused form plan base tip (map (spelling form) plan.operations) size e is refl count long))
 
--- the list of a plan is taken where its spellings are
+-- the list of a plan is taken if its spellings are
 pub plan-taken : (form : Form) (plan : Plan) (base tip : List Operation) (size : ℕ) → IsPlan plan base tip → IsSpelled form plan.operations size → size ≡ length base + length plan.operations → IsTaken form base tip
 plan-taken form plan base tip size is spelt count =
     let few = spelt.few in (

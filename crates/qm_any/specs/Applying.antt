@@ -33,7 +33,7 @@ module _ {C : Type 0} (members : store.Ghosts C) where
     pub later : members.faults old ≤ members.faults new
 
   module _ {D : Type 0} (old : Database C D) (batch : Made D) where
-    -- the store got what it lacked of the list or, where that was refused and the batch can be applied, a first part of it
+    -- the store got what it lacked of the list or, if that was refused and the batch can be applied, a first part of it
     pub record Appends (form : Form) (list : List Operation) (result : Result (Database C D) (Refusal (Database C D) C)) : Type 0 where
       pub grown : IfOk result (λ next. Appended members (store_in old) (store_in next) (lacked form old list))
       pub part : IfErr result (λ r. AppendedPart members (store_in old) (store_given store_in r.given) (if can_apply old batch then lacked form old list else []))

@@ -19,7 +19,7 @@ use Rattle.qm_any.specs.Databases.{Database, State, over}
 abbrev pub given_up : {C D X : Type 0} → LogRefusal (Log C D) C → Refusal X C
 given_up refusal = record { given = Store (logs.store_given refusal.given); error = refusal.error }
 
--- the database over the log that a call left, or the store where the call was refused
+-- the database over the log that a call left, or the store if the call was refused
 abbrev pub over_log : {C D : Type 0} → State → Result (Log C D) (LogRefusal (Log C D) C) → Result (Database C D) (Refusal (Database C D) C)
 over_log state (Ok log) = Ok (over state log)
 over_log state (Err refusal) = Err (given_up refusal)
@@ -32,7 +32,7 @@ boundary_of db = min db.floor db.commitment.size
 abbrev pub bits_from : ℕ → ℕ → Bitmap → Bitmap
 bits_from chunk to bits = record { pruned = max bits.pruned (to / (8 * chunk)); kept = drop ((to / (8 * chunk) - bits.pruned) * (8 * chunk)) bits.kept }
 
--- a store, of a log that starts here, pruned to a location, with this head, where that is after the start
+-- a store, of a log that starts here, pruned to a location, with this head, if that is after the start
 abbrev pub cut_to : ℕ → ℕ → Bytes → Stored → Stored
 cut_to start to head s = if nat_lt start to then pruned to head s else s
 
@@ -84,7 +84,7 @@ module _ {C D : Type 0} (members : store.Ghosts C) where
     pub told : Becomes (members.told old.log.store) (members.told new.log.store) (λ s. cut_to old.log.tree.start to head (f s))
     pub later : members.faults old.log.store ≤ members.faults new.log.store
 
-  -- the same where its bits were left, and nothing came before
+  -- the same if its bits were left, and nothing came before
   pub record HasPrunedLog (hashing : Hashing D) (to : ℕ) (old new : Database C D) : Type 0 where
     pub rest : new ≡ record old { log = new.log }
     pub start : new.log.tree.start ≡ max old.log.tree.start to

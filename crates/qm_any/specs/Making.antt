@@ -44,7 +44,7 @@ module _ {C D : Type 0} (members : store.Ghosts C) where
     pub next : OnOk result (left ≡ policy_left form making chain.base)
     pub refused : IfErr result (λ e. IsRefused form chain.base (list_made form making chain.base) e ⊎ IsReadError members old new e)
 
-  -- Why a list was not made, of a batch that is on the database's state or not: it is stale only where it is not; else, where memory was
+  -- Why a list was not made, of a batch that is on the database's state or not: it is stale only if it is not; else, if memory was
   -- not short, it is on it, and a read failed or the list is too large.
   pub record IsUnmade (on : Bool) (old new : Log C D) (e : Error) : Type 0 where
     pub stale : e ≡ errors.StaleBatch → on ≡ false

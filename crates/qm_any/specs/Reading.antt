@@ -44,13 +44,13 @@ module _ {C D : Type 0} (members : store.Ghosts C) (layout : Layout D) where
 
   module _ {A : Type 0} (old new : Database C D) (result : Result A Error) where
     -- A call read the database: it left it as it was but for its store's count of faults. It failed for memory, for a fault by
-    -- which that count rose, or at an item that the store no longer has, and not so where no live update stands below the start.
+    -- which that count rose, or at an item that the store no longer has, and not so if no live update stands below the start.
     pub record Reads : Type 0 where
       pub error : IfErr result (IsReadError members old.log new.log)
       pub whole : AtList old (λ list. NoneBelow old.log.tree.start list → IfErr result IsOfKeptItem)
       pub left : IsLeft members layout.hashing old new
 
-    -- The same through a batch of these bounds: it answers only where they know the database's state, and is stale only where not.
+    -- The same through a batch of these bounds: it answers only if they know the database's state, and is stale only if not.
     pub record ReadsThrough (bounds : Bounds) : Type 0 where
       pub readable : OnOk result (knows bounds old.commitment ≡ true)
       pub error : IfErr result (IsThroughError members (knows bounds old.commitment) old.log new.log)

@@ -34,8 +34,8 @@ pub record IsPinsError {D : Type 0} (shape : Shape) (tree : Kept D) (start size 
   pub whole : start ≤ at → at ≤ size → e ≡ errors.Memory
   pub never : (e ≢ errors.StaleBatch) × (e ≢ errors.Journal journal.Store)
 
--- why there are not all of these nodes of a batch's list, whose database is at a state that it knows or not: it is stale only where it is
--- not; else, where memory was not short, it is, and the error is the first node that is lacked
+-- why there are not all of these nodes of a batch's list, whose database is at a state that it knows or not: it is stale only if it is
+-- not; else, if memory was not short, it is, and the error is the first node that is lacked
 pub record IsNodeError {D : Type 0} (known : Bool) (at : ℕ → Option D) (positions : List ℕ) (e : Error) : Type 0 where
   pub stale : e ≡ errors.StaleRead → known ≡ false
   pub never : (e ≡ errors.Memory) ⊎ ((e ≡ errors.StaleRead) ⊎ ((p : ℕ) × (e ≡ errors.Merkle (merkle.ElementPruned p))))

@@ -16,7 +16,7 @@ use Rattle.qm_store.specs.KeptTrees.{KeptTree, IsKeptTree}
 use Rattle.qm_any.specs.Layouts.{Hashing, list_root, spellings}
 use Rattle.qm_any.specs.Databases.{Made, child_boundary, child_tips}
 
--- a floor of at most 2 ^ 62, where it is a commit
+-- a floor of at most 2 ^ 62, if it is a commit
 abbrev pub IsLow : Operation → Type 0
 IsLow op = IfSome (floor_of op) (λ floor. floor ≤ 2 ^ 62)
 
@@ -28,7 +28,7 @@ own_spellings form base tip = map (spelling form) (drop (length base) tip)
 abbrev pub IsTaken : Form → List Operation → List Operation → Type 0
 IsTaken form base tip = (too_long (own_spellings form base tip) ≡ None) × (length tip ≤ 2 ^ 62)
 
--- the error tells the size of the first spelling that is too long or, where none is, the list's size
+-- the error tells the size of the first spelling that is too long or, if none is, the list's size
 abbrev pub IsTooLong : List Bytes → ℕ → Error → Type 0
 IsTooLong spelt size e =
     ((n : ℕ) × (too_long spelt ≡ Some n) × (e ≡ errors.Journal (journal.ItemTooLarge n)))

@@ -124,7 +124,7 @@ impl<F: Family, D: Digest, U: Update> UnmerkleizedBatch<F, D, U> {
         (&self.parent, self.keep, self.writes.as_slice())
     }
 
-    /// Records a write: a value for the key, or its deletion. The last write of a key counts. Where memory lacks the batch
+    /// Records a write: a value for the key, or its deletion. The last write of a key counts. If memory lacks the batch
     /// is gone.
     pub fn write(self, key: U::Key, value: Option<U::Value>) -> Result<Self, AllocError>
         ensures { IfOk result (λ b. b
@@ -147,8 +147,8 @@ impl<F: Family, D: Digest, U: Update> UnmerkleizedBatch<F, D, U> {
         })
     }
 
-    /// The value of a key as the batch has it: that of its last write or, where it has none, the one on its base list. It
-    /// is read where the database is at a state that the batch's parent knows; the parent of a batch that was begun on a
+    /// The value of a key as the batch has it: that of its last write or, if it has none, the one on its base list. It
+    /// is read if the database is at a state that the batch's parent knows; the parent of a batch that was begun on a
     /// database is that database as it was. A key that no kept step touches takes one read of the log for each location
     /// in its bucket, at most.
     pub fn get<
@@ -302,7 +302,7 @@ impl<F: Family, D: Digest, U: Update> MerkleizedBatch<F, D, U> {
     }
 
     /// Begins a batch on the list that this one makes, which keeps this one and the first `n` that this one keeps, newest
-    /// first, or all where there are fewer.
+    /// first, or all if there are fewer.
     pub fn new_batch_keeping(
         batch: &Rc<Self>,
         alloc: Global,
@@ -324,7 +324,7 @@ impl<F: Family, D: Digest, U: Update> MerkleizedBatch<F, D, U> {
         Ok(UnmerkleizedBatch::begun(alloc, parent, keep))
     }
 
-    /// The value of a key on the list that the batch makes. It is read where the database is at a state that the batch
+    /// The value of a key on the list that the batch makes. It is read if the database is at a state that the batch
     /// knows: its tip, its boundary, or a kept ancestor's tip.
     pub fn get<
         C: Store,
@@ -633,7 +633,7 @@ impl<F: Family, D: Digest, U: Update> MerkleizedBatch<F, D, U> {
         self.bounds.inactivity_floor.get()
     }
 
-    // What a database at this state lacks of the list, where the batch can be applied to it.
+    // What a database at this state lacks of the list, if the batch can be applied to it.
     pub(crate) fn lacking(
         &self,
         alloc: Global,

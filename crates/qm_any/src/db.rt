@@ -275,7 +275,7 @@ impl<
     }
 
     /// The database as a merkleized batch, which does nothing: batches can be begun on it, and reads through it are exact
-    /// where the database is as it is now.
+    /// if the database is as it is now.
     pub fn to_batch(
         &self,
         alloc: Global,
@@ -446,7 +446,7 @@ impl<
         self.find(alloc, &Vec::new(alloc), key)
     }
 
-    // The value of a key: that of its last write or, where it has none, the one on the base list of a batch of these steps.
+    // The value of a key: that of its last write or, if it has none, the one on the base list of a batch of these steps.
     pub(crate) fn read_one(
         &mut self,
         alloc: Global,
@@ -529,7 +529,7 @@ impl<
         Ok(reads)
     }
 
-    // A batch's tree with the leaves of these operations after its own, and the root of its list with this floor, where no
+    // A batch's tree with the leaves of these operations after its own, and the root of its list with this floor, if no
     // spelling is too long and the list is not. It keeps nothing of what led to lists of fewer operations than the boundary's.
     pub(crate) fn grown(
         &mut self,
@@ -755,7 +755,7 @@ impl<
     }
 }
 
-// The value of a key that was read: that of its last write or, where it has none, the one that was found.
+// The value of a key that was read: that of its last write or, if it has none, the one that was found.
 fn value_of<F, U: Update>(
     alloc: Global,
     writes: &Writes<U::Key, U::Value>,
@@ -793,7 +793,7 @@ pub(crate) fn values_of<F, U: Update>(
     Ok(values)
 }
 
-// The database of a log that has a batch's list, where the index takes it too.
+// The database of a log that has a batch's list, if the index takes it too.
 fn indexed<
     F: Family,
     C: Store,
@@ -881,7 +881,7 @@ fn brought_up<
     apply_bits(activity, size, diffs)
 }
 
-// What a database gives back where its log refused.
+// What a database gives back if its log refused.
 fn given_back<
     F: Family,
     C: Store,

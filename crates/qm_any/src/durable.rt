@@ -65,7 +65,7 @@ impl<
 
     /// Takes the operations before a location away from the store, which keeps the digests of the peaks there, and makes all
     /// others stable first: roots, reads and later batches stay what they were. A store that starts there or after it is not
-    /// pruned. The database comes back as it was where the location is past its boundary; every other refusal gives back the
+    /// pruned. The database comes back as it was if the location is past its boundary; every other refusal gives back the
     /// store.
     pub fn prune(self, alloc: Global, loc: Location<F>) -> Result<Self, Refusal<Self, C>>
         ensures stands { (list : List Operation) → ⟦<Self as LaidOut>⟧.stands self list
@@ -97,7 +97,7 @@ impl<
         self.commit()?.cut(alloc, loc.get())
     }
 
-    // The database without what stands before a location, where all is stable.
+    // The database without what stands before a location, if all is stable.
     fn cut(self, alloc: Global, to: u64) -> Result<Self, Refusal<Self, C>>
         requires size { to ≤ self.commitment.size }
         requires stable { IfSome (C.told self.log.store) (λ s. s.stable ≡ end_of s) }
@@ -127,7 +127,7 @@ impl<
         state.over(log)
     }
 
-    /// The database whose store has nothing before a location but the digests of the peaks there, where all of it is stable:
+    /// The database whose store has nothing before a location but the digests of the peaks there, if all of it is stable:
     /// the bits stay, and a store that starts there or after it is not pruned. A refusal gives back the store.
     pub fn prune_log(self, alloc: Global, to: u64) -> Result<Self, Refusal<Self, C>>
         requires size { to ≤ self.commitment.size }
@@ -165,7 +165,7 @@ impl<
     }
 }
 
-// The database over the log that a call left, or the store where the call was refused.
+// The database over the log that a call left, or the store if the call was refused.
 fn over<
     F: Family,
     C: Store,

@@ -24,7 +24,7 @@ pub fn bits_below_the_floor_are_clear<C: Store, D>()
         → slice_index_or (all_bits layout.chunk db.activity) i false ≡ false }
 {}
 
-/// Its floor is a location of the list, and its commit exactly where no key is live.
+/// Its floor is a location of the list, and its commit exactly if no key is live.
 pub fn an_empty_database_has_its_floor_at_the_commit<C: Store, D>()
     ensures within { (layout : Layout D) (db : Database C D) (list : List Operation)
         → IsDatabase C.Store layout db list

@@ -200,7 +200,7 @@ pub fn init<
 }
 
 /// Opens the list that a store keeps as `init` does, for a database of which chunks of activity bits may be pruned. `pruned` is
-/// the number of pruned chunks and, if the family delays merges, the list size from which that many may be pruned, where that is
+/// the number of pruned chunks and, if the family delays merges, the list size from which that many may be pruned, if that is
 /// more than their own. With it the checks of a current database are made that come after its metadata, and the bits begin with
 /// that many pruned chunks. Without it the checks are those of a database that has no chunks, and the chunks below the floor are
 /// pruned.

@@ -1,4 +1,4 @@
-//! Operations of a database, and what batches put behind its list.
+//! Operations of a database, and what batches append to its list.
 
 ghost use Rattle.std.specs.Prelude.{◌≡◌, ◌⊎◌, ◌≤◌, ◌^◌, ◌+◌, ◌++◌, ℕ, None, length, map, take, option_map, All, IfOk, IfErr, OnOk};
 ghost use Rattle.qm_model.specs.Forms.{IsOf, spelling};
@@ -24,7 +24,7 @@ const MAX_OPERATIONS: u64 = 1 << 62;
 /// How many bytes the spelling of an operation has at most.
 const MAX_SPELLING: usize = 65_536;
 
-/// A copy of a shared value, where there is one.
+/// A copy of a shared value, if there is one.
 pub(crate) fn copy_of<B: ByteString>(
     alloc: Global,
     value: &Option<Rc<B>>,
@@ -72,7 +72,7 @@ pub(crate) fn shared_twin<B: ByteString>(
     }
 }
 
-// Puts the spelling of each operation behind the items.
+// Appends the spelling of each operation to the items.
 fn spell<F, U: Update>(
     alloc: Global,
     operations: &[Operation<F, U>],
@@ -163,7 +163,7 @@ pub(crate) fn unapplied_of<F, U: Update>(steps: &[Step<F, U>], size: u64) -> &[S
     steps
 }
 
-/// The spellings of what steps, newest first, put behind a list.
+/// The spellings of what steps, newest first, append to a list.
 pub(crate) fn spelled_steps<F, U: Update>(
     alloc: Global,
     steps: &[Step<F, U>],

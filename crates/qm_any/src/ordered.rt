@@ -33,7 +33,7 @@ impl<
     N: Chunks,
 > Db<F, C, I, H, U, N> {
     /// The live update whose span holds the key, with its location: the key's own, or else that of the nearest live key
-    /// before it, around the ring; none only where no key is live. It takes the reads of two buckets at most.
+    /// before it, around the ring; none only if no key is live. It takes the reads of two buckets at most.
     pub fn get_span(
         &mut self,
         alloc: Global,
@@ -125,7 +125,7 @@ impl<
 }
 
 impl<F: Family, D: Digest, U: Update> MerkleizedBatch<F, D, U> {
-    /// The nearest live key above this one on the list that the batch makes, which does not go round. It is read where `get`
+    /// The nearest live key above this one on the list that the batch makes, which does not go round. It is read if `get`
     /// can read.
     pub fn get_next_key<
         C: Store,
@@ -151,7 +151,7 @@ impl<F: Family, D: Digest, U: Update> MerkleizedBatch<F, D, U> {
         db.next_over(alloc, &self.steps, key)
     }
 
-    /// The nearest live key below this one on the list that the batch makes, which does not go round. It is read where `get`
+    /// The nearest live key below this one on the list that the batch makes, which does not go round. It is read if `get`
     /// can read.
     pub fn get_prev_key<
         C: Store,
@@ -178,7 +178,7 @@ impl<F: Family, D: Digest, U: Update> MerkleizedBatch<F, D, U> {
     }
 }
 
-// What a live update says of its key: the value and the next key, where it names one.
+// What a live update says of its key: the value and the next key, if it names one.
 fn value_and_next<F, U: Update>(found: Option<(Location<F>, U)>) -> Option<(U::Value, U::Key)>
     ensures { U.form.ordered ≡ true
         → option_map {U = Bytes × Option Bytes} (λ p. (U.Value.bytes p.0, Some (U.Key.bytes p.1)))

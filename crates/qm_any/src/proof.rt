@@ -94,7 +94,7 @@ impl<
     }
 
     /// The digests of the peaks over the first `count` operations, from left to right: what a node has to be given that
-    /// starts with the operations from there on. Where the store has these, or earlier ones, all digests are there.
+    /// starts with the operations from there on. If the store has these, or earlier ones, all digests are there.
     pub fn pinned_nodes_at(
         &self,
         alloc: Global,

@@ -98,7 +98,7 @@ impl<
         }
     }
 
-    /// The next live key of a scan's range with its value, or nothing behind the last, as `RangeScan::next` gives it, of a
+    /// The next live key of a scan's range with its value, or nothing after the last, as `RangeScan::next` gives it, of a
     /// scan that has not the database for itself. Between two calls the database stays as it is.
     pub fn scan_next(
         &mut self,
@@ -125,9 +125,9 @@ impl<
     U: Steps<F, I>,
     N: Chunks,
 > RangeScan<'_, F, C, I, H, U, N> {
-    /// The next live key of the range with its value, or nothing behind the last. A refused read, or want of memory, leaves
+    /// The next live key of the range with its value, or nothing after the last. A refused read, or want of memory, leaves
     /// all that was left, and the next call reads the same bucket again. Each call reads two buckets at most, each bucket
-    /// once where no read is refused.
+    /// once if no read is refused.
     pub fn next(&mut self) -> Option<Result<(U::Key, U::Value), Error>>
         requires { U.form.ordered ≡ true }
         ensures value { (list : List Operation)
@@ -150,7 +150,7 @@ impl<
     U: Steps<F, I>,
     N: Chunks,
 > KeyScan<'_, F, C, I, H, U, N> {
-    /// The next live key of the range, or nothing behind the last. It reads as `RangeScan::next` does.
+    /// The next live key of the range, or nothing after the last. It reads as `RangeScan::next` does.
     pub fn next(&mut self) -> Option<Result<U::Key, Error>>
         requires { U.form.ordered ≡ true }
         ensures value { (list : List Operation)

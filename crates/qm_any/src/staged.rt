@@ -47,7 +47,7 @@ impl<F: Family, D: Digest, U: Update> Model for Staged<F, D, U> {
 
 impl<F: Family, D: Digest, U: Update> UnmerkleizedBatch<F, D, U> {
     /// Reads the values of keys, as `get_many` does, and keeps what the base list has of each, so that no staged key is looked
-    /// up again. The batch is gone also where this is refused. A key that the batch's own writes have is looked up like the
+    /// up again. The batch is gone also if this is refused. A key that the batch's own writes have is looked up like the
     /// others.
     pub fn stage<
         C: Store,
@@ -84,8 +84,8 @@ impl<F: Family, D: Digest, U: Update> UnmerkleizedBatch<F, D, U> {
     /// Makes the list of the batch: its writes on its base list, then what the policy decides, then a commit with the
     /// metadata. The database is at the batch's boundary or at a kept ancestor's tip, else the batch is refused as stale;
     /// then come the first spelling of more than 65,536 bytes, and a list of more than 2^62 operations. The batch is gone
-    /// also where this is refused, and the policy may have moved on. k writes take k look-ups and k log k comparisons; each
-    /// candidate that the walk comes to takes one read of the log, where no kept step has it, and 64 locations of dead ones
+    /// also if this is refused, and the policy may have moved on. k writes take k look-ups and k log k comparisons; each
+    /// candidate that the walk comes to takes one read of the log, if no kept step has it, and 64 locations of dead ones
     /// a step; only the own operations are hashed.
     pub fn merkleize<
         C: Store,
@@ -143,7 +143,7 @@ impl<F: Family, D: Digest, U: Update> Staged<F, D, U> {
     }
 
     /// Reads the values of more keys, as `stage` does, and puts them after the staged ones; a key may be staged again. It
-    /// gives their places among these, and is gone also where this is refused.
+    /// gives their places among these, and is gone also if this is refused.
     pub fn expand<
         C: Store,
         I: qm_index::Unordered<Value = Location<F>>,

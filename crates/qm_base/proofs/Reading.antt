@@ -27,7 +27,7 @@ module _ {L : Type 0} (reads : ItemsTold L) where
   error-then later a b c e before (inr (inl (fault, failed))) = inr (inl (fault, later a b c before.keeps failed))
   error-then later a b c e before (inr (inr (n, below, is))) = inr (inr (n, subst (λ t. n < t) before.start below, is))
 
-  -- a call that answered behind its reads, or found no memory
+  -- a call that answered after its reads, or found no memory
   pub reads-short : {A : Type 0} {old new : L} {there : Type 0} (r : Result A Error) → KeepsItems reads old new → IfErr r (λ e. e ≡ errors.Memory) → ReadsItems reads old new r there
   reads-short (Ok x) left short = record { left = left; error = tt; whole = λ _. tt }
   reads-short (Err e) left short = record { left = left; error = inl short; whole = λ _ n same. memory-kept n (sym short ∙ same) }

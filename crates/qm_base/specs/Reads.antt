@@ -34,7 +34,7 @@ abbrev pub IsOfKeptItem : Error → Type 0
 IsOfKeptItem e = (n : ℕ) → e ≢ errors.Journal (journal.ItemPruned n)
 
 -- A call read items of a log: it left the log as it was. It failed for memory, for a read of its store, or at an item below the
--- start, and not so where all that it reads is there.
+-- start, and not so if all that it reads is there.
 pub record ReadsItems {L A : Type 0} (reads : ItemsTold L) (old new : L) (result : Result A Error) (there : Type 0) : Type 0 where
   pub left : KeepsItems reads old new
   pub error : IfErr result (IsItemError reads old new)

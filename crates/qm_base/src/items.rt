@@ -11,7 +11,7 @@ pub trait Items {
     /// What is told of the log.
     ghost reads: { ItemsTold Self };
 
-    /// The item at a location, where there is one.
+    /// The item at a location, if there is one.
     fn read_item(&mut self, at: u64) -> Result<Option<Vec<u8>>, Error>
         ensures value { (items : List (List ℕ)) → reads.logged self.old items
             → IfSome (reads.told self.old) (λ _.

@@ -1,4 +1,4 @@
--- What is ahead of a scan: the pairs of a bucket, and what is behind it.
+-- What is ahead of a scan: the pairs of a bucket, and what comes after it.
 use Rattle.std.proofs.Common.{◌≡◌, ◌∙◌, refl, sym, ap, subst, ℕ, ◌≤◌, ◌<◌, Bool, true, false, List, [], ◌∷◌, ◌++◌, map, Option, Some, None, ◌&&◌, ◌||◌, inl, inr, arith}
 use Rattle.std.specs.Prelude.{filter, filter_map, fold, option_map, All, ◌==◌, nat_lt, nat_le, not}
 use Rattle.std.specs.Map.{keys_of}
@@ -28,7 +28,7 @@ use Rattle.qm_batch.specs.Scans.{BeginsAt, Place, beginning, behind, nowhere, ah
 use Rattle.qm_batch.proofs.Buckets.{bucket-firsts, bucket-pairs, firsts}
 use Rattle.qm_batch.proofs.Cuts.{cut, each-has, filter-agrees, filter-fails, from-number, to-number}
 
--- a key that is above where a range begins is behind it, and one that is below it is not
+-- a key that is above where a range begins is after it, and one that is below it is not
 above-begins : (key : Bytes) (low : Limit) (x : Bytes) → BeginsAt key low → key_lt key x ≡ true → is_after low x ≡ true
 above-begins key low x (inl is) above = ap (λ l. is_after l x) is ∙ not-true (key_lt x key) (lt-back rises key x above)
 above-begins key low x (inr is) above = ap (λ l. is_after l x) is ∙ above
@@ -88,7 +88,7 @@ module _ (index_key : Bytes → ℕ) (entries : List (ℕ × List ℕ)) (index :
       let found = from-number index_key (live_keys list) n (sym (numbers-same n) ∙ at) in
       (found.0, contains-by_key (live_keys list) found.0 ∙ found.1, found.2)
 
-  -- where no key is ahead nothing is
+  -- if no key is ahead nothing is
   over : (low high : Limit) (place : Place) → ((x : Bytes) → Has keys x → is_ahead index_key low place x ≡ false) → ahead_of index_key low high place list ≡ []
   over low high place none = ap (filter_map (valued list)) (filter-fails (λ k. is_ahead index_key low place k && is_before high k) keys (λ x at. and-left (is_ahead index_key low place x) (is_before high x) (none x at)))
 
@@ -123,7 +123,7 @@ module _ (index_key : Bytes → ℕ) (entries : List (ℕ × List ℕ)) (index :
           wraps : false ≡ true → ⊥
           wraps e = cc
 
-  -- no location of these buckets is below a log's start where no live update is
+  -- no location of these buckets is below a log's start if no live update is
   pub first-above : (locations : List ℕ) (start : ℕ) → Some locations ≡ option_map (bucket_at entries) (least_key numbers) → NoneBelow start list → All (λ at. start ≤ at) locations
   first-above locations start h none = by (least_key numbers) h
     where
@@ -166,7 +166,7 @@ module _ (index_key : Bytes → ℕ) (entries : List (ℕ × List ℕ)) (index :
       abbrev later : Bytes → Bool
       later k = nat_lt n (index_key k) && is_before high k
 
-      -- the pairs of the bucket in a range, and behind them those of later ones
+      -- the pairs of the bucket in a range, and after them those of later ones
       split : (own : Limit) (low : Limit) (place : Place) →
           ((x : Bytes) → Has keys x → is_ahead index_key low place x && is_before high x ≡ ((index_key x == n) && is_in own high x) || later x) →
           ahead_of index_key low high place list ≡ fold (put_at own high list) [] (bucket_at entries n) ++ filter_map (valued list) (filter later keys)
@@ -186,7 +186,7 @@ module _ (index_key : Bytes → ℕ) (entries : List (ℕ × List ℕ)) (index :
               lower : index_key x ≡ n → n < index_key y → index_key x < index_key y
               lower at above = omega (arith, at, above)
 
-      -- behind a bucket without keys before the end there are none
+      -- after a bucket without keys before the end there are none
       ends : has numbers n ≡ true → fold (put_at unlimited high list) [] (bucket_at entries n) ≡ [] → filter later keys ≡ []
       ends at none = filter-fails later keys (λ x in_keys. false-not (later x) (λ passes.
           let own = has-number n at in
@@ -253,7 +253,7 @@ module _ (index_key : Bytes → ℕ) (entries : List (ℕ × List ℕ)) (index :
             (sym (same_Some locations (bucket_at entries n) found))
             (comes n high unlimited beginning least.0 (λ x in_keys. sym (upto n (index_key x) (least.1 (index_key x) (number-has x in_keys)))))
 
-    -- the bucket behind a key's
+    -- the bucket after a key's
     pub next-bucket : (low high : Limit) (key : Bytes) (locations : List ℕ) → Some (locations, false) ≡ neighbour_at entries (next_key numbers (index_key key)) →
         ahead_of index_key low high (behind key) list ≡ fold (put_at unlimited high list) [] locations ++ ahead_of index_key low high (behind_first (fold (put_at unlimited high list) [] locations)) list
     next-bucket low high key locations h =

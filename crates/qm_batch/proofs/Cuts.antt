@@ -47,8 +47,8 @@ pub filter-fails : (p : Bytes → Bool) (ks : List Bytes) → ((x : Bytes) → H
 filter-fails p [] h = refl
 filter-fails p (k ∷ ks) h = ap (λ t. cond t (k ∷ filter p ks) (filter p ks)) (h k (Has-first k ks)) ∙ filter-fails p ks (λ x at. h x (Has-later k ks x at))
 
--- of keys in order, those that pass one of two tests: those that pass the first and behind them those that pass the second,
--- where each of those is below each of these
+-- of keys in order, those that pass one of two tests: those that pass the first and after them those that pass the second,
+-- if each of those is below each of these
 pub cut : (p q : Bytes → Bool) (ks : List Bytes) → NeverFalls ks → ((x y : Bytes) → Has ks x → Has ks y → p x ≡ true → q y ≡ true → key_lt x y ≡ true) →
     filter (λ k. p k || q k) ks ≡ filter p ks ++ filter q ks
 cut p q [] up low = refl
@@ -64,7 +64,7 @@ cut p q (k ∷ ks) up low = by (p k) (q k) refl refl (cut p q ks up.1 (λ x y a 
         ap (λ xs. k ∷ xs) (later ∙ ap (λ xs. xs ++ filter q ks) none) ∙ sym (ap (λ xs. xs ++ k ∷ filter q ks) none)
     by false false is at later = later
 
--- keys that rise still do where some are left out
+-- keys that rise still do if some are left out
 pub rising-filter : (p : Bytes → Bool) (ks : List Bytes) → IsStrictlySortedBy (slice_cmp nat_cmp) ks → IsStrictlySortedBy (slice_cmp nat_cmp) (filter p ks)
 unfolding IsStrictlySortedBy
 rising-filter p [] up = tt

@@ -19,7 +19,7 @@ pub ok-two : {X E : Type 0} (r : Result X E) {P Q R : X → Type 0} → IfOk r P
 ok-two (Ok x) p q give = give x p q
 ok-two (Err e) p q give = tt
 
--- behind a key is not where a range begins
+-- the place after a key is not the one where a range begins
 pub behind-begun : (key : Bytes) → behind key ≡ beginning → ⊥
 behind-begun key e = cc
 
@@ -53,7 +53,7 @@ module _ (index_key : Bytes → ℕ) (list : List Operation) where
       ∙ sym (ap (λ r. r ++ ahead_of index_key fields.low fields.high fields.place list) (ap (λ s. s.ready) is ∙ empty))
       ∙ ap (λ s. left_of index_key s list) is
 
-  -- it has nothing left where that is nothing and it reads nowhere
+  -- it has nothing left if that is nothing and it reads nowhere
   pub ended : (low high : Limit) (place : Place) (ready : List Pair) → ready ≡ [] → place ≡ nowhere → left_of index_key (record { low = low; high = high; place = place; ready = ready }) list ≡ []
   ended low high place ready none over = ap₂ (λ r p. r ++ ahead_of index_key low high p list) none over ∙ nothing-left index_key low high list
 
@@ -88,7 +88,7 @@ pub told-two : {X : Type 0} (o : Option X) {P Q R : X → Type 0} → IfSome o P
 told-two None p q then = tt
 told-two (Some x) p q then = then x p q
 
--- behind the first pair, where there is one
+-- after the first pair, if there is one
 pub behind-some : {K V : Type 0} (key : K → Bytes) (value : V → Bytes) (pairs : List (K × V)) (p : K × V) → slice_get pairs 0 ≡ Some p → behind (key p.0) ≡ behind_first (map (pair_view key value) pairs)
 behind-some key value [] p is = cc
 behind-some key value (q ∷ ps) p is = ap (λ (x : _ × _). behind (key x.0)) (sym (same_Some q p is))

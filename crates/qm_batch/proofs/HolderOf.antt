@@ -91,7 +91,7 @@ module _ (index_key : Bytes → ℕ) (entries : List (ℕ × List ℕ)) (list : 
           ap (λ o. option_and_then (update_of list) (option_or o behind)) (below_key gone)
           ∙ sym (ap (λ o. option_or o (option_and_then (update_of list) (option_or (last_key (excluded key) own) behind))) (dead-update list key gone))
 
--- where layers do nothing to a key, its holder is that of the lent list, or else the nearer one before it
+-- if layers do nothing to a key, its holder is that of the lent list, or else the nearer one before it
 module _ (layers : List Layer) (lent base : List Operation) (is : LeadOver layers lent base) (ring_lent : IsRing lent) (ring_base : IsRing base) (key : Bytes) (none : nearest_layer layers key ≡ None) where
   pub holder-nearer : own_or_nearer layers key (option_or (update_of lent key) (previous_of lent key)) ≡ option_or (update_of base key) (previous_of base key)
   holder-nearer = by (contains_key (live_keys lent) key) refl ∙ ap (λ o. option_or o (previous_of base key)) (sym (lent-update layers lent base is key (sym none)))
@@ -116,7 +116,7 @@ module _ (layers : List Layer) (lent base : List Operation) (is : LeadOver layer
           subst (λ o. own_or_nearer layers key (option_or o (previous_of lent key)) ≡ option_or o (previous_of base key)) (sym (dead-update lent key gone))
           (passed gone (predecessor (live_keys lent) key) refl ∙ sym (previous-nearer layers lent base is ring_lent ring_base key))
 
--- the key behind a key around the ring, where it is above it, and the one before, where it is below
+-- the key after a key around the ring, if it is above it, and the one before, if it is below
 abbrev above : List Bytes → Bytes → List Bytes
 above keys key = filter (λ k. key_lt key k) keys
 
@@ -200,7 +200,7 @@ module _ (form : Form) (bytes : (bs : Bytes) → form.is_key bs ≡ true → Are
       (found ∙ ap₂ (λ x y. lent_before index_key entries lent x (included y)) first second ∙ lent-upto index_key entries lent key ∙ ap (option_or (update_of lent key)) before)
       ∙ holder-nearer layers lent base from ring_lent ring_base key none ∙ sym (holder-own base key)
 
--- the key's own live update is the holder, and where there is none, it is the one before
+-- the key's own live update is the holder, and if there is none, it is the one before
 pub holder-some : {T : Type 0} (view : T → ℕ × Operation) (list : List Operation) (key : Bytes) (o : Option T) (x : T) (found : Option (ℕ × Operation)) → update_of list key ≡ found → option_map view o ≡ found → o ≡ Some x → Some (view x) ≡ holder_of list key
 holder-some view list key o x found own is some =
     sym (holder-own list key ∙ ap (λ u. option_or u (previous_of list key)) (own ∙ sym is ∙ ap (option_map view) some))

@@ -31,7 +31,7 @@ pub said-there : {A : Type 0} (view : A → Operation) (ops : List A) (list : Li
 said-there view ops list i n op same place is =
     ap (λ l. update_at l n) (sym same) ∙ ap (update_at (map view ops)) (sym place) ∙ ap (option_and_then said_by) (slice_get-map view ops i ∙ ap (option_map view) is)
 
--- and at a place behind them
+-- and at a place after them
 pub none-there : {A : Type 0} (view : A → Operation) (ops : List A) (list : List Operation) (i n : ℕ) → map view ops ≡ list → i ≡ n → slice_get ops i ≡ None → update_at list n ≡ None
 none-there view ops list i n same place is =
     ap (λ l. update_at l n) (sym same) ∙ ap (update_at (map view ops)) (sym place) ∙ ap (option_and_then said_by) (slice_get-map view ops i ∙ ap (option_map view) is)

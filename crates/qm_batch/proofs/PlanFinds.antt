@@ -25,7 +25,7 @@ use Rattle.qm_step.proofs.Reading.{in-bucket, own-bucket}
 use Rattle.qm_step.proofs.Standing.{live-stands, live-of_key}
 use Rattle.qm_index.proofs.Basics.{or-later}
 
--- the operation at a location, where a layer has it
+-- the operation at a location, if a layer has it
 abbrev pub found_in : List Layer → ℕ → Option Operation
 found_in [] at = None
 found_in (layer ∷ layers) at = if leb layer.base at then slice_get layer.operations (at - layer.base) else found_in layers at
@@ -103,7 +103,7 @@ pub match-shown : {X : Type 0} (f : X → Operation) (r : Option X) (o at_base a
 match-shown f None o at_base at_lent same h = subst (λ o. MatchOption o (at_base ≡ at_lent) (λ op. at_base ≡ Some op)) (sym same) h
 match-shown f (Some x) o at_base at_lent same h = subst (λ o. MatchOption o (at_base ≡ at_lent) (λ op. at_base ≡ Some op)) (sym same) h
 
--- a location is in its bucket where the key of the update there stands there
+-- a location is in its bucket if the key of the update there stands there
 module _ (index_key : Bytes → ℕ) (entries : List (ℕ × List ℕ)) (layers : List Layer) (lent base : List Operation) (indexed : IsIndexed index_key entries lent) (from : LeadOver layers lent base)
     (key value : Bytes) (next : Option Bytes) (at : ℕ) (is : update_at base at ≡ Some (update key value next)) where
   within-lent : (said : Operation) → update_at lent at ≡ Some said → said ≡ update key value next
@@ -158,7 +158,7 @@ place-there : (o : Option (ℕ × Bytes)) (at : ℕ) → is_there o at ≡ true 
 place-there None at h = absurd (true≢false (sym h))
 place-there (Some p) at h = ap (λ n. Some n) (eqb-true p.0 at h)
 
--- what is left of the update at a location of the base list, with operations behind that
+-- what is left of the update at a location of the base list, with operations after that
 module _ (base : List Operation) (made : List Touch) (at : ℕ) (within : at < length base) (found : Option Operation) (said : found ≡ update_at base at) where
   abbrev own : List Operation
   own = operations_of made

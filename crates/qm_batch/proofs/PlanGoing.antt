@@ -31,7 +31,7 @@ pub spaced-above : (from a b : ℕ) (xs : List ℕ) → a ≤ b → IsSpaced fro
 spaced-above from a b [] above h = omega (arith, above, h)
 spaced-above from a b (x ∷ xs) above h = let high = h.1 in (h.0, omega (arith, above, high), spaced-above (x + 1) a b xs above h.2)
 
--- what is dead up to one, and between the ones behind it
+-- what is dead up to a location, and from there on
 pub dead-then : (list : List Operation) (a b to : ℕ) → AreDead list a b → AreDead list b to → AreDead list a to
 dead-then list a b to first later = λ i low high. ⊎_elim (λ below. first i low below) (λ above. later i above high) (cases_lt i b)
 
@@ -39,7 +39,7 @@ pub between-then : (list : List Operation) (a b to : ℕ) (xs : List ℕ) → Ar
 between-then list a b to [] first h = dead-then list a b to first h
 between-then list a b to (x ∷ xs) first h = (dead-then list a b x first h.0, h.1)
 
--- where nothing is live
+-- if nothing is live
 pub dead-here : (list : List Operation) (at : ℕ) → None ≡ live_update_at list at → AreDead list at (at + 1)
 dead-here list at none = λ i low high. subst (λ n. live_update_at list n ≡ None) (sym (same i low high)) (sym none)
   where
@@ -269,7 +269,7 @@ pub same-end : {F : Type 0} (on : Bool) (w next : Walk F) → next ≡ (if on th
 same-end true w next is = ap (λ (x : Walk _). x.end) is
 same-end false w next is = ap (λ (x : Walk _). x.end) is
 
--- the first of two facts, where it is chosen
+-- the first of two facts, if it is chosen
 pub chosen : (b : Bool) (P Q R : Type 0) → MatchBool b P R → (b ≡ true → P → Q) → MatchBool b Q R
 chosen true P Q R h next = next refl h
 chosen false P Q R h next = h

@@ -1,4 +1,4 @@
--- Live updates of a base list and the operations behind it.
+-- Live updates of a base list and the operations after it.
 use Rattle.std.proofs.Common.{◌≡◌, ℕ, ◌+◌, ◌-◌, ◌≤◌, Bool, true, false, true≢false, List, ◌++◌, length, map, drop, refl, ap, sym, ◌∙◌, subst, Option, Some, None, arith, length-append}
 use Rattle.std.specs.Prelude.{option_map, option_and_then, All, slice_get, IfSome, not, if◌then◌else◌}
 use Rattle.std.proofs.lemmas.Bool.{eqb-true}
@@ -51,7 +51,7 @@ live_update-next list at k v n h = by (update_at list at) refl (sym (live_update
     by (Some (delete k2)) is h = cc
     by (Some (commit m f)) is h = cc
 
--- how long a list with operations behind a base list is
+-- how long a list with operations after a base list is
 pub made-long : {A : Type 0} (f : A → Touch) (base list : List Operation) (made : List A) → base ++ operations_of (map f made) ≡ list → length list ≡ length base + length made
 made-long f base list made makes =
     let whole : length (base ++ operations_of (map f made)) ≡ length list = ap length makes in
@@ -62,7 +62,7 @@ touches-said (update k v n) said key h = ap (touches key) (sym (same_Some (updat
 touches-said (delete k) said key h = cc
 touches-said (commit m f) said key h = cc
 
--- the move of an update among operations behind a base list
+-- the move of an update among operations after a base list
 module _ (base list : List Operation) (made : List Touch) (makes : base ++ operations_of made ≡ list) (once : Once (operations_of made)) (at : ℕ) (past : length base ≤ at) where
   said-there : live_update_at list at ≡ option_and_then said_by (option_map (λ (t : Touch). t.operation) (slice_get made (at - length base)))
   said-there =

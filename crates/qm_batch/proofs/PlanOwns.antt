@@ -1,4 +1,4 @@
--- The own operations of a step: those of its writes, and those of what was decided behind them.
+-- The own operations of a step: those of its writes, and those of what was decided after them.
 use Rattle.std.proofs.Common.{◌≡◌, ℕ, Bool, true, ◌+◌, ◌-◌, cond, List, [], ◌∷◌, ◌++◌, length, length-append, map, count_by, refl, ap, ap₂, sym, ◌∙◌, subst, Option, None, Some, arith, append_assoc}
 use Rattle.std.specs.Prelude.{bytes_eq, is_none, is_some, option_map, All}
 use Rattle.std.specs.List.{IsDistinct}
@@ -101,7 +101,7 @@ pub decided-apart : {P : Type 0} (rules : Rules P) (base list : List Operation) 
 decided-apart {P} rules base list from limits policy next ds end are =
     subst (λ (us : List Write). IsDistinct bytes_eq (map (λ (d : Write). d.key) us)) (sym (ap (λ (x : Walked P). x.decisions) are.makes)) (decided-once rules list from limits policy)
 
--- the operations of writes stand behind a base list and make the one with them
+-- the operations of writes stand after a base list and make the one with them
 pub written-behind : (kind : Kind) (known : Base) (made : List Touch) (lent base : List Operation) (ws : List Write) → IsBase known lent base → AreWritten kind base ws made → AreBehind known made lent base (base ++ kind.writes base ws)
 written-behind kind known made lent base ws is written replaced are = record {
   known = is;
@@ -124,7 +124,7 @@ evicted-shown {K} {V} key value (d ∷ ds) =
     none None = refl
     none (Some v) = refl
 
--- a list's operations with one behind them, as the program has them
+-- a list's operations with one after them, as the program has them
 pub operations-push : {A O : Type 0} (view : O → Operation) (f : A → Touch) (operation : A → O) (same : (a : A) → (f a).operation ≡ view (operation a)) (touches : List A) (made all : List O) (last : O) (op : Operation) →
     made ≡ map operation touches → all ≡ made ++ last ∷ [] → view last ≡ op → map view all ≡ operations_of (map f touches) ++ op ∷ []
 operations-push {A} view f operation same touches made all last op is pushed shown =

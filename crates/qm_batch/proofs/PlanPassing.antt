@@ -68,7 +68,7 @@ module _ {P : Type 0} (rules : Rules P) (list : List Operation) where
       let place : f + (at - f) ≡ at = omega arith in
       pass (at - f) f e s p (omega arith) (λ i from to. dead i from (omega arith)) enough ∙ ap (λ g. onward g (suc e) (s - (at - f)) p) place
 
-  -- where the skips do not reach, the walk ends
+  -- if the skips do not reach, the walk ends
   pub falls_short : (f at e s : ℕ) (p : P) → f ≤ at → at ≤ length list → AreDead f at → s < at - f → walk_from rules (drop f list) f (suc e) s p ≡ ended (f + s) p
   falls_short f at e s p order within dead short = fall s f e p (omega arith) (λ i from to. dead i from (omega arith))
 

@@ -51,7 +51,7 @@ module _ (bs : List Bool) (from tip limit : ℕ) (old new round : List ℕ) (nex
             let last = whole (omega (arith, short, some)) in
             omega (arith, last, top, high)
 
--- between the candidates of a base list and the operations behind it nothing is live
+-- between the candidates of a base list and the operations after it nothing is live
 pub path-dead : (path : Path) (lent base list : List Operation) (from to : ℕ) (round : List ℕ) → IsPath path lent base list → candidates (bits lent) from to ≡ round → AreDeadBetween list from round to
 path-dead path lent base list from to round on is =
     let leads = (on.known).leads in

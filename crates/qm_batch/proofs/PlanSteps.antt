@@ -20,7 +20,7 @@ floor-last f (commit m2 f2 ∷ rest) m g = floor-last f2 rest m g
 commit-change : (base own : List Operation) (m : Option Bytes) (f : ℕ) (q : Bytes) → change_of base ((base ++ own) ++ commit m f ∷ []) q ≡ change_of base (base ++ own) q
 commit-change base own m f q = change-push base own q (commit m f)
 
--- the plan of own operations with a commit behind them
+-- the plan of own operations with a commit after them
 pub own-plan : (base own : List Operation) (changes : Changes) (live_keys place end : ℕ) (meta : Option Bytes) → live_keys ≡ length (live (base ++ own)) → place ≡ (if live_keys == 0 then length (base ++ own) else end) →
     AreChanges changes base (base ++ own) →
     IsPlan (record { operations = own ++ commit meta place ∷ []; changes = changes; floor = place; live = live_keys }) base (committed (base ++ own) end meta)

@@ -103,7 +103,7 @@ module _ (layers : List Layer) (lent base : List Operation) (is : LeadOver layer
       by (Some p) near = layer-update layers lent base is x p.0 p.1 (sym near)
 
   module _ (ring_lent : IsRing lent) (ring_base : IsRing base) (key : Bytes) where
-    -- where layers do nothing to the key before another in the base list, it is the one before in the lent list too, since it names
+    -- if layers do nothing to the key before another in the base list, it is the one before in the lent list too, since it names
     -- the same next key in both
     stays-before : (p : Bytes) → predecessor (live_keys base) key ≡ Some p → nearest_layer layers p ≡ None → predecessor (live_keys lent) key ≡ Some p
     stays-before p before none =
@@ -127,7 +127,7 @@ module _ (layers : List Layer) (lent base : List Operation) (is : LeadOver layer
     abbrev left : Option Bytes
     left = predecessor (left_keys layers) key
 
-    -- where they do, it is the one before among the keys to which they leave a live update
+    -- if they do, it is the one before among the keys to which they leave a live update
     moved-before : (p : Bytes) (near : Layer × Change) → predecessor (live_keys base) key ≡ Some p → nearest_layer layers p ≡ Some near → left ≡ Some p
     moved-before p near before changed =
         let previous = predecessor-is (live_keys base) key p before in
@@ -151,7 +151,7 @@ module _ (layers : List Layer) (lent base : List Operation) (is : LeadOver layer
             (sym (predecessor-append (n ∷ []) (live_keys base) key n p (predecessor-only n key) before ∙ ap (λ t. Some (if t then p else n)) e)
             ∙ predecessor-same ((n ∷ []) ++ live_keys base) (live_keys base) key same ∙ before)))
 
-    -- the lent list's live update before the key, where there is one
+    -- the lent list's live update before the key, if there is one
     lent-own : (q : Bytes) → predecessor (live_keys lent) key ≡ Some q → (p : ℕ × Operation) × (update_of lent q ≡ Some p) × (said_key p.1 ≡ q)
     lent-own q before = live-some lent q (predecessor-is (live_keys lent) key q before).has
 
@@ -161,7 +161,7 @@ module _ (layers : List Layer) (lent base : List Operation) (is : LeadOver layer
       | Some found ↦ if is_nearest layers key by_layers (said_key found.1) then Some found else option_and_then (left_by layers) by_layers
     ])
 
-    -- what is found by layers, where the lent list's is not nearer
+    -- what is found by layers, if the lent list's is not nearer
     by-layers : (in_base in_lent by_layers : Option Bytes) → option_and_then (update_of base) in_base ≡ option_and_then (left_by layers) by_layers → predecessor (live_keys lent) key ≡ in_lent →
         ((q : Bytes) → in_lent ≡ Some q → is_nearest layers key by_layers q ≡ false) → Nearer in_base in_lent by_layers
     by-layers in_base None by_layers found before farther = found
@@ -182,7 +182,7 @@ module _ (layers : List Layer) (lent base : List Operation) (is : LeadOver layer
         ])) (sym own.1)
         (same ∙ own.1 ∙ sym (ap (λ t. if t then Some own.0 else option_and_then (left_by layers) by_layers) (ap (is_nearest layers key by_layers) own.2 ∙ nearer)))
 
-    -- a key that layers pass by is live in the base list where it is in the lent one
+    -- a key that layers pass by is live in the base list if it is in the lent one
     abbrev IsPassed : Option Bytes → Bytes → Type 0
     IsPassed None q = ⊥
     IsPassed (Some n) q = between n key q ≡ false

@@ -12,7 +12,7 @@ use Rattle.qm_step.specs.Bases.{Base, IsBase, base_view}
 use Rattle.qm_step.specs.PlanViews.{touch_views}
 use Rattle.qm_step.specs.Touches.{Touch, AreReplaced, IsFrom, IsKeyed, Once, operations_of}
 
--- what a walk goes over: what is known of a base list, the operations that are put behind it, and the locations of the base
+-- what a walk goes over: what is known of a base list, the operations that are put after it, and the locations of the base
 -- list whose live updates these replace
 pub record Path : Type 0 where
   pub base : Base
@@ -28,7 +28,7 @@ pub record IsPath (path : Path) (lent base list : List Operation) : Type 0 where
   pub once : Once (operations_of path.made)
   pub replaced : AreReplaced path.replaced path.made
 
--- these operations stand behind a base list of which this is known, and make this list: with the locations that they replace
+-- these operations stand after a base list of which this is known, and make this list: with the locations that they replace
 -- they are what a walk goes over
 abbrev pub AreBehind : Base → List Touch → (lent base list : List Operation) → Type 0
 AreBehind known made lent base list = (replaced : BTreeSet ℕ) → AreReplaced replaced made → IsPath (record { base = known; made = made; replaced = replaced }) lent base list

@@ -8,7 +8,7 @@ use Rattle.qm_batch.specs.Gathered.{Pair}
 use Rattle.qm_batch.specs.declared.scan.Place.{Place as Held}
 use Rattle.qm_batch.specs.declared.scan.Place.TheVariants as held
 
--- where a scan reads next: where its range begins, behind the bucket of a key, or nowhere
+-- where a scan reads next: where its range begins, after the bucket of a key, or nowhere
 pub data Place : Type 0 where
   beginning : Place
   behind : Bytes → Place
@@ -19,7 +19,7 @@ place_view key (held.Beginning) = beginning
 place_view key (held.Behind k) = behind (key k)
 place_view key (held.Nowhere) = nowhere
 
--- behind the bucket of the first of the pairs, or nowhere
+-- after the bucket of the first of the pairs, or nowhere
 abbrev pub behind_first : List Pair → Place
 behind_first [] = nowhere
 behind_first (p ∷ ps) = behind p.0
@@ -31,7 +31,7 @@ pub record Scanning : Type 0 where
   pub place : Place
   pub ready : List Pair
 
--- a range begins at this key, with it or behind it
+-- a range begins at this key, with it or after it
 abbrev pub BeginsAt : Bytes → Limit → Type 0
 BeginsAt key low = (low ≡ included key) ⊎ (low ≡ excluded key)
 
@@ -58,19 +58,19 @@ module _ (index_key : Bytes → ℕ) where
   abbrev pub left_of : Scanning → List Operation → List Pair
   left_of scan list = scan.ready ++ ahead_of scan.low scan.high scan.place list
 
--- what a scan gives, of what it had left and what it has left then: the first, nothing where nothing was left, or an error,
+-- what a scan gives, of what it had left and what it has left then: the first, nothing if nothing was left, or an error,
 -- which leaves it all
 abbrev pub IsStep : {T X E : Type 0} → (T → X) → List X → List X → Option (Result T E) → Type 0
 IsStep view before after None = (before ≡ []) × (after ≡ [])
 IsStep view before after (Some (Ok t)) = before ≡ view t ∷ after
 IsStep view before after (Some (Err e)) = after ≡ before
 
--- the first of the pairs that a scan has ready, which it then has no longer, or nothing where it has none
+-- the first of the pairs that a scan has ready, which it then has no longer, or nothing if it has none
 abbrev pub IsTaken : {T : Type 0} → (T → Pair) → Scanning → Scanning → Option T → Type 0
 IsTaken view before after None = (before.ready ≡ []) × (after ≡ before)
 IsTaken view before after (Some t) = before ≡ record after { ready = view t ∷ after.ready }
 
--- what stands with a flag, where that is not set
+-- what stands with a flag, if that is not set
 abbrev pub unwrapped : {T : Type 0} → Option (T × Bool) → Option T
 unwrapped None = None
 unwrapped (Some p) = if p.1 then None else Some p.0

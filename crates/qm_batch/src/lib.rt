@@ -1,4 +1,4 @@
-//! What a batch puts behind an operation list, found over an index and a log that are lent for a list on the way to it.
+//! What a batch appends to an operation list, found over an index and a log that are lent for a list on the way to it.
 #![tactic(auto)]
 
 pub mod apply;

@@ -27,7 +27,7 @@ use std::alloc::Global;
 use std::ops::Bound;
 use std::rc::Rc;
 
-/// The live update of the nearest key before this one in the base list, around the ring, with its location; none where no
+/// The live update of the nearest key before this one in the base list, around the ring, with its location; none if no
 /// key is live. Index and log are lent for the base list or a list on the way to it. It takes the reads of two buckets at
 /// most.
 pub fn previous<F, I: qm_index::Unordered<Value = Location<F>>, L: Items, U: Steps<F, I>>(
@@ -57,7 +57,7 @@ pub fn previous<F, I: qm_index::Unordered<Value = Location<F>>, L: Items, U: Ste
 }
 
 /// The live update of the base list whose span holds the key, with its location: the key's own, or else the one before it,
-/// around the ring; none where no key is live.
+/// around the ring; none if no key is live.
 pub fn holder<F, I: qm_index::Unordered<Value = Location<F>>, L: Items, U: Steps<F, I>>(
     alloc: Global,
     index: &I,
@@ -157,7 +157,7 @@ fn nearer<F, U: Update>(
     }
 }
 
-// Whether layers do nothing to a key, and leave none live between it and the key behind it.
+// Whether layers do nothing to a key, and leave none live between it and the key after it.
 fn is_nearest<F, U: Update>(
     layers: &[Rc<Layer<F, U>>],
     key: &[u8],
@@ -177,7 +177,7 @@ fn is_nearest<F, U: Update>(
     }
 }
 
-// The lent list's update, where it is the key's own, or else the nearer one.
+// The lent list's update, if it is the key's own, or else the nearer one.
 fn own_or_nearer<F, U: Update>(
     alloc: Global,
     layers: &[Rc<Layer<F, U>>],

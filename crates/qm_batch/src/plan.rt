@@ -45,7 +45,7 @@ use std::marker::Model;
 /// What a batch makes of its base list.
 #[derive(Drop)]
 pub struct Plan<F, U: Update> {
-    /// What stands behind the base list.
+    /// What follows the base list.
     pub operations: Vec<Operation<F, U>>,
     /// What the operations do to keys.
     pub diff: Diff<F, U::Key, U::Value>,
@@ -102,7 +102,7 @@ fn updated<F, U: Update>(touches: &[Touch<F, U>]) -> usize
     count
 }
 
-// How many keys are live behind the operations of writes, where so many were live before them.
+// How many keys are live after the operations of writes, if so many were live before them.
 fn live_behind<F, U: Update>(touches: &[Touch<F, U>], live: u64) -> u64
     requires { live ≤ 2 ^ 62 }
     ensures value { result
@@ -113,7 +113,7 @@ fn live_behind<F, U: Update>(touches: &[Touch<F, U>], live: u64) -> u64
     live.saturating_sub(stood(touches) as u64) + updated(touches) as u64
 }
 
-// How many operations those of writes make inactive, where so many keys were live before them and are behind them.
+// How many operations those of writes make inactive, if so many keys were live before them and so many are after them.
 fn made_inactive<F, U: Update>(touches: &[Touch<F, U>], live: u64, behind: u64) -> u64
     requires { live ≤ 2 ^ 62 }
     ensures { result ≡ length touches.now + live - behind }
@@ -121,7 +121,7 @@ fn made_inactive<F, U: Update>(touches: &[Touch<F, U>], live: u64, behind: u64) 
     (touches.len() as u64 + live).saturating_sub(behind)
 }
 
-// The own operations of a step whose walk is over: those of the writes, and what was decided, with so many keys live behind
+// The own operations of a step whose walk is over: those of the writes, and what was decided, with so many keys live after
 // the writes.
 fn own_of<F, I: qm_index::Unordered<Value = Location<F>>, L: Items, U: Steps<F, I>>(
     alloc: Global,
@@ -245,7 +245,7 @@ fn own_operations<
     own_along(alloc, index, candidates, log, base, made, policy)
 }
 
-// The floor of a commit at this location: where the walk ended, or the location where no key is live.
+// The floor of a commit at this location: where the walk ended, or the location if no key is live.
 fn commit_floor(live: u64, at: u64, end: u64) -> u64
     ensures { result ≡ (if live == 0 then at else end) }
 {
@@ -268,7 +268,7 @@ fn operations_in<F, U: Update>(
     Ok(operations)
 }
 
-// The plan of own operations, with a commit behind them.
+// The plan of own operations, with a commit after them.
 fn planned<F, U: Update>(
     alloc: Global,
     size: u64,
@@ -302,8 +302,8 @@ fn planned<F, U: Update>(
 
 /// What writes and metadata make of the base list of a batch: the operations of the writes, then what the policy decides
 /// of the live updates from the floor on, then a commit. Index, log and candidates are lent for the base list or a list on
-/// the way to it. Each write takes one look-up; each candidate that the walk comes to takes one read, where no layer has it.
-/// Where this is refused the policy may have moved on.
+/// the way to it. Each write takes one look-up; each candidate that the walk comes to takes one read, if no layer has it.
+/// If this is refused the policy may have moved on.
 #[allow(clippy::too_many_arguments)]
 pub fn plain<
     F,
@@ -354,7 +354,7 @@ pub fn plain<
     )
 }
 
-/// What the writes that are wanted make of the base list of a batch, as `plain` has it of writes, where the keys that were
+/// What the writes that are wanted make of the base list of a batch, as `plain` has it of writes, but the keys that were
 /// read are not looked up again: neither index nor log is asked for them.
 #[allow(clippy::too_many_arguments)]
 pub fn staged<

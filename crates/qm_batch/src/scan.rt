@@ -1,4 +1,4 @@
-//! Scans of ranges of an ordered list in key order, which read a bucket where they have nothing left that is read.
+//! Scans of ranges of an ordered list in key order, which read a bucket if they have nothing left that is read.
 
 ghost use Rattle.std.specs.Prelude.{◌≡◌, ◌≢◌, ◌≤◌, true, List, [], fold, map, option_map, All, IfSome, IfOk, OnOk};
 ghost use Rattle.qm_model.specs.Forms.{IsOf, spelling};
@@ -23,7 +23,7 @@ use std::collections::VecDeque;
 use std::marker::Model;
 use std::ops::Bound;
 
-// Where a scan reads next: where its range begins, behind the bucket of a key, or nowhere.
+// Where a scan reads next: where its range begins, after the bucket of a key, or nowhere.
 #[derive(Drop)]
 pub enum Place<K> {
     Beginning,
@@ -77,8 +77,8 @@ impl<U: Update> Scan<U> {
         }
     }
 
-    /// The next key of the range and its value, or nothing where none is left. It reads only where nothing that was read is
-    /// left: the next bucket, and behind a beginning whose own bucket has no key in the range the one behind that too. A
+    /// The next key of the range and its value, or nothing if none is left. It reads only if nothing that was read is
+    /// left: the next bucket, and after a beginning whose own bucket has no key in the range the one after that too. A
     /// refused read leaves all that was left, and the next call reads that bucket again.
     pub fn next<F, I: qm_index::Unordered<Value = Location<F>>, L: Items>(
         &mut self,
@@ -143,7 +143,7 @@ impl<U: Update> Scan<U> {
         self.ready.pop_front()
     }
 
-    // Reads on where nothing that was read is left: the first bucket, or the next one, or none where the range is over.
+    // Reads on if nothing that was read is left: the first bucket, or the next one, or none if the range is over.
     fn read_on<F, I: qm_index::Unordered<Value = Location<F>>, L: Items>(
         &mut self,
         alloc: Global,
@@ -285,7 +285,7 @@ fn read_first<F, I: qm_index::Unordered<Value = Location<F>>, L: Items, U: Steps
     }
 }
 
-// The pairs of a range in the bucket behind a key's, from which on all keys are behind the beginning.
+// The pairs of a range in the bucket after a key's, from which on all keys are after the beginning.
 fn read_next<F, I: qm_index::Unordered<Value = Location<F>>, L: Items, U: Steps<F, I>>(
     alloc: Global,
     index: &I,
@@ -313,7 +313,7 @@ fn read_next<F, I: qm_index::Unordered<Value = Location<F>>, L: Items, U: Steps<
     }
 }
 
-// The bucket behind a key's, unless the way there goes round.
+// The bucket after a key's, unless the way there goes round.
 fn unwrapped<F>(found: Option<(&[Location<F>], bool)>) -> Option<&[Location<F>]>
     ensures { option_map (λ b. b.now) result
         ≡ unwrapped (option_map (λ b. (b.0.now, b.1)) found.entry) }
@@ -325,7 +325,7 @@ fn unwrapped<F>(found: Option<(&[Location<F>], bool)>) -> Option<&[Location<F>]>
     }
 }
 
-// The pairs of a bucket before the end of a range. Where it has none the range is over.
+// The pairs of a bucket before the end of a range. If it has none the range is over.
 fn read_bucket<F, L: Items, U: Update>(
     alloc: Global,
     log: &mut L,
@@ -347,7 +347,7 @@ fn read_bucket<F, L: Items, U: Update>(
     Ok(Found { pairs, place })
 }
 
-// The place behind the bucket of the first pair; nowhere where there is none.
+// The place after the bucket of the first pair; nowhere if there is none.
 fn behind<K: ByteString, V: ByteString>(
     alloc: Global,
     pairs: &[(K, V)],
@@ -364,7 +364,7 @@ fn behind<K: ByteString, V: ByteString>(
     }
 }
 
-// No pairs, behind all keys.
+// No pairs, after all keys.
 fn nothing<U: Update>(alloc: Global) -> Found<U>
     ensures pairs { result.pairs.items ≡ [] }
     ensures place { place_view U.Key.bytes result.place ≡ nowhere }

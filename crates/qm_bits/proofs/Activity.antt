@@ -29,7 +29,7 @@ activity_is size map ops good is =
     get_or-replicate (start size map) i false false (omega arith) ∙ sym (get_or-take (start size map) (bits ops) i false (omega arith) ∙ below_clear ops good i (omega arith))) in
     ap₂ (λ xs ys. xs ++ ys) same is.bits_are ∙ take-append-drop (start size map) (bits ops)
 
--- a location of a list is a candidate exactly where it is active
+-- a location of a list is a candidate exactly if it is active
 pub active_is_candidate : (ops : List Operation) (i : ℕ) (op : Operation) → slice_get ops i ≡ Some op → is_candidate (bits ops) i ≡ list_any (λ k. k == i) (active ops)
 active_is_candidate ops i op at = get_or_from_slice_get (bits ops) i (list_any (λ k. k == i) (active ops)) true (bit_is_active ops i op at)
 

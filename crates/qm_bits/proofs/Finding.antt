@@ -78,13 +78,13 @@ filled_more bits floor tip limit old new more at was before room here is = recor
   room = let long = length-append new (at ∷ []) in let same = ap length is in omega arith;
 }
 
--- clear bits are passed, and a candidate behind them is put
+-- clear bits are passed, and a candidate after them is put
 pub filled_behind : (bits : List Bool) (floor tip limit : ℕ) (old new more : List ℕ) (at next found : ℕ) → IsFilled bits floor tip limit old new at → at ≤ next → next < tip → ((i : ℕ) → at ≤ i → i < next → is_candidate bits i ≡ false) → length new < limit → is_candidate bits next ≡ true
     → more ≡ new ++ found ∷ [] → found ≡ next → IsFilled bits floor tip limit old more (next + 1)
 filled_behind bits floor tip limit old new more at next found was from before clear room here is same =
     filled_more bits floor tip limit old new more next (filled_past bits floor tip limit old new at next was from (omega arith) clear) before room here (is ∙ ap (λ x. new ++ x ∷ []) same)
 
--- what is left comes behind
+-- what is left comes after that
 pub filled_rest : (bits : List Bool) (floor tip limit : ℕ) (old new : List ℕ) (next : ℕ) → IsFilled bits floor tip limit old new next → candidates bits floor tip ≡ candidates bits floor next ++ candidates bits next tip
 filled_rest bits floor tip limit old new next was = ⊎_elim
     (λ (inside : floor < tip). candidates_split bits floor next tip was.from (omega (arith, was.to)))

@@ -12,7 +12,7 @@ module _ (n : ℕ) (words : List ℕ) (bits : List Bool) (is : bits_of n words �
   pub bit_is : (at : ℕ) → at < length bits → is_set words at ≡ get_or bits at false
   bit_is at within = let count = long in sym (ap (λ b. get_or b at false) (sym is) ∙ bit_of n words at false (omega arith))
 
-  -- also behind the last one
+  -- also after the last one
   pub held_bit : AreHeld n words → (at : ℕ) → get_or bits at false ≡ is_set words at
   held_bit are at =
       let count = long in
@@ -46,7 +46,7 @@ module _ (n : ℕ) (words : List ℕ) (bits : List Bool) (is : bits_of n words �
         bounded = omega (arith, are.bounded);
       }
 
--- one more bit, put behind as a clear one and then set
+-- one more bit, added as a clear one and then set
 pub pushed : (old more new : List Bool) (at : ℕ) (value : Bool) → at ≡ length old → more ≡ old ++ replicate (at + 1 - length old) false → new ≡ set more at value → new ≡ old ++ value ∷ []
 pushed old more new at value last is set_is =
     let one : at + 1 - length old ≡ 1 = omega arith in

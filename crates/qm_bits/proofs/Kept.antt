@@ -12,7 +12,7 @@ use Rattle.qm_bits.specs.Candidates.{is_candidate}
 -- What is a candidate.
 
 module _ (size : ℕ) (map : Bitmap) where
-  -- not where bits are no longer kept
+  -- not if bits are no longer kept
   pruned_clear : (i : ℕ) → i < start size map → is_candidate (all_bits size map) i ≡ false
   pruned_clear i low =
       let long = length-replicate {A = Bool} (start size map) false in
@@ -47,7 +47,7 @@ module _ (size : ℕ) (map : Bitmap) where
         (λ (past : end - at ≤ found). later_found (at + found) (omega arith))
         (cases_lt found (end - at))
 
-  -- What is passed where there is none of them.
+  -- What is passed if there is none of them.
   module _ (from tip at first end : ℕ) (at_is : at ≡ start size map) (first_is : first ≡ max from at) (end_is : end ≡ min tip (bit_count size map)) (none : end ≤ first) where
     pub none_clear : (i : ℕ) → from ≤ i → i < max from end → is_candidate (all_bits size map) i ≡ false
     none_clear i after before = pruned_clear i (omega arith)
@@ -101,7 +101,7 @@ pruned_same size at old low =
     let none : 0 ≡ (at / (8 * size) - old.pruned) * (8 * size) = omega arith ∙ ap (λ k. k * (8 * size)) (sym zero) in
     ap₂ (λ c k. record { pruned = c; kept = drop k old.kept }) same none
 
--- The chunk behind the complete ones.
+-- The chunk after the complete ones.
 module _ (size : ℕ) (map : Bitmap) where
   -- it is not pruned
   pub last_kept : 32 ≤ size → map.pruned ≤ bit_count size map / (8 * size)
@@ -119,7 +119,7 @@ module _ (size : ℕ) (map : Bitmap) where
       let product : at * (8 * size) + (bit_count size map / (8 * size) - at) * (8 * size) ≡ bit_count size map / (8 * size) * (8 * size) = omega arith ∙ ap (λ k. k * (8 * size)) split in
       omega arith
 
--- Bits that came behind the others, or did not.
+-- Bits that came after the others, or did not.
 pub grown_fits : {T E : Type 0} (before : ℕ) (old more new : List Bool) (r : Result T E) → OnOk r (new ≡ old ++ more) → OnErr r (new ≡ old) → before + length old + length more ≤ 2 ^ 62 → before + length new ≤ 2 ^ 62
 grown_fits before old more new (Ok x) ok err fits = omega (arith, ap length ok, length-append old more)
 grown_fits before old more new (Err e) ok err fits = omega (arith, ap length err)

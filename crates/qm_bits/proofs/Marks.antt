@@ -13,7 +13,7 @@ kept_all size old new at value is from =
 pub kept_count : (size : ℕ) (old new : Bitmap) (at : ℕ) (value : Bool) → new ≡ record { pruned = old.pruned; kept = set old.kept (at - start size old) value } → bit_count size new ≡ bit_count size old
 kept_count size old new at value is = ap (bit_count size) is ∙ ap (λ n. start size old + n) (length-set old.kept (at - start size old) value)
 
--- no bit at a place behind them is set or cleared
+-- no bit at a place after them is set or cleared
 pub not_marked : (size : ℕ) (map : Bitmap) (at : ℕ) (value : Bool) → (at < start size map) ⊎ (bit_count size map ≤ at) → start size map ≤ at → all_bits size map ≡ set (all_bits size map) at value
 not_marked size map at value (inl low) from = absurd (omega arith)
 not_marked size map at value (inr past) from =

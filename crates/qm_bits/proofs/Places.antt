@@ -37,7 +37,7 @@ changed_other words at word within same i other = ⊎_elim
     (λ (apart : i / 64 ≢ at / 64). ap (λ w. bit_at w (i % 64) == 1) (get_or-set_other words (at / 64) (i / 64) word 0 apart))
     (cases_eq (i / 64) (at / 64))
 
--- words of clear bits behind others
+-- words of clear bits after others
 pub with_clear : (words : List ℕ) (n i : ℕ) → is_set (words ++ replicate n 0) i ≡ is_set words i
 unfolding is_set
 with_clear words n i = ap (λ w. bit_at w (i % 64) == 1) (same (cases_lt (i / 64) (length words)))
@@ -49,7 +49,7 @@ with_clear words n i = ap (λ w. bit_at w (i % 64) == 1) (same (cases_lt (i / 64
     same (inl low) = get_or_append_left words (replicate n 0) 0 (i / 64) low
     same (inr past) = get_or-append_right words (replicate n 0) (length words) (i / 64) 0 refl past ∙ zeros (i / 64 - length words) ∙ sym (get_or_past words (i / 64) 0 past)
 
--- words behind so many
+-- the words after the first `count`
 pub behind : (words : List ℕ) (count i : ℕ) → is_set (drop count words) i ≡ is_set words (64 * count + i)
 unfolding is_set
 behind words count i =
@@ -127,7 +127,7 @@ bits_set n old new at value within here others =
     (λ (apart : i ≢ at). get_or-set_other (bits_of n old) at i value false apart ∙ bit_of n old i false lt ∙ sym (others i apart))
     (cases_eq i at))
 
--- clear bits behind those that there were
+-- clear bits after those that there were
 pub bits_more : (n more : ℕ) (old new : List ℕ) → ((i : ℕ) → is_set new i ≡ is_set old i) → ((i : ℕ) → n ≤ i → is_set old i ≡ false) → bits_of (n + more) new ≡ bits_of n old ++ replicate more false
 bits_more n more old new same clear =
     let long = length-bits_of n old in
@@ -138,7 +138,7 @@ bits_more n more old new same clear =
     (λ (past : n ≤ i). get_or-append_right (bits_of n old) (replicate more false) n i false long past ∙ get_or-replicate more (i - n) false false (omega arith) ∙ sym (same i ∙ clear i past))
     (cases_lt i n))
 
--- the bits behind so many words
+-- the bits after the first `count` words
 pub bits_behind : (n count : ℕ) (words : List ℕ) → bits_of (n - 64 * count) (drop count words) ≡ drop (64 * count) (bits_of n words)
 bits_behind n count words =
     let long = length-bits_of n words in

@@ -7,7 +7,7 @@ use Rattle.qm_model.specs.Bits.{bits}
 pub record Bitmap : Type 0 where
   -- how many chunks are no longer kept
   pub pruned : ℕ
-  -- the bits behind them
+  -- the bits after them
   pub kept : List Bool
 
 -- where the kept bits begin, for chunks of so many bytes

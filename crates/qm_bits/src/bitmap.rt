@@ -60,7 +60,7 @@ impl BitMap {
         words::put(&mut self.words, at as usize, value);
     }
 
-    /// Puts a bit behind the others. Want of memory is the only error, and leaves them as they were.
+    /// Puts a bit after the others. Want of memory is the only error, and leaves them as they were.
     pub fn push(&mut self, value: bool) -> Result<(), AllocError>
         requires { length self.old < 2 ^ 62 }
         ensures ok { OnOk result (self.new ≡ self.old ++ value ∷ []) }
@@ -72,7 +72,7 @@ impl BitMap {
         Ok(())
     }
 
-    /// Puts clear bits behind the others until there are `len`. Want of memory is the only error, and leaves them as they were.
+    /// Puts clear bits after the others until there are `len`. Want of memory is the only error, and leaves them as they were.
     pub fn extend_to(&mut self, len: u64) -> Result<(), AllocError>
         requires not_below { length self.old ≤ len }
         requires bounded { len ≤ 2 ^ 62 }
@@ -93,7 +93,7 @@ impl BitMap {
         self.length -= count as u64 * 64;
     }
 
-    // The first set bit from a place on, or the end where all are clear.
+    // The first set bit from a place on, or the end if all are clear.
     pub(crate) fn next_set(&self, from: u64, end: u64) -> u64
         requires order { from ≤ end }
         requires within { end ≤ length self.now }
@@ -104,7 +104,7 @@ impl BitMap {
         words::next_set(&self.words, from as usize, end as usize) as u64
     }
 
-    // The bytes of the bits in so many words from one on, zeros behind the last bit.
+    // The bytes of the bits in so many words from one on, zeros after the last bit.
     pub(crate) fn bytes(
         &self,
         alloc: Global,

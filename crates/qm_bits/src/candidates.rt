@@ -14,7 +14,7 @@ pub trait Candidates<F> {
     /// The bits of all locations that have one, clear where they are no longer kept.
     ghost activity: { Self → List Bool };
 
-    /// The first location from a place on that may hold a live update, or the tip where there is none before it.
+    /// The first location from a place on that may hold a live update, or the tip if there is none before it.
     fn next_candidate(&self, from: u64, tip: u64) -> u64
         requires { from ≤ tip }
         ensures between { (from ≤ result) × (result ≤ tip) }
@@ -22,7 +22,7 @@ pub trait Candidates<F> {
             → is_candidate (activity self.now) i ≡ false }
         ensures found { result < tip → is_candidate (activity self.now) result ≡ true };
 
-    /// Puts the locations from `floor` on, up to and without `tip`, behind the others in order, until these are `limit`: of those that have a bit the set ones, of the later ones each. It answers where to go on: at the tip, or where `limit` was met. Want of memory is the only error; what was put there until then stays.
+    /// Puts the locations from `floor` on, up to and without `tip`, after the others in order, until these are `limit`: of those that have a bit the set ones, of the later ones each. It answers where to go on: at the tip, or where `limit` was met. Want of memory is the only error; what was put there until then stays.
     final fn fill(
         &self,
         floor: Location<F>,

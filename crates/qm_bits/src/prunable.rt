@@ -37,7 +37,7 @@ impl<N: Chunks> Prunable<N> {
         Self::new_with_pruned_chunks(alloc, 0)
     }
 
-    /// So many pruned chunks, and no bit behind them. It takes no memory yet.
+    /// So many pruned chunks, and no bit after them. It takes no memory yet.
     pub fn new_with_pruned_chunks(alloc: Global, chunks: usize) -> Self
         requires { chunks * (8 * N.LEN) ≤ 2 ^ 62 }
         ensures { result ≡ record { pruned = chunks; kept = [] } }
@@ -108,7 +108,7 @@ impl<N: Chunks> Prunable<N> {
         }
     }
 
-    /// Clears the bit at a place. Where none is kept nothing changes: pruned bits are clear.
+    /// Clears the bit at a place. If none is kept nothing changes: pruned bits are clear.
     pub fn unmark(&mut self, at: u64)
         ensures pruned { self.new.pruned ≡ self.old.pruned }
         ensures count { bit_count N.LEN self.new ≡ bit_count N.LEN self.old }
@@ -129,7 +129,7 @@ impl<N: Chunks> Prunable<N> {
         self.start() <= at && at < self.len()
     }
 
-    /// Puts a bit behind the others. Want of memory is the only error, and leaves them as they were.
+    /// Puts a bit after the others. Want of memory is the only error, and leaves them as they were.
     pub fn push(&mut self, value: bool) -> Result<(), AllocError>
         requires { bit_count N.LEN self.old < 2 ^ 62 }
         ensures ok { OnOk result
@@ -139,7 +139,7 @@ impl<N: Chunks> Prunable<N> {
         self.bits.push(value)
     }
 
-    /// Puts clear bits behind the others until there are `len`. Want of memory is the only error, and leaves them as they were.
+    /// Puts clear bits after the others until there are `len`. Want of memory is the only error, and leaves them as they were.
     pub fn extend_to(&mut self, len: u64) -> Result<(), AllocError>
         requires not_below { bit_count N.LEN self.old ≤ len }
         requires bounded { len ≤ 2 ^ 62 }
@@ -174,7 +174,7 @@ impl<N: Chunks> Prunable<N> {
         }
     }
 
-    // The first candidate from a place on, or the tip where there is none before it. Clear bits are passed 64 in a step.
+    // The first candidate from a place on, or the tip if there is none before it. Clear bits are passed 64 in a step.
     pub(crate) fn next_candidate(&self, from: u64, tip: u64) -> u64
         requires { from ≤ tip }
         ensures between { (from ≤ result) × (result ≤ tip) }
@@ -191,7 +191,7 @@ impl<N: Chunks> Prunable<N> {
         start + self.bits.next_set(first - start, end - start)
     }
 
-    // The bytes of a chunk that is not pruned, zeros behind the last bit.
+    // The bytes of a chunk that is not pruned, zeros after the last bit.
     pub(crate) fn chunk_bytes(&self, alloc: Global, at: usize) -> Result<Vec<u8>, AllocError>
         requires not_pruned { self.now.pruned ≤ at }
         requires begun { at * (8 * N.LEN) ≤ bit_count N.LEN self.now }

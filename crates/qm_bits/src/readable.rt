@@ -31,7 +31,7 @@ pub trait Readable<N: Chunks> {
         ensures { IfOk result (λ bytes.
             bytes.items ≡ chunk N.LEN (all_bits N.LEN (bitmap self.now)) at) };
 
-    /// The bytes of the chunk behind the complete ones, zeros behind its bits, and how many bits it has: none where the bits end with a chunk. Want of memory is the only error.
+    /// The bytes of the chunk after the complete ones, zeros after its bits, and how many bits it has: none if the bits end with a chunk. Want of memory is the only error.
     fn last_chunk(&self, alloc: Global) -> Result<(Vec<u8>, u64), AllocError>
         ensures bytes { IfOk result (λ last. last.0.items
             ≡ chunk N.LEN (all_bits N.LEN (bitmap self.now))

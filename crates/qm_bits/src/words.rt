@@ -35,7 +35,7 @@ fn with_bit(word: u64, at: usize, value: bool) -> u64
     if value { word | mask } else { word & !mask }
 }
 
-// The first set bit from a place on, or the end where all are clear; 64 clear ones are passed in one step.
+// The first set bit from a place on, or the end if all are clear; 64 clear ones are passed in one step.
 pub(crate) fn next_set(words: &[u64], from: usize, end: usize) -> usize
     requires within { end ≤ 64 * length words.now }
     requires small { end ≤ 2 ^ 62 }
@@ -55,7 +55,7 @@ pub(crate) fn next_set(words: &[u64], from: usize, end: usize) -> usize
     end
 }
 
-// Puts words of clear bits behind the others until so many bits have room. Want of memory leaves them as they were.
+// Puts words of clear bits after the others until so many bits have room. Want of memory leaves them as they were.
 pub(crate) fn hold(words: &mut Vec<u64>, bits: usize) -> Result<(), AllocError>
     ensures ok { OnOk result (bits ≤ 64 * length words.new.items) }
     ensures same { (i : ℕ) → is_set words.new.items i ≡ is_set words.old.items i }
@@ -78,7 +78,7 @@ pub(crate) fn drop_first(words: &mut Vec<u64>, count: usize)
     words.truncate(left);
 }
 
-// The word at a place, 0 where none is left.
+// The word at a place, 0 if none is left.
 fn word_at(words: &[u64], at: usize) -> u64
     ensures { result ≡ slice_index words.now at }
 {

@@ -1,4 +1,4 @@
--- The entry behind a key, from the part of a map above it.
+-- The entry after a key, from the part of a map above it.
 use Rattle.std.proofs.Common.{◌≡◌, Bool, true, false, cond, List, [], ◌∷◌, ◌++◌, map, refl, ap, sym, ◌∙◌, subst, Some, ◌&&◌, inl, inr, Less}
 use Rattle.std.specs.Prelude.{filter, slice_get}
 use Rattle.std.specs.Cmp.Lexicographic.{slice_cmp}
@@ -12,7 +12,7 @@ use Rattle.qm_model.specs.Keys.{key_lt, successor, contains_key}
 use Rattle.qm_model.proofs.KeyOrder.{Has, Has-either}
 use Rattle.qm_model.proofs.KeySorts.{successor-cut, successor-wraps}
 
--- a list cut at an element above a key, where those in front are not
+-- a list cut at an element above a key, if those in front are not
 record Cut {E : Type 0} (name : E → Bytes) (key : Bytes) (es : List E) (e : E) : Type 0 where
   front : List E
   back : List E
@@ -83,7 +83,7 @@ module _ {K X : Type 0} (bytes : K → Bytes) (key : Bytes) where
         let back = map entry_key cut.back in
         sym (ap (λ ks. successor ks key) keys ∙ successor-cut front key (bytes e.0) back (up (front ++ bytes e.0 ∷ back) keys) cut.low cut.here)
 
-    -- the first of all, where none is above
+    -- the first of all, if none is above
     pub behind-wraps : (e : K × X) → filter (λ e. is_lt (slice_cmp nat_cmp key (bytes e.0)) && true) es ≡ [] → slice_get es 0 ≡ Some e → Some (bytes e.0) ≡ successor (map (λ e. bytes e.0) es) key
     behind-wraps e h first = by es refl first
       where

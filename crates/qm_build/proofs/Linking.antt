@@ -165,7 +165,7 @@ module _ (p : Pair → Bool) where
       by later true at is = ap (bytes_eq k) (sym (same_key x.0 q at)) ∙ h.0
       by later false at is = later is
 
-  -- and the other way round, where no key stands twice
+  -- and the other way round, if no key stands twice
   beside-all : (xs : List Pair) → IsDistinct bytes_eq (keys_in xs) → ((q : Bytes) (n : Option Bytes) → beside xs q ≡ Some n → p (q, n) ≡ true) → list_all p xs ≡ true
   unfolding IsDistinct
   beside-all [] distinct each = refl
@@ -220,7 +220,7 @@ module _ {K : Type 0} (bytes : K → Bytes) where
   abbrev pub is_next : List Bytes → K × Option K → Bool
   is_next keys e = option_map_or (names_key (option_map bytes e.1)) (successor keys (bytes e.0)) false
 
-  -- and so it does where that is the key behind it
+  -- and so it does if that is the key after it
   pub next-named : (keys : List Bytes) (e : K × Option K) (behind : Option Bytes) (t : Bool) → behind ≡ successor keys (bytes e.0) → t ≡ option_map_or (names_key (option_map bytes e.1)) behind false → is_next keys e ≡ t
   next-named keys e behind t is here = ap (λ o. option_map_or (names_key (option_map bytes e.1)) o false) (sym is) ∙ sym here
 
@@ -248,7 +248,7 @@ module _ {K : Type 0} (bytes : K → Bytes) where
       each [] h = tt
       each (u ∷ us) h = (texts_ties (bytes e.0) (bytes u.0) ∙ ap is_eq h.0, each us h.1)
 
-  -- the links of a list form a ring where its live updates do
+  -- the links of a list form a ring if its live updates do
   pub links-ring : (es : List (K × Option K)) (ops : List Operation) → IsStrictlySortedBy (λ a b. slice_cmp nat_cmp (bytes a) (bytes b)) (map (λ e. e.0) es) → AreLinks bytes es ops →
       list_all (is_next (map (λ e. bytes e.0) es)) es ≡ is_ring ops
   links-ring es ops sorted are =

@@ -58,7 +58,7 @@ spelled-there form (op ∷ rest) zero bs all is =
     (op, refl, record { of = All-head (IsOf form) op rest all; spelled = same })
 spelled-there form (op ∷ rest) (suc at) bs all is = spelled-there form rest at bs (All-tail (IsOf form) op rest all) is
 
--- an error tells of the store only where its count of faults rose
+-- an error tells of the store only if its count of faults rose
 pub caused : {C D : Type 0} (members : store.Ghosts C) (a b c : Log C D) (e : Error) → members.faults a.store ≤ members.faults b.store → members.faults b.store ≤ members.faults c.store → IsRebuildError members b c e
     → IsCause (members.faults a.store) (members.faults c.store) (e ≡ errors.Journal journal.Store)
 caused members a b c e before after failed = record { later = omega (arith, before, after); failed = by failed }

@@ -99,7 +99,7 @@ decoded-among size start e (inr wrong) = subst (λ e. IsAmong e (proof_reasons s
 abbrev pub IsFailed : ℕ → Error → Type 0
 IsFailed at e = (e ≡ errors.Memory) ⊎ ((e ≡ errors.Journal journal.Store) ⊎ (e ≡ errors.Journal (journal.ItemPruned at)))
 
--- the read of the last one is refused where it is gone
+-- the read of the last one is refused if it is gone
 pub last-due : (kept size i : ℕ) (e : Error) → size ≡ suc i → IsFailed i e → (e ≡ errors.Journal (journal.ItemPruned i) → i < kept) → IsDue e (last_refusal kept size)
 last-due kept size i e after (inl memory) gone = subst (λ e. IsDue e (last_refusal kept size)) (sym memory) tt
 last-due kept size i e after (inr (inl failed)) gone = subst (λ e. IsDue e (last_refusal kept size)) (sym failed) tt

@@ -39,7 +39,7 @@ abbrev pub cleared : List Bool → Option ℕ → List Bool
 cleared bits None = bits
 cleared bits (Some at) = set bits at false
 
--- the number of live keys after an operation that is an update or not, where its key was live or not
+-- the number of live keys after an operation that is an update or not, whose key was live or not
 abbrev pub counted_after : ℕ → Option ℕ → Bool → ℕ
 counted_after n None true = n + 1
 counted_after n None false = n

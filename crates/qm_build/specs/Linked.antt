@@ -6,7 +6,7 @@ use Rattle.std.specs.Ordering.{nat_cmp, is_eq}
 use Rattle.qm_model.specs.Operations.{Bytes, Operation}
 use Rattle.qm_model.specs.Live.{live, live_of}
 
--- the next key that a key's live update has, where the key is live
+-- the next key that a key's live update has, if the key is live
 abbrev pub next_of : List Operation → Bytes → Option (Option Bytes)
 next_of ops key = option_map (λ e. e.next) (live_of (live ops) key)
 

@@ -16,7 +16,7 @@ use Rattle.qm_store.specs.Refusals.{IsAmong, IsDue}
 use Rattle.qm_build.specs.Reasons.{proof_reasons}
 
 module _ {C D : Type 0} (members : store.Ghosts C) (shape : Shape) (bytes : D → Bytes) (hash : Bytes → Bytes) (form : Form) where
-  -- at each list whose spellings the log has, where its store tells its items
+  -- at each list whose spellings the log has, if its store tells its items
   abbrev pub AtLogged : Log C D → (List Operation → Type 0) → Type 0
   AtLogged log P = (list : List Operation) → IsLog members shape bytes hash log (map (spelling form) list) → All (IsOf form) list → IfSome (members.told log.store) (λ _. P list)
 

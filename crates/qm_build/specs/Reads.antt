@@ -12,7 +12,7 @@ use Rattle.qm_base.specs.declared.error.JournalError.TheVariants as journal
 use Rattle.qm_store.specs.declared.Store as store
 use Rattle.qm_store.specs.Log.{Log, IsLog, IsKept}
 
--- the operation that a store has at a location, none where it has no item there or one that spells none
+-- the operation that a store has at a location, none if it has no item there or one that spells none
 abbrev pub operation_at : Form → Stored → ℕ → Option Operation
 operation_at form s at = option_and_then (decoded form) (slice_get s.items (at - s.start))
 
@@ -32,7 +32,7 @@ pub record SpellsAt (form : Form) (s : Stored) (at : ℕ) (op : Operation) : Typ
 abbrev pub Spells : Form → Stored → ℕ → List Operation → Type 0
 Spells form s from ops = (at : ℕ) (op : Operation) → from ≤ at → slice_get ops at ≡ Some op → SpellsAt form s at op
 
--- the items of a store from one location up to, and without, another, each as an operation, none where it spells none
+-- the items of a store from one location up to, and without, another, each as an operation, none if it spells none
 abbrev pub items_within : Form → Stored → ℕ → ℕ → List (Option Operation)
 items_within form s from to = drop (from - s.start) (take (to - s.start) (map (decoded form) s.items))
 

@@ -11,7 +11,7 @@ use std::num::NonZeroUsize;
 /// How many slots a set has at most.
 const WAYS: usize = 16;
 
-/// Some of the keys that were put in, by location. A key is kept in one of the slots of its location's set; where all are taken by
+/// Some of the keys that were put in, by location. A key is kept in one of the slots of its location's set; if all are taken by
 /// other locations, the key of the smallest of these leaves.
 #[derive(Drop)]
 pub struct Cache<K> {

@@ -29,7 +29,7 @@ fn bytes_of<K: ByteString>(alloc: Global, key: &K) -> Result<Vec<u8>, AllocError
     key.as_bytes().to_vec(alloc)
 }
 
-// The same, where there is a key.
+// The same, if there is a key.
 fn bytes_of_some<K: ByteString>(
     alloc: Global,
     key: Option<&K>,
@@ -43,7 +43,7 @@ fn bytes_of_some<K: ByteString>(
     }
 }
 
-// Puts in what an update names, behind the operations that these are the links of.
+// Puts in what an update names, after the operations that these are the links of.
 fn put_link<U: Update>(alloc: Global, links: &mut Links, update: &U) -> Result<(), AllocError>
     ensures { OnOk result ((ops : List model.Operation)
         → AreLinks (λ b. b.items) links.old.entries ops
@@ -56,7 +56,7 @@ fn put_link<U: Update>(alloc: Global, links: &mut Links, update: &U) -> Result<(
     Ok(())
 }
 
-// Puts in an operation, behind those that these are the links of.
+// Puts in an operation, after those that these are the links of.
 fn put<F, U: Update>(
     alloc: Global,
     links: &mut Links,
@@ -77,7 +77,7 @@ fn put<F, U: Update>(
     }
 }
 
-// The key behind this one, or else the first of all.
+// The key after this one, or else the first of all.
 fn key_behind<'a>(links: &'a Links, key: &Vec<u8>) -> Option<&'a Vec<u8>>
     ensures { option_map (λ k. k.now.items) result
         ≡ successor (map (λ e. e.0.items) links.now.entries) key.now.items }
@@ -91,7 +91,7 @@ fn key_behind<'a>(links: &'a Links, key: &Vec<u8>) -> Option<&'a Vec<u8>>
     }
 }
 
-// Whether the key that is named is the one behind.
+// Whether the key that is named is the one that comes next.
 fn names(next: &Option<Vec<u8>>, behind: Option<&Vec<u8>>) -> bool
     ensures { result
         ≡ option_map_or (same_key (option_map (λ b. b.items) next.now))
@@ -103,7 +103,7 @@ fn names(next: &Option<Vec<u8>>, behind: Option<&Vec<u8>>) -> bool
     }
 }
 
-// Whether each key's update names the key behind it.
+// Whether each key's update names the key after it.
 fn is_closed(links: &Links) -> bool
     ensures { (ops : List model.Operation) → AreLinks (λ b. b.items) links.now.entries ops
         → result ≡ is_ring ops }

@@ -22,7 +22,7 @@ mod sealed {
 /// An index that an opening rebuilds from the items of a log.
 pub trait SnapshotBuild<F: Family>: qm_index::Unordered<Value = Location<F>>
     + sealed::SnapshotBuildSealed {
-    /// How many threads a rebuild takes, where there is a choice.
+    /// How many threads a rebuild takes, if there is a choice.
     type Concurrency: Drop;
 
     /// Rebuilds the list of a log in this index, as `build_snapshot` does.

@@ -57,7 +57,7 @@ module _ {K E : Type 0} (bytes : K → Bytes) where
         ∙ ap (λ o. option_or o (entry_of bytes (m ∷ behind) k))
         (none_where bytes front k (each_weaker (λ e. key_lt (bytes e.0) (bytes m.0) ≡ true) (λ e. bytes_eq (bytes e.0) k ≡ false) (λ e h. before (bytes e.0) h) front (front_below front behind m ascends)))
 
-    -- a key above the middle is behind it
+    -- a key above the middle is after it
     pub behind_kept : slice_cmp nat_cmp (bytes m.0) k ≡ Less → IsAscending (keys_of bytes behind) × (entry_of bytes behind k ≡ entry_of bytes rest k)
     behind_kept below =
         let lower : key_lt (bytes m.0) k ≡ true = ap is_lt below in (

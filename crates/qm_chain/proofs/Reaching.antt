@@ -20,7 +20,7 @@ one_more floor (suc entries) skips at later some near =
     let fewer : entries ≡ suc entries - 1 = omega arith in
     rw yes (ap (λ e. suc (reachable_from (at + 1) e (skips - (at - floor)) later)) fewer)
 
--- Past the first `count` of the candidates, with these skips left: the place behind them may be one past the last number.
+-- Past the first `count` of the candidates, with these skips left: the place after them may be one past the last number.
 pub record IsPast (floor entries skips : ℕ) (all : List ℕ) (here left count : ℕ) : Type 0 where
   pub next : ℕ
   pub place : here ≡ min next (2 ^ 64 - 1)

@@ -6,7 +6,7 @@ use Rattle.qm_model.specs.Writes.{Write, last_writes, write_of, overwritten}
 use Rattle.qm_model.specs.Walk.{Rules}
 use Rattle.qm_model.specs.Step.{Kind, step}
 
--- each key has the value of its last write, and the one before where there is none
+-- each key has the value of its last write, and the one before if there is none
 abbrev pub KeepsTheMap : {P : Type 0} → Kind → Rules P → Type 0
 KeepsTheMap {P} kind rules = (ops : List Operation) (ws : List Write) (policy : P) (meta : Option Bytes) (key : Bytes) →
     value_of (step kind rules ops ws policy meta) key ≡ overwritten (write_of (last_writes ws) key) (value_of ops key)

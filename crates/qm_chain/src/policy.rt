@@ -49,6 +49,6 @@ pub trait Policy<F, K: ByteString, V: ByteString>: Drop {
             ≡ (rules.decide self.old live.entry.location (K.bytes live.entry.key)
             (V.bytes live.entry.value)).1) };
 
-    /// Where it may not evict, it does not, and may not after it decided.
+    /// If it may not evict, it does not, and may not after it decided.
     ghost keeps: { (p : Self) (location : ℕ) (key value : List ℕ) → may_evict p ≡ false → Keeps rules may_evict p location key value };
 }

@@ -35,7 +35,7 @@ fn is_value<V: ByteString>(one: &V, value: &V) -> bool
     one.as_bytes() == value.as_bytes()
 }
 
-// Whether a value is this one, where there is one.
+// Whether a value is this one, if there is one.
 fn is_it<V: ByteString>(one: &Option<V>, value: &V) -> bool
     ensures { result ≡ model.is_it (option_map V.bytes one.now) (V.bytes value.now) }
 {

@@ -8,7 +8,7 @@ use qm_base::Location;
 /// Where a walk is and what it has left. From its floor on it decides each live update, which spends an entry, and passes
 /// each other location, which spends a skip; either way the floor is then one higher. With no entry left it ends where it is,
 /// with no skip left at the first location without a live update, and at the latest at its end. Who walks looks for the live
-/// updates before that end, reaches and decides one after another while there is an entry, and spends the skips behind the
+/// updates before that end, reaches and decides one after another while there is an entry, and spends the skips after the
 /// last one by `exhaust`. A policy may stop the walk at an update that was reached: it is then left where it is.
 ///
 /// No call takes memory, and each but `reachable` takes the same few steps.
@@ -46,7 +46,7 @@ impl<F> Walk<F> {
         }
     }
 
-    /// Passes the locations up to the next live update, and tells whether it came there. Where the skips do not suffice it
+    /// Passes the locations up to the next live update, and tells whether it came there. If the skips do not suffice it
     /// spends them, and the walk has ended.
     pub fn reach(&mut self, at: Location<F>) -> bool
         requires { self.old.floor ≤ at }

@@ -17,7 +17,7 @@ without_factor a b w some le = ⊎_elim
 halved : (c w : ℕ) → 0 < c → c ≤ w * 2 → suc ((c - 1) / 2) ≤ w
 halved c w some within = omega arith
 
--- the node over the last of some chunks and its neighbour ends within 2 ^ 62 locations where they do
+-- the node over the last of some chunks and its neighbour ends within 2 ^ 62 locations if they do
 pub pair_within : (g c : ℕ) → g < 62 → 0 < c → c * 2 ^ g ≤ 2 ^ 62 → suc ((c - 1) / 2) * 2 ^ (g + 1) ≤ 2 ^ 62
 pair_within g c low some within = subst (λ k. suc ((c - 1) / 2) * 2 ^ k ≤ 2 ^ 62) (next g)
     (subst (λ n. suc ((c - 1) / 2) * 2 ^ suc g ≤ n) (sym whole)

@@ -1,4 +1,4 @@
--- In mountain ranges, where a node over chunks is born, the one that stands for it in the grafted tree is born; and the other way round.
+-- In mountain ranges, if a node over chunks is born, the one that stands for it in the grafted tree is born; and the other way round.
 use Rattle.std.proofs.Common.{◌≡◌, ◌*◌, ◌/◌, ◌^◌, ◌+◌, ◌-◌, ◌<◌, ◌≤◌, ℕ, suc, le_refl, arith, ap, sym, ◌∙◌, subst}
 use Rattle.std.specs.Option.{option_map_or}
 use Rattle.std.proofs.Math.Nat.{mul_assoc}

@@ -1,4 +1,4 @@
--- In both families more chunks need no smaller size to go, and no node over a chunk waits but where a threshold tells for how long.
+-- In both families more chunks need no smaller size to go, and no node over a chunk waits unless a threshold tells for how long.
 use Rattle.std.proofs.Common.{◌≡◌, ◌∙◌, ◌+◌, ◌-◌, ◌*◌, ◌/◌, ◌^◌, ◌<◌, ◌≤◌, ℕ, suc, None, Some, arith, ap, sym, subst, le_refl}
 use Rattle.std.specs.Option.{option_map_or}
 use Rattle.std.proofs.lemmas.Nat.{mul-le}

@@ -23,7 +23,7 @@ pub fn grafting_height(chunk_len: usize) -> u32
     chunk_len.ilog2() + 3
 }
 
-/// Of so many locations the pending chunk: the last complete one, where it cannot be grafted yet.
+/// Of so many locations the pending chunk: the last complete one, if it cannot be grafted yet.
 pub fn pending_chunk<F: Graftable>(height: u32, leaves: u64) -> Option<u64>
     requires low { height < 63 }
     requires few { leaves ≤ 2 ^ 62 }
@@ -52,7 +52,7 @@ pub fn grafted_chunks<F: Graftable>(height: u32, leaves: u64) -> u64
     }
 }
 
-/// The chunk that so many locations end within, where they do not end with a chunk.
+/// The chunk that so many locations end within, if they do not end with a chunk.
 pub fn partial_chunk(height: u32, leaves: u64) -> Option<u64>
     requires { height < 64 }
     ensures { result ≡ bits.partial_chunk (2 ^ height) leaves }
@@ -64,7 +64,7 @@ pub fn partial_chunk(height: u32, leaves: u64) -> Option<u64>
     }
 }
 
-/// How many bits the partial chunk has, 0 where there is none.
+/// How many bits the partial chunk has, 0 if there is none.
 pub fn partial_bits(height: u32, leaves: u64) -> u64
     requires { height < 64 }
     ensures { result ≡ leaves % 2 ^ height }

@@ -147,7 +147,7 @@ fn with_partial<H: Hasher>(
     }
 }
 
-// The same, where the partial chunk has a number of bits and a digest.
+// The same, if the partial chunk has a number of bits and a digest.
 fn counted<H: Hasher>(
     hasher: &mut StandardHasher<H>,
     roots: (&[u8], &[u8]),

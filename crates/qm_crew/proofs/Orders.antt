@@ -5,7 +5,7 @@ use Rattle.std.proofs.lemmas.List.Elements.{All-head, All-tail}
 use Rattle.qm_crew.specs.Orders.{Course, next_of, behind, marks, after, begun, MarksTheUnion}
 use Rattle.qm_crew.proofs.Times.{times, times-append, times_from, times_to, sum_times, any_from, any_to}
 
--- a mark takes as much from what is left as it puts behind what is marked
+-- a mark takes as much from what is left as it adds to what is marked
 one-mark : (p w : ℕ) (ls : List (List ℕ)) → times p (next_of w ls) + sum_times p (behind w ls) ≡ sum_times p ls
 one-mark p w [] = refl
 one-mark p zero ([] ∷ ls) = omega arith
@@ -21,7 +21,7 @@ kept p (w ∷ ws) c =
     let both = times-append p c.marked (next_of w c.left) in
     omega (arith, later, one, both)
 
--- where nobody has anything left
+-- if nobody has anything left
 over : (p : ℕ) (ls : List (List ℕ)) → All (λ l. l ≡ []) ls → sum_times p ls ≡ 0
 over p [] all = refl
 over p (l ∷ ls) all =

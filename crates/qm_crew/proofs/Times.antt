@@ -4,7 +4,7 @@ use Rattle.std.specs.Prelude.{Contains, Any}
 use mathlib.Core.Logic.{dite}
 use native.Mathlib.Decide.{ℕ_discrete}
 
--- 1 where they are equal, else 0
+-- 1 if they are equal, else 0
 abbrev pub tick : ℕ → ℕ → ℕ
 tick x p = cond (eqb x p) 1 0
 

@@ -28,7 +28,7 @@ places_of crew = map (λ m. m.places.items) crew
 abbrev pub places_in : List (Vec ℕ Global) → List (List ℕ)
 places_in lists = map (λ l. l.items) lists
 
--- a bit is set exactly where some list has its place
+-- a bit is set exactly if some list has its place
 abbrev pub AreUnion : List ℕ → List (List ℕ) → Type 0
 AreUnion words lists = (word bit : ℕ) → word < length words → bit < 64
     → IsSet words word bit ↔ Any (λ l. Contains l (64 * word + bit)) lists

@@ -13,14 +13,14 @@ next_of zero ([] ∷ ls) = []
 next_of zero ((x ∷ xs) ∷ ls) = x ∷ []
 next_of (suc w) (l ∷ ls) = next_of w ls
 
--- what all have left behind that
+-- what all have left after that
 abbrev pub behind : ℕ → List (List ℕ) → List (List ℕ)
 behind w [] = []
 behind zero ([] ∷ ls) = [] ∷ ls
 behind zero ((x ∷ xs) ∷ ls) = xs ∷ ls
 behind (suc w) (l ∷ ls) = l ∷ behind w ls
 
--- this worker marks its next place; where it has none left nothing happens
+-- this worker marks its next place; if it has none left nothing happens
 abbrev pub marks : ℕ → Course → Course
 marks w c = record { marked = c.marked ++ next_of w c.left; left = behind w c.left }
 

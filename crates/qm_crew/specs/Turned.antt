@@ -16,13 +16,13 @@ pub record AreTurned {W : Type 0} (turns : W → W → Type 0) (old new : List W
 abbrev pub NobodyAsks : {W : Type 0} → (W → Bool) → List W → Type 0
 NobodyAsks asks ws = All (λ w. asks w ≡ false) ws
 
--- so many turns, each with the answer behind it, lead from one state of a member to another
+-- so many turns, each with the answer after it, lead from one state of a member to another
 abbrev pub Leads : {W : Type 0} → (turns tells : W → W → Type 0) → ℕ → W → W → Type 0
 Leads turns tells zero old new = new ≡ old
 Leads {W = W} turns tells (suc n) old new =
     (turned : W) × (told : W) × turns old turned × tells turned told × Leads turns tells n told new
 
--- a round: each member took a turn, and then as many more as any other, each with the answer behind it
+-- a round: each member took a turn, and then as many more as any other, each with the answer after it
 pub record IsRound {W : Type 0} (turns tells : W → W → Type 0) (old new : List W) : Type 0 where
   pub more : ℕ
   pub led : AreTurned (Leads turns tells (suc more)) old new

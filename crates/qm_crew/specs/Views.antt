@@ -52,7 +52,7 @@ IsMarked views place = (seat : ℕ) × (v : View) × (get_elem? views seat ≡ s
 abbrev pub IsSet : List ℕ → ℕ → ℕ → Type 0
 IsSet words word bit = bit_at (slice_index words word) bit ≡ 1
 
--- what holds of the view of one seat, where the seat `lead` leads and so many seats are out
+-- what holds of the view of one seat, if the seat `lead` leads and so many seats are out
 pub record Fits (lead out seat : ℕ) (v : View) : Type 0 where
   pub leads : seat ≡ lead → (v.lead ≡ true) × (v.spent ≡ false) × (v.out ≡ out)
   pub follows : seat ≢ lead → (v.lead ≡ false) × (v.out ≡ 0)
@@ -67,7 +67,7 @@ pub record IsLed (views : List View) : Type 0 where
   pub fits : (seat : ℕ) (v : View) → get_elem? views seat ≡ some v → Fits lead out seat v
   pub count : unspent views ≡ out + 1
 
--- a bit is set exactly where some view has marked its place
+-- a bit is set exactly if some view has marked its place
 abbrev pub AreMarks : List ℕ → List View → Type 0
 AreMarks words views = (word bit : ℕ) → word < length words → bit < 64
     → IsSet words word bit ↔ IsMarked views (64 * word + bit)

@@ -46,7 +46,7 @@ fn mark_places<G: Gate>(gate: &G, board: &Board, number: usize, seat: &mut MarkS
     gate.pass(number, step);
 }
 
-/// Has each member mark its places, side by side. It starts as many threads as there are members, less one; where none can be made, members work one after the other.
+/// Has each member mark its places, side by side. It starts as many threads as there are members, less one; if none can be made, members work one after the other.
 pub fn mark_all<R: Threads + Sync, G: Gate>(rt: &R, gate: &G, board: &Board, crew: &mut [Marker])
     requires { All (IsReady board.now.table_id) crew.old }
     ensures { AreMarked board.now.table_id crew.old crew.new }
@@ -129,7 +129,7 @@ fn copy_out(table: BoardTable, lead: MarkSeat, bits: &mut [u64])
     closed.free();
 }
 
-/// So many words of 64 places each, in which a bit is set exactly where some list has its place. Each list is one member's, and `marks` has the crew mark, in one call. It takes memory for the words twice, and for a member of each list; want of it is the only error.
+/// So many words of 64 places each, in which a bit is set exactly if some list has its place. Each list is one member's, and `marks` has the crew mark, in one call. It takes memory for the words twice, and for a member of each list; want of it is the only error.
 pub fn marked_by<M: Marks>(
     alloc: Global,
     marks: &mut M,

@@ -46,7 +46,7 @@ pub trait Answers<W> {
     ghost fails_on: { (a b c : Self) (e : Self.Error) → leaves a b → fails b c e → fails a c e };
 }
 
-/// Has a crew take turns, and answers those who ask after each, until nobody asks. It returns since an answer leaves less to do to whoever asked, and a turn no more. Each turn is one call of `run`, and an answer of each member behind it. Of the crew after an error it says nothing but its length.
+/// Has a crew take turns, and answers those who ask after each, until nobody asks. It returns since an answer leaves less to do to whoever asked, and a turn no more. Each turn is one call of `run`, and an answer of each member after it. Of the crew after an error it says nothing but its length.
 pub fn turn_until_quiet<W, T: Runs<W>, A: Answers<W>>(
     run: &mut T,
     answers: &mut A,

@@ -20,7 +20,7 @@ pub trait Turning: Send {
         ensures { Turns left may_turn self.old self.new };
 }
 
-/// Has each member take its turn, side by side. Each call starts as many threads as there are members, less one; where none can be made, members work one after the other.
+/// Has each member take its turn, side by side. Each call starts as many threads as there are members, less one; if none can be made, members work one after the other.
 pub fn turn_all<R: Threads + Sync, G: Gate, W: Turning>(rt: &R, gate: &G, crew: &mut [W])
     ensures { AreTurned (Turns W.left W.may_turn) crew.old crew.new }
 {

@@ -31,7 +31,7 @@ pub on-ok : {X E : Type 0} {P : Type 0} (r : Result X E) → P → OnOk r P
 on-ok (Ok x) p = p
 on-ok (Err e) p = tt
 
--- metadata counts what it counted where it is what it was
+-- metadata counts what it counted if it is what it was
 pub counted-beside : (o new : Option Stored) (name after : Bytes) (count now : ℕ) → except_items new ≡ except_items o → after ≡ name → now ≡ count → IfSome o (λ s. count_in (metadata_in s.metadata name) ≡ count)
     → IfSome new (λ s. count_in (metadata_in s.metadata after) ≡ now)
 counted-beside None None name after count now same named is counted = tt

@@ -44,7 +44,7 @@ put-counted (Some s) None name after entries f count now is put named counts sam
 put-counted (Some s) (Some t) name after entries f count now is put named counts same =
     ap (λ (x : Stored). count_in (metadata_in x.metadata after)) is ∙ ap (λ n. count_in (metadata_in (f s).metadata n)) named ∙ ap count_in (put s) ∙ counts ∙ sym same
 
--- all of a store is stable where it was before metadata was put
+-- all of a store is stable if it was before metadata was put
 pub put-stable : (o new : Option Stored) (name : Bytes) (entries : List Entry) → Becomes o new (with_metadata name entries) → IfSome o (λ s. s.stable ≡ end_of s) → IfSome new (λ s. s.stable ≡ end_of s)
 put-stable None new name entries is stable = subst (λ n. IfSome n (λ s. s.stable ≡ end_of s)) (sym is) tt
 put-stable (Some s) None name entries is stable = absurd is
@@ -109,7 +109,7 @@ module _ {C D : Type 0} (members : store.Ghosts C) where
         over = subst (λ a. new.log.tree.start < suc a.pruned * (8 * chunk)) (sym activity) (subst (λ n. n < suc old.any.activity.pruned * (8 * chunk)) (sym start) joined.over);
       }
 
-  -- a call behind another
+  -- a call after another
   pub lasted-behind : (hashing : Hashing D) (f more : Stored → Stored) (old middle new : anys.Database C D) → lasting.HasLasted members hashing f old middle → lasting.HasLasted members hashing more middle new → lasting.HasLasted members hashing (λ s. more (f s)) old new
   lasted-behind hashing f more old middle new first last = record {
     rest = last.rest ∙ ap (λ (x : anys.Database C D). record x { log = new.log }) first.rest;
@@ -124,7 +124,7 @@ module _ {C D : Type 0} (members : store.Ghosts C) where
   }
 
   module _ (layout : Layout D) where
-    -- what is left where metadata was to be put
+    -- what is left if metadata was to be put
     pub put-left : (count : ℕ) (self : Database C D) (entries : List Entry) (new : C) → AreEntries layout self.canonical count entries → logs.HasLeft members (λ s. ReadsAs s.stable (IsOldOrNew (with_metadata self.name entries) s)) self.any.log.store new
         → HasLeftUncounted members layout (λ s. s) count self new
     put-left count self entries new counts left = inr (record {
@@ -135,7 +135,7 @@ module _ {C D : Type 0} (members : store.Ghosts C) where
       told = leaves-now (members.told self.any.log.store) (members.told new) (λ s. ReadsAs s.stable (IsOldOrNew (with_metadata self.name entries) s)) (λ s. ReadsAs s.stable (IsOldOrNew (with_metadata self.name entries) s)) left.told;
     })
 
-    -- and where memory lacked before
+    -- and if memory lacked before
     pub lacking : (count : ℕ) (self : Database C D) (r : Refusal (Database C D) C) → r.given ≡ given.Store self.any.log.store → r.error ≡ errors.Memory → IsGivenUp members (λ _. HasLeftUncounted members layout (λ s. s) count self) self.any.log.store r
     lacking count self r back memory = record {
       store = self.any.log.store;
@@ -191,7 +191,7 @@ module _ {C D : Type 0} (members : store.Ghosts C) where
         put-counted (members.told old.any.log.store) (members.told new.any.log.store) old.name new.name put.entries (λ s. with_metadata old.name put.entries (f s)) old.any.activity.pruned new.any.activity.pruned put.any.store.told
         (λ s. metadata_in-same old.name put.entries (f s)) (ap (λ (d : Database C D). d.name) put.rest) put.counts.count_is (ap (λ (d : anys.Database C D). d.activity.pruned) put.any.rest)
 
-    -- metadata counts what it counted, where a call left it
+    -- metadata counts what it counted, if a call left it
     pub lasted-counted : (f : Stored → Stored) (old new : Database C D) → ((s : Stored) → (f s).metadata ≡ s.metadata) → HasLasted members layout f old new → IsCounted members old → IsCounted members new
     lasted-counted f old new keeps last counted =
         at (members.told old.any.log.store) (members.told new.any.log.store) old.name new.name old.any.activity.pruned new.any.activity.pruned last.any.store.told (ap (λ (d : Database C D). d.name) last.rest) (ap (λ (d : anys.Database C D). d.activity.pruned) last.any.rest) counted
@@ -202,7 +202,7 @@ module _ {C D : Type 0} (members : store.Ghosts C) where
         at (Some s) (Some t) name after count now is named same counted =
             ap (λ (x : Stored). count_in (metadata_in x.metadata after)) is ∙ ap (λ ms. count_in (metadata_in ms after)) (keeps s) ∙ ap (λ n. count_in (metadata_in s.metadata n)) named ∙ counted ∙ sym same
 
-    -- entries behind a call count for what was there before
+    -- entries after a call count for what was there before
     pub entries-behind : (f : Stored → Stored) (count now : ℕ) (entries : List Entry) (old middle : Database C D) → HasLasted members layout f old middle → now ≡ count → AreEntries layout middle.canonical now entries → AreEntries layout old.canonical count entries
     entries-behind f count now entries old middle last same counts =
         subst (λ n. AreEntries layout old.canonical n entries) same (subst (λ (k : Canonical D). AreEntries layout k now entries) (ap (λ (d : Database C D). d.canonical) last.rest) counts)
@@ -213,7 +213,7 @@ module _ {C D : Type 0} (members : store.Ghosts C) where
     pub name-same : (f : Stored → Stored) (old middle : Database C D) → HasLasted members layout f old middle → middle.name ≡ old.name
     name-same f old middle last = ap (λ (d : Database C D). d.name) last.rest
 
-    -- what is counted behind a call
+    -- what is counted after a call
     pub counted-behind : (f : Stored → Stored) (old middle new : Database C D) → HasLasted members layout f old middle → HasCounted members layout (λ s. s) middle new → HasCounted members layout f old new
     counted-behind f old middle new last put = record {
       entries = put.entries;
@@ -223,7 +223,7 @@ module _ {C D : Type 0} (members : store.Ghosts C) where
       rest = put.rest ∙ ap (λ (x : Database C D). record x { any = new.any }) last.rest;
     }
 
-    -- and what is left where that failed
+    -- and what is left if that failed
     pub uncounted-behind : (f : Stored → Stored) (count now : ℕ) (old middle : Database C D) (new : C) → HasLasted members layout f old middle → now ≡ count → HasLeftUncounted members layout (λ s. s) now middle new → HasLeftUncounted members layout f count old new
     uncounted-behind f count now old middle new last same (inl made) = inl (record {
       start = made.start ∙ last.any.store.start;
@@ -239,7 +239,7 @@ module _ {C D : Type 0} (members : store.Ghosts C) where
           (turns-behind (members.told (store_in old)) (members.told (store_in middle)) (members.told new) f (λ s. ReadsAs s.stable (IsOldOrNew (with_metadata middle.name left.entries) s)) last.any.store.told left.told);
     })
 
-    -- a refusal behind a call
+    -- a refusal after a call
     pub cause-behind : {X : Type 0} (f : Stored → Stored) (Left More : C → C → Type 0) (old middle : Database C D) (r : Refusal X C) → HasLasted members layout f old middle → ((new : C) → Left middle.any.log.store new → More old.any.log.store new)
         → IsGivenUp members Left middle.any.log.store r → IsGivenUp members More old.any.log.store r
     cause-behind f Left More old middle r last more up = record {

@@ -38,11 +38,11 @@ module _ {D : Type 0} (size : ℕ) (layout : Layout D) where
   abbrev m : Scheme
   m = scheme_of size layout offered_name
 
-  -- where all of it stays
+  -- if all of it stays
   all-beside : (s t : Stored) → t.metadata ≡ s.metadata → t.ends ≡ s.ends → StaysBeside m s t
   all-beside s t metadata ends = record { metadata = λ name other. ap (λ ms. metadata_in ms name) metadata; ends = ends }
 
-  -- and where another count was put
+  -- and if another count was put
   put-beside : (s t : Stored) (entries : List Entry) → t.metadata ≡ (with_metadata offered_name entries s).metadata → t.ends ≡ s.ends → StaysBeside m s t
   put-beside s t entries metadata ends = record {
     metadata = λ name other.
@@ -122,7 +122,7 @@ module _ {D : Type 0} (size : ℕ) (layout : Layout D) where
         turned-with (members.told (store_in old)) new (λ s. counted_in m s ≡ old.any.activity.pruned) (λ s t. t ≡ with_metadata old.name entries (settled s)) (λ s t. t ≡ synced m list s) counts
         (λ s t counted e. e ∙ put-is (λ n. n) entries s are counted) made
 
-    -- what is left where it was not put, or put
+    -- what is left if it was not put, or put
     uncounted-told : (more : ℕ → ℕ) (new : C) → HasLeftUncounted members layout settled (more old.any.activity.pruned) old new
         → Turns (members.told (store_in old)) (members.told new) (λ s. ReadsAs (end_of s) (IsOldOrNew (with_count m list (more (counted_in m s))) (settled s)))
     uncounted-told more new (inl made) =
@@ -174,7 +174,7 @@ module _ {D : Type 0} (size : ℕ) (layout : Layout D) where
           (λ s t r. inr (inl r))
           (uncounted-told (λ n. max n (to / 2 ^ grafting layout.chunk)) new (subst (λ w. HasLeftUncounted members layout settled (max old.any.activity.pruned (to / w)) old new) (sym span) left))
 
-      -- and behind it
+      -- and after it
       pub prune-cut : (start : ℕ) (IsHead : Bytes → Type 0) (new : C) → old.any.log.tree.start ≡ start → (left : HasLeftPruned members layout settled to old new) → IsHead left.any.head
           → Turns (members.told (store_in old)) (members.told new) (LeavesPrune m list start IsHead to)
       prune-cut start IsHead new same left head =

@@ -191,7 +191,7 @@ module _ {C D : Type 0} where
   answered-err (Ok x) P p = tt
   answered-err (Err e) P p = p
 
-  -- a database is given back where its any one is, if none but it is
+  -- a database is given back if its any one is, if none but it is
   pub given-same : (g : Given (Database C D) C) (any : anys.Database C D) (old : Database C D) → any_given g ≡ given.Database any → ((x : Database C D) → g ≡ given.Database x → x ≡ old) → g ≡ given.Database old
   given-same (given.Database x) any old is back = ap given.Database (back x refl)
   given-same (given.Store s) any old is back = absurd (cc is)

@@ -52,7 +52,7 @@ use Rattle.qm_current.specs.Opening.{Counts, IsUnfit, Opens, is_early, is_past, 
 
 -- Refusals.
 
--- where no reason is due none of them is
+-- if no reason is due none of them is
 first-none : {A : Type 0} (r : Option A) (rs : List (Option A)) → first_refusal (r ∷ rs) ≡ None → (r ≡ None) × (first_refusal rs ≡ None)
 first-none None rs is = (refl, is)
 first-none (Some x) rs is = absurd (cc is)
@@ -76,14 +76,14 @@ module _ (form : Form) (shape : Shape) (digest_size chunk : ℕ) (name : Bytes) 
   abbrev finds : Option Corrupt → ℕ → model.Found
   finds wrong n = record { start = s.start; items = map (decoded form) s.items; head = s.head; metadata = wrong; count = n }
 
-  -- where metadata is read, the rest is refused as of a store of which so many chunks are pruned
+  -- if metadata is read, the rest is refused as of a store of which so many chunks are pruned
   pub due-same : metadata_refusal lying (metadata_in s.metadata name) ≡ None → count ≡ count_in (metadata_in s.metadata name)
       → refusal_up_to lying bound s ≡ selecting.refusal_up_to form shape digest_size (Some (pruned_view chunk (count, threshold))) bound s
   due-same readable is =
       ap (λ wrong. opening_refusal lying (finds wrong (count_in (metadata_in s.metadata name))) bound) readable
       ∙ ap (λ n. opening_refusal lying (finds None n) bound) (sym is)
 
-  -- where it is not, by a bound that is no 0, that is why
+  -- if it is not, by a bound that is no 0, that is why
   pub due-unread : (wrong : Corrupt) → option_map_or (λ n. n == 0) bound false ≡ false → metadata_refusal lying (metadata_in s.metadata name) ≡ Some wrong → refusal_up_to lying bound s ≡ Some (DataCorrupted wrong)
   due-unread wrong some is =
       ap (λ b. option_or (when b InvalidInitializationBound) (first_refusal (drop 1 (checks lying (finds (metadata_refusal lying (metadata_in s.metadata name)) (count_in (metadata_in s.metadata name))) bound)))) some
@@ -146,19 +146,19 @@ selected-within : (f : model.Found) (bound : Option ℕ) → size_of (selected f
 selected-within f None = last-within f.start None f.items (omega arith)
 selected-within f (Some bound) = let few = last-within f.start None (take (bound - f.start) f.items) (omega arith) in omega (arith, few, length-take (bound - f.start) f.items)
 
--- a store has no fewer items behind an opening than were selected
+-- a store has no fewer items after an opening than were selected
 end-taken : (m : Scheme) (n : ℕ) (s : Stored) → n ≤ end_of s → n ≤ end_of (taken m n s)
 end-taken m zero s within = omega arith
 end-taken m (suc n) s within = omega (arith, within, length-take (suc n - s.start) s.items)
 
--- what is long enough stays so where it grows
+-- what is long enough stays so if it grows
 longer : (threshold : Option ℕ) (n m : ℕ) → n ≤ m → is_early threshold n ≡ false → is_early threshold m ≡ true → ⊥
 longer None n m up enough early = absurd (cc early)
 longer (Some least) n m up enough early = let more = ltb-false n least enough in let less = ltb-true m least early in absurd (omega (arith, up, more, less))
 
 -- Whether a grafted tree can be made.
 
--- a start that is not past the chunk behind the pruned ones is below its end
+-- a start that is not past the chunk after the pruned ones is below its end
 pub start-within : (chunk start pruned h : ℕ) → 2 ^ h ≡ 8 * chunk → start / 2 ^ h ≤ pruned → start < suc pruned * (8 * chunk)
 start-within chunk start pruned h span low = subst (λ k. start < suc pruned * k) span ((div-lt_iff_lt-mul (pow_pos h)).0 (omega (arith, low)))
 
@@ -238,7 +238,7 @@ module _ {D : Type 0} (layout : Layout D) (digest_size : ℕ) (name : Bytes) whe
       same-pins pins (own count)
       (sym counts.pins_are ∙ subst (λ n. pins_found layout.hashing.shape (metadata_in s.metadata name) n ≡ map (λ pin. Some pin) (own n)) (sym counts.count_is) is.0.grafted)
 
--- what is told behind a call, by what was told before
+-- what is told after a call, by what was told before
 was-told : (o new : Option Stored) (R : Stored → Stored → Type 0) (t : Stored) → Turns o new R → new ≡ Some t → (s : Stored) × (o ≡ Some s) × R s t
 was-told None new R t turns is = absurd (cc (turns, is))
 was-told (Some s) None R t turns is = absurd turns

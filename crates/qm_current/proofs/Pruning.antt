@@ -33,7 +33,7 @@ max-less a b n one other = ⊎_elim
     (λ (most : b ≤ a). subst (λ m. m < n) (sym (max-eq_left most)) one)
     (cases_lt a b)
 
--- a log that starts in the chunk behind the pruned ones does so after a prune
+-- a log that starts in the chunk after the pruned ones does so after a prune
 pub over-after : (start to chunks w : ℕ) → 0 < w → start < suc chunks * w → max start to < suc (max chunks (to / w)) * w
 over-after start to chunks w some less = ⊎_elim
     (λ (beyond : chunks < to / w).
@@ -65,7 +65,7 @@ fewer-before start chunks more same = ⊎_elim
     (cases_lt chunks more)
 
 module _ {C D : Type 0} (members : store.Ghosts C) where
-  -- a prune behind a call, of an any database
+  -- a prune after a call, of an any database
   any-pruned-behind : (layout : Layout D) (f more : Stored → Stored) (to : ℕ) (self middle db : anys.Database C D) → lasting.HasLasted members layout.hashing f self middle → lasting.HasPruned members layout more to middle db → lasting.HasPruned members layout (λ s. more (f s)) to self db
   any-pruned-behind layout f more to self middle db last cut = record {
     rest = cut.rest ∙ ap (λ (x : anys.Database C D). record x { log = db.log; activity = bits_from layout.chunk to x.activity }) last.rest;
@@ -117,7 +117,7 @@ module _ {C D : Type 0} (members : store.Ghosts C) where
       rest = ap (λ (k : Canonical D). record self { any = cut; canonical = k }) rest;
     }
 
-    -- and leave where the last of them failed
+    -- and leave if the last of them failed
     pub cut-left : (to : ℕ) (self : Database C D) (put dropped : anys.Database C D) (entries : List Entry) (new : C) → AreEntries layout self.canonical (chunks_after layout.chunk to self) entries
         → lasting.HasLasted members layout.hashing (with_metadata self.name entries) self.any put → dropped ≡ record put { activity = bits_from layout.chunk to put.activity } → lasting.HasLeftPruned members layout.hashing (λ s. s) to dropped.log new
         → HasLeftPruned members layout (λ s. s) to self new
@@ -172,7 +172,7 @@ module _ {C D : Type 0} (members : store.Ghosts C) where
         by true s = metadata_in-same old.name cut.entries (f s)
         by false s = metadata_in-same old.name cut.entries (f s)
 
-    -- a prune behind a call
+    -- a prune after a call
     pub pruned-behind : (f : Stored → Stored) (to : ℕ) (old middle new : Database C D) → HasLasted members layout f old middle → HasPruned members layout (λ s. s) to middle new → HasPruned members layout f to old new
     pruned-behind f to old middle new last cut =
         let same = ap (λ n. max n (to / (8 * layout.chunk))) (pruned-same members layout f old middle last) in

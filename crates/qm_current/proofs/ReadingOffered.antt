@@ -53,7 +53,7 @@ module _ {C D : Type 0} (members : store.Ghosts C) (layout : Layout D) (old new 
       pub read-never : IfErr r (λ e. e ≢ errors.StaleBatch)
       read-never = err-then r reads.error (λ e why. offers.log-kept members old.any.log new.any.log e why)
 
-      -- and for no refusal where the store tells all
+      -- and for no refusal if the store tells all
       pub read-untold : IfErr r (λ e. (list : List Operation) → IsOffered members layout old list → TellsFrom members old.any.log.store list → refusal_of e ≡ None)
       read-untold =
           err-then r (offers.read-untold members layout old.any new.any.log r reads.error reads.whole)

@@ -35,7 +35,7 @@ chunks_after chunk to db = max db.any.activity.pruned (to / (8 * chunk))
 abbrev pub given_up : {C D : Type 0} → Refusal (anys.Database C D) C → Refusal (Database C D) C
 given_up refusal = record { given = Store (store_given anys_applying.store_in refusal.given); error = refusal.error }
 
--- the database over the any one that a call left, or the store where the call was refused
+-- the database over the any one that a call left, or the store if the call was refused
 abbrev pub over_any : {C D : Type 0} → Canonical D → ℕ → Bytes → Result (anys.Database C D) (Refusal (anys.Database C D) C) → Result (Database C D) (Refusal (Database C D) C)
 over_any canonical instance name (Ok any) = Ok (record { any = any; canonical = canonical; instance = instance; name = name })
 over_any canonical instance name (Err refusal) = Err (given_up refusal)
@@ -81,7 +81,7 @@ module _ {C D : Type 0} (members : store.Ghosts C) (layout : Layout D) (f : Stor
   abbrev pub HasLeftUncounted : ℕ → Database C D → C → Type 0
   HasLeftUncounted count old new = logs.HasBecome members (store_in old) new f ⊎ HasLeftCounted count old new
 
-  -- a prune to a location after the start failed behind the metadata
+  -- a prune to a location after the start failed after its metadata was put
   pub record HasLeftPruned (to : ℕ) (old : Database C D) (new : C) : Type 0 where
     pub entries : List Entry
     pub counts : AreEntries layout old.canonical (chunks_after layout.chunk to old) entries

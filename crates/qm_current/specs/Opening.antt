@@ -40,7 +40,7 @@ pub record Counts (layout : model.Layout) (name : Bytes) (s : Stored) (count : �
   pub count_is : count ≡ count_in (metadata_in s.metadata name)
   pub pins_are : pins_found layout.shape (metadata_in s.metadata name) count ≡ map (λ pin. Some pin) pins
 
--- a store starts past the chunk of this number of bytes behind the pruned ones
+-- a store starts past the chunk of this number of bytes after the pruned ones
 abbrev pub is_past : ℕ → ℕ → ℕ → Bool
 is_past chunk start pruned = nat_lt pruned (start / 2 ^ grafting chunk)
 
@@ -54,7 +54,7 @@ IsUnfit e chunk threshold start size pruned = ((e ≡ DataCorrupted PrunedPastBi
 
 module _ {C D : Type 0} (members : store.Ghosts C) (layout : Layout D) (digest_size : ℕ) (name : Bytes) where
   -- What comes of opening a store up to a bound, as a database of this instance number, whose chunks metadata of this name counts: it stands
-  -- for the list that is taken up, with as many chunks of it pruned as that tells, and what the store has behind that list is gone; or it is
+  -- for the list that is taken up, with as many chunks of it pruned as that tells, and what the store has after that list is gone; or it is
   -- refused as the definition says, with the store as it was; or memory or the store failed. Of a store that tells no items its start and
   -- its faults are told.
   pub record Opens (bound : Option ℕ) (number : ℕ) (old : C) (result : Result (Database C D) (Refusal (Database C D) C)) : Type 0 where

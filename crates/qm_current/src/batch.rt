@@ -198,7 +198,7 @@ impl<F: Graftable, D: Digest, U: Update, N: Chunks> MerkleizedBatch<F, D, U, N> 
     }
 
     /// Begins a batch on the list that this one makes, which keeps this one and the first `n` that this one keeps, newest
-    /// first, or all where there are fewer.
+    /// first, or all if there are fewer.
     pub fn new_batch_keeping(
         batch: &Rc<Self>,
         alloc: Global,

@@ -186,8 +186,8 @@ impl<
 > Db<F, C, I, H, U, N> {
     /// Takes the batch's tip list, as the any database does, and with it the grafted tree and the canonical root: nothing is hashed.
     /// The commitment alone decides whether the batch is stale, and not on which instance its chain began. The database comes back as
-    /// it was where the batch is stale. Where memory lacks it comes back as it was, or its store does, which may have a first part of
-    /// what the list adds, or all of it; where the store failed, its store does.
+    /// it was if the batch is stale. If memory lacks it comes back as it was, or its store does, which may have a first part of
+    /// what the list adds, or all of it; if the store failed, its store does.
     pub fn apply_batch(
         self,
         alloc: Global,
@@ -233,7 +233,7 @@ impl<
     }
 }
 
-// The database over an any one that took a batch, where what it kept beside the older one takes it too.
+// The database over an any one that took a batch, if what it kept beside the older one takes it too.
 fn joined<
     F: Graftable,
     C: Store,
@@ -279,7 +279,7 @@ fn joined<
     }
 }
 
-// What a database gives back where the any one refused.
+// What a database gives back if the any one refused.
 fn given_back<
     F: Graftable,
     C: Store,

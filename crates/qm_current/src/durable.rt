@@ -125,8 +125,8 @@ impl<
 
     /// Takes the operations before a location away from the store, which keeps the digests of the peaks there, with the chunks of
     /// bits that end at or before it and their leaves of the grafted tree: roots, reads and later batches stay what they were. All
-    /// operations are made stable first; then metadata is written that counts these chunks too, also where the store starts at the
-    /// location or after it. The database comes back as it was where the location is past its boundary; every other refusal gives
+    /// operations are made stable first; then metadata is written that counts these chunks too, also if the store starts at the
+    /// location or after it. The database comes back as it was if the location is past its boundary; every other refusal gives
     /// back the store.
     pub fn prune(self, alloc: Global, loc: Location<F>) -> Result<Self, Refusal<Self, C>>
         ensures stands { (list : List Operation)
@@ -164,7 +164,7 @@ impl<
         }
     }
 
-    // The database without what stands before a location, where all is stable.
+    // The database without what stands before a location, if all is stable.
     fn cut(self, alloc: Global, to: u64) -> Result<Self, Refusal<Self, C>>
         requires within { to ≤ boundary_of F.shape N.LEN self }
         requires stable { IfSome (C.told self.any.log.store) (λ s. s.stable ≡ end_of s) }
@@ -252,7 +252,7 @@ impl<
     }
 }
 
-// The database over what a call left of the any one, or the store where the call was refused.
+// The database over what a call left of the any one, or the store if the call was refused.
 fn over<
     F: Graftable,
     C: Store,
@@ -281,7 +281,7 @@ fn over<
     }
 }
 
-// What a database gives back where a call of the any one was refused: the store.
+// What a database gives back if a call of the any one was refused: the store.
 fn given_up<
     F: Graftable,
     C: Store,
@@ -316,7 +316,7 @@ fn store_of<
     }
 }
 
-// What a database gives back where memory lacked: the store as it is.
+// What a database gives back if memory lacked: the store as it is.
 fn out_of_memory<
     F: Graftable,
     C: Store,

@@ -163,7 +163,7 @@ fn store_back<
 }
 
 // The database over an any one that was opened, from the digests of the grafted tree's peaks over its pruned chunks, which wait for a
-// list of this size, if they wait for one. Where it is refused its store is given back.
+// list of this size, if they wait for one. If it is refused its store is given back.
 fn joined<
     F: Graftable,
     C: Store,
@@ -218,7 +218,7 @@ fn joined<
     }
 }
 
-// Whether a grafted tree can be made over a database that was opened: its store starts in the chunk behind the pruned ones or before, and
+// Whether a grafted tree can be made over a database that was opened: its store starts in the chunk after the pruned ones or before, and
 // its list is as long as these wait for. The opening looked at both, so no store that tells its items is refused here; but what the
 // opening says of both it says of these stores alone.
 fn fits<

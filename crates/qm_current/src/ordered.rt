@@ -32,7 +32,7 @@ impl<
     N: Chunks,
 > Db<F, C, I, H, U, N> {
     /// The live update whose span holds the key, with its location: the key's own, or else that of the nearest live key
-    /// before it, around the ring; none only where no key is live.
+    /// before it, around the ring; none only if no key is live.
     pub fn get_span(
         &mut self,
         alloc: Global,
@@ -132,7 +132,7 @@ impl<
 }
 
 impl<F: Graftable, D: Digest, U: Update, N: Chunks> MerkleizedBatch<F, D, U, N> {
-    /// The nearest live key above this one on the list that the batch makes, which does not go round. It is read where `get`
+    /// The nearest live key above this one on the list that the batch makes, which does not go round. It is read if `get`
     /// can read.
     pub fn get_next_key<
         C: Store,
@@ -157,7 +157,7 @@ impl<F: Graftable, D: Digest, U: Update, N: Chunks> MerkleizedBatch<F, D, U, N> 
         self.any.get_next_key(alloc, key, &mut db.any)
     }
 
-    /// The nearest live key below this one on the list that the batch makes, which does not go round. It is read where `get`
+    /// The nearest live key below this one on the list that the batch makes, which does not go round. It is read if `get`
     /// can read.
     pub fn get_prev_key<
         C: Store,

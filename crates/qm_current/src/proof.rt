@@ -69,7 +69,7 @@ impl<
         self.any.historical_proof(alloc, size, start, max)
     }
 
-    /// The digests of the peaks of the operations' tree over the first `count` operations, from left to right. Where the store has
+    /// The digests of the peaks of the operations' tree over the first `count` operations, from left to right. If the store has
     /// the operations from there on, or earlier ones, all digests are there.
     pub fn pinned_nodes_at(
         &self,

@@ -101,7 +101,7 @@ impl<
         }
     }
 
-    /// The next live key of a scan's range with its value, or nothing behind the last, of a scan that has not the database for
+    /// The next live key of a scan's range with its value, or nothing after the last, of a scan that has not the database for
     /// itself. A refused read, or want of memory, leaves all that was left. Between two calls the database stays as it is.
     pub fn scan_next(
         &mut self,
@@ -128,7 +128,7 @@ impl<
     U: Steps<F, I>,
     N: Chunks,
 > RangeScan<'_, F, C, I, H, U, N> {
-    /// The next live key of the range with its value, or nothing behind the last. A refused read, or want of memory, leaves
+    /// The next live key of the range with its value, or nothing after the last. A refused read, or want of memory, leaves
     /// all that was left, and the next call reads the same bucket again.
     pub fn next(&mut self) -> Option<Result<(U::Key, U::Value), Error>>
         requires { U.form.ordered ≡ true }
@@ -154,7 +154,7 @@ impl<
     U: Steps<F, I>,
     N: Chunks,
 > KeyScan<'_, F, C, I, H, U, N> {
-    /// The next live key of the range, or nothing behind the last. It reads as `RangeScan::next` does.
+    /// The next live key of the range, or nothing after the last. It reads as `RangeScan::next` does.
     pub fn next(&mut self) -> Option<Result<U::Key, Error>>
         requires { U.form.ordered ≡ true }
         ensures value { AtList C.Store ⟦<any::Db<F, C, I, H, U, N> as LaidOut>⟧.layout

@@ -50,7 +50,7 @@ impl<F: Graftable, D: Digest, U: Update, N: Chunks> Model for Staged<F, D, U, N>
 
 impl<F: Graftable, D: Digest, U: Update, N: Chunks> UnmerkleizedBatch<F, D, U, N> {
     /// Reads the values of keys, as `get_many` does, and keeps what the base list has of each, so that no staged key is looked
-    /// up again, as the any batch does. The batch is gone also where this is refused.
+    /// up again, as the any batch does. The batch is gone also if this is refused.
     pub fn stage<C: Store, I: qm_index::Unordered<Value = Location<F>>, H: Hasher<Digest = D>>(
         self,
         alloc: Global,
@@ -93,7 +93,7 @@ impl<F: Graftable, D: Digest, U: Update, N: Chunks> Staged<F, D, U, N> {
     }
 
     /// Reads the values of more keys, as `stage` does, and puts them after the staged ones; a key may be staged again. It
-    /// gives their places among these, and is gone also where this is refused.
+    /// gives their places among these, and is gone also if this is refused.
     pub fn expand<C: Store, I: qm_index::Unordered<Value = Location<F>>, H: Hasher<Digest = D>>(
         self,
         alloc: Global,

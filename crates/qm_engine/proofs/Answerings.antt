@@ -141,7 +141,7 @@ module _ (input rest line behind : Bytes) (k : ℕ) (at : IsAt input rest k) (fo
         loop_step m policies log choices (commands_in input) text_of with_line text_of-push k c old new Before After
         (at_within input rest line behind k at found c e) (at_command input rest line behind k at found c e) so_far one
 
-    -- what is left where the loop ended at it
+    -- what is left if the loop ended at it
     line_left : (o : Option (Line Policy)) → line_of line ≡ o → (left : Option Stored) (Before : State → Type 0)
         → (Apart m.root (after m policies log choices (commands_in input) k).had → Before (after m policies log choices (commands_in input) k))
         → ((s : State) → Before s → Apart m.root s.had → IsOwnLeft m policies left s.log (after_line m policies s o).log)
@@ -152,7 +152,7 @@ module _ (input rest line behind : Bytes) (k : ℕ) (at : IsAt input rest k) (fo
     line_left (Some c) e left Before so_far leaves =
         left_in m policies log choices (commands_in input) k c left Before (at_within input rest line behind k at found c e) (at_command input rest line behind k at found c e) so_far leaves
 
-    -- what is left where all commands were answered before it
+    -- what is left if all commands were answered before it
     line_whole : (o : Option (Line Policy)) → line_of line ≡ o → (left : Option Stored) (Before : State → Type 0)
         → (Apart m.root (after m policies log choices (commands_in input) k).had → Before (after m policies log choices (commands_in input) k))
         → ((s : State) → Before s → o ≡ None → IsOwnStore m policies left s.log)
@@ -173,7 +173,7 @@ module _ (input rest line behind : Bytes) (k : ℕ) (at : IsAt input rest k) (fo
       left = line_left (line_of line) refl left Before (λ apart. (so_far apart).1) leaves;
     }
 
--- the loop ended behind the last line, or before the first
+-- the loop ended after the last line, or before the first
 pub answered_at : (m : Scheme) (log : Log) (choices : List ℕ) (input : Bytes) (k : ℕ) (text : Bytes) (left : Option Stored) → k ≤ length (commands_in input)
     → (Apart m.root (after m policies log choices (commands_in input) k).had → (text ≡ text_of (answers m policies (initial log choices) (take k (commands_in input)))) × HasLog m left (after m policies log choices (commands_in input) k).log × IsKept (engine_of m policies) (after m policies log choices (commands_in input) k).log)
     → IsAnswered m policies log choices (commands_in input) k text left
@@ -198,7 +198,7 @@ pub line-own : {X C B S M : Type 0} (members : stores.Ghosts C) (means : meaning
 line-own members means session rest None left s stable between apart is = owned means.scheme policies s.log s.log between.sound.kept between.sound.kept (inl (Begins-self s.log.list)) left stable is
 line-own members means session rest (Some line) left s stable between apart is = own-left members means policies session rest line left s stable between apart is
 
--- what holds, where there is none; and what follows, where there is one
+-- what holds, if there is none; and what follows, if there is one
 pub none-any : {X : Type 0} (o : Option X) {P : Type 0} → P → IfNone o P
 none-any None p = p
 none-any (Some x) p = tt

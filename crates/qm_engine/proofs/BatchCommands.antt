@@ -127,7 +127,7 @@ module _ {X C B S M K V D : Type 0} (members : stores.Ghosts C) (means : meaning
   -- the tip list of a batch whose number is used up
   module _ (held : Given X C) (table : List (Slot B S M)) (opened h : ℕ) (s : State) (list : List Operation) (chain : Chain) (tip : List Operation)
       (k : Holds members means held table opened (with_slot s h machine.gone)) (in_had : Contains s.had list) (among : IsAmong s.had chain) where
-    -- it is on the chain where it fits, also beside the list that is made
+    -- it is on the chain if it fits, also beside the list that is made
     on_chain : Apart root s.had → fits root (commitment root list) chain ≡ true → IsOnChain list chain
     on_chain apart fit = on_chain-fits root s.had list chain apart in_had among fit
 
@@ -194,7 +194,7 @@ module _ {X C B S M K V D : Type 0} (members : stores.Ghosts C) (means : meaning
         refusing r due None is_due = λ apart. absurd (none_some is_due (due.2 (on_chain-made apart due.1)))
         refusing r due (Some q) is_due = λ apart. (ap refuses (sym (due.2 (on_chain apart due.1)) ∙ is_due), k)
 
-  -- what a call says that makes a batch's tip list, where the store tells all of the database's
+  -- what a call says that makes a batch's tip list, if the store tells all of the database's
   pub making_of : (x : X) (n : ℕ) (list : List Operation) (chain : Chain) (tip : List Operation) (made : Result M Error) → means.numbered x n → TellsFrom members (means.inside x) list → (IsOnChain list chain → floor list ≤ floor chain.base)
       → Makes means members x list chain tip made → IsMaking means n list chain tip made
   making_of x n list chain tip (Ok b) is tells low makes = record { instance = makes.instance n is; fit = makes.fit; made = makes.made; stale = tt; refused = tt }
@@ -261,7 +261,7 @@ module _ {X C B S M K V D : Type 0} (members : stores.Ghosts C) (means : meaning
   applied_in peakless x after table opened h batch size s list k counts in_had log_is low floors same_number fit_of did grown sized (Merkleized w) b is sound e = absurd is
   applied_in peakless x after table opened h batch size s list k counts in_had log_is low floors same_number fit_of did grown sized a b is sound e = absurd (cc)
 
-  -- one that found the batch left behind
+  -- one that found the batch stale
   unapplied_in : (x : X) (table : List (Slot B S M)) (opened : ℕ) (h : ℕ) (batch : M) (s : State) (list : List Operation)
       → Holds members means (Database x) table opened s → Contains s.had list
       → ((chain : Chain) (tip : List Operation) → means.is_merkleized batch chain tip → IsOnChain list chain → ⊥)

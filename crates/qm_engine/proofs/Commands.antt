@@ -67,7 +67,7 @@ some-map (Some x) next p = next x p
 pub stored-same : {C : Type 0} (members : stores.Ghosts C) (m : Scheme) (old new : C) (log : Log) → IsUnchanged members old new → IsStored members m old log → IsStored members m new log
 stored-same members m old new log same is = record { start = same.start ∙ is.start; told = record { stored = is.told.stored; is = same.told ∙ is.told.is; has = is.told.has } }
 
--- nothing of what a command puts behind a list
+-- nothing of what a command appends to a list
 pub left_none : (m : Scheme) (before after : Log) (left : Option Stored) → HasLog m left before → IsLeft m left before after
 left_none m before after left has = record {
   log = before;
@@ -156,7 +156,7 @@ module _ {X C B S M : Type 0} (members : stores.Ghosts C) (means : meaning.Ghost
       each zero = tt
       each (suc h) = tt
 
-  -- a database is open where one is held
+  -- a database is open if one is held
   pub with_held : (x : X) (had : List (List Operation)) (d : Option (List Operation)) (s : State) (f : List Operation → Answer × State) (Q : Answer × State → Type 0)
       → HeldIs members means s.opened had (Database x) d → ((list : List Operation) → d ≡ Some list → means.stands x list → Contains had list → Q (f list)) → Q (with_database s d f)
   with_held x had None s f Q h each = absurd h

@@ -51,19 +51,19 @@ take_nothing : (n : ℕ) → take {A = Operation} n [] ≡ []
 take_nothing zero = refl
 take_nothing (suc n) = refl
 
--- two lists have the same first operations, where one begins with the other
+-- two lists have the same first operations, if one begins with the other
 same_front : (n : ℕ) (short long : List Operation) → Begins short long → n ≤ length short → take n short ≡ take n long
 same_front n short long begins low = ap (take n) (sym begins) ∙ take-least n (length short) long low
 
--- a list with a first part of what stands behind it in another one
+-- a list with a first part of what follows it in another one
 abbrev with_part : List Operation → List Operation → ℕ → List Operation
 with_part list longer count = list ++ take count (drop (length list) longer)
 
--- is a beginning of that one, where that begins with the list
+-- is a beginning of that one, if that begins with the list
 part_of : (list longer : List Operation) (count : ℕ) → Begins list longer → with_part list longer count ≡ take (length list + count) longer
 part_of list longer count begins = ap (λ ops. ops ++ take count (drop (length list) longer)) (sym begins) ∙ sym (take-add (length list) count longer)
 
--- and the list itself, where it begins with that one
+-- and the list itself, if it begins with that one
 no_part : (list shorter : List Operation) (count : ℕ) → Begins shorter list → with_part list shorter count ≡ list
 no_part list shorter count begins =
     ap (λ ops. list ++ take count ops) (drop_all (length list) shorter (Begins-length shorter list begins)) ∙ (ap (λ ops. list ++ ops) (take_nothing count) ∙ append-nil list)
@@ -104,7 +104,7 @@ module _ (m : Scheme) {P : Type 0} (rules : Rules P) where
       by None is = tt
       by (Some c) is = (is.0, subst (λ ops. log.chunks * 2 ^ c.height ≤ boundary m.shape c.height (ended_part ops)) same is.1)
 
-  -- where more is stable, no less is settled, and of no lower floor
+  -- if more is stable, no less is settled, and of no lower floor
   stays-kept : (log : Log) (stable : ℕ) → PartMade log.list → log.start ≤ floor (ended_part (take log.stable log.list)) → Pruned log → log.stable ≤ stable → stable ≤ length log.list → Kept (record log { stable = stable })
   stays-kept log stable made low pruned_is more within =
       let front = begins_both log.stable stable log.list more in
@@ -125,7 +125,7 @@ module _ (m : Scheme) {P : Type 0} (rules : Rules P) where
 
   -- What a failed command leaves.
 
-  -- the list before, with a first part of what the command puts behind it
+  -- the list before, with a first part of what the command appends to it
   pub grown-kept-part : (before after : Log) (count stable : ℕ) → IsKept (engine_of m rules) before → IsKept (engine_of m rules) after → Followed before after → before.stable ≤ stable
       → stable ≤ length (before.list ++ take count (drop (length before.list) after.list))
       → IsKept (engine_of m rules) (record before { list = before.list ++ take count (drop (length before.list) after.list); stable = stable })
@@ -141,11 +141,11 @@ module _ (m : Scheme) {P : Type 0} (rules : Rules P) where
       subst (λ list. Kept (record before { list = list; stable = stable })) (sym is)
       (onward-kept before before.list stable kept kept.made (Begins-self before.list) more (subst (λ list. stable ≤ length list) is within))
 
-  -- where this much of a log's list is stable, no settled commit needs an operation below the start, and as many chunks may be pruned
+  -- if this much of a log's list is stable, no settled commit needs an operation below the start, and as many chunks may be pruned
   abbrev IsLow : Log → ℕ → Type 0
   IsLow log n = (log.start ≤ floor (ended_part (take n log.list))) × Pruned (record log { stable = n })
 
-  -- where the command keeps less of the list than was stable, it is so of what is stable after it
+  -- if the command keeps less of the list than was stable, it is so of what is stable after it
   low-after : (before after : Log) → Kept before → Kept after → Followed before after → (length after.list == 0) ≡ false → length after.list < before.stable → IsLow before after.stable
   low-after before after kept next (inl begins) some short = let size = Begins-length before.list after.list begins in let low = kept.stable in absurd (omega (arith, size, low, short))
   low-after before after kept next (inr (begins, inl none)) some short = absurd (cc)

@@ -112,7 +112,7 @@ stays-beside m o new is = turned-each o new (StaysBeside m) (HasEnds (chunks_of 
 
 -- Logs.
 
--- the items of a list from its start on, with more behind them, and up to a location that is not before the start
+-- the items of a list from its start on, with more after them, and up to a location that is not before the start
 drop-more : {A B : Type 0} (f : A → B) (start : ℕ) (list more : List A) → start ≤ length list → map f (drop start list) ++ map f more ≡ map f (drop start (list ++ more))
 drop-more f start list more low = sym (map-append f (drop start list) more) ∙ ap (map f) (sym (drop-append-le start list more low))
 
@@ -348,7 +348,7 @@ module _ (m : Scheme) (bare : IsBare m) where
 
   -- What calls make of the log that a store has.
 
-  -- what a call makes of the store, where that has a log
+  -- what a call makes of the store, if that has a log
   pub has-become : (told new : Option Stored) (log after : Log) (f : Stored → Stored) → HasLog m told log → Becomes told new f → ((s : Stored) → own.IsStored (engine_of m policies) log s → own.IsStored (engine_of m policies) after (f s)) → HasLog m new after
   has-become told new log after f has made each =
       let t = turned told new has.stored (λ s t. t ≡ f s) has.is made in
@@ -361,7 +361,7 @@ module _ (m : Scheme) (bare : IsBare m) where
   pub has-emptied : (told new : Option Stored) (log : Log) → HasLog m told log → Becomes told new destroyed → HasLog m new no_log
   has-emptied told new log has made = has-become told new log no_log destroyed has made (λ s is. stored-empty s)
 
-  -- where a restart chose this end
+  -- if a restart chose this end
   pub has-restarted : (told new : Option Stored) (log : Log) (more rest : List ℕ) → Counts m log → HasLog m told log → log.start ≤ log.stable → log.stable ≤ length log.list → Turns told new HasRestarted → Turns told new (HasEnds (chunks_of m) more)
       → (to : ℕ) × (log.stable ≤ to) × (to ≤ length log.list) × (more ≡ to ∷ []) × HasLog m new (record log { list = take to log.list; stable = to })
   has-restarted told new log more rest counts has start within made told_more =
@@ -614,7 +614,7 @@ module _ (m : Scheme) (bare : IsBare m) where
 
   -- What an opening makes of it.
 
-  -- of which log an opening's metadata counts the same: the store's own, where it is empty, and that which is taken up
+  -- of which log an opening's metadata counts the same: the store's own, if it is empty, and that which is taken up
   abbrev TakenCounts : Log → ℕ → Type 0
   TakenCounts log n = Counts m log × Counts m (taken_up (opened_list n log.list) log)
 

@@ -77,7 +77,7 @@ module _ (m : Scheme) {P : Type 0} (rules : Rules P) (log : Log) (choices : List
       let now = one s before.1 apart in
       (now.0 ∙ ap (λ r. more r (turn m rules s line).0) before.0 ∙ sym (push (answers m rules (initial log choices) (take i lines)) (turn m rules s line).0), now.1)))
 
-  -- what is left where the next command ended the run
+  -- what is left if the next command ended the run
   pub left_in : (i : ℕ) (line : Line P) (left : Option Stored) (Before : State → Type 0) → i < length lines → line ≡ get_or lines i line
       → (Apart m.root (after m rules log choices lines i).had → Before (after m rules log choices lines i))
       → ((s : State) → Before s → Apart m.root s.had → IsOwnLeft m rules left s.log ((turn m rules s line).1).log)
@@ -88,7 +88,7 @@ module _ (m : Scheme) {P : Type 0} (rules : Rules P) (log : Log) (choices : List
       ap (λ n. (after m rules log choices lines n).log) (sym (add-one i)) ∙ ap (λ t. (state_after m rules (initial log choices) t).log) (after_more i line h here) ∙ ap (λ (x : State). x.log) (state_after-push m rules (initial log choices) (take i lines) line) in
       subst (IsOwnLeft m rules left s.log) (sym next) (leaves s (so_far apart) apart)
 
-  -- behind the last command the state stays
+  -- after the last command the state stays
   pub after_all : (i : ℕ) → length lines ≤ i → (after m rules log choices lines (suc i)).log ≡ (after m rules log choices lines i).log
   after_all i h = ap (λ (t : List (Line P)). (state_after m rules (initial log choices) t).log) (take_all (suc i) lines (omega arith) ∙ sym (take_all i lines h))
 

@@ -131,7 +131,7 @@ module _ {X C B S M K V D : Type 0} (members : stores.Ghosts C) (means : meaning
       next : State → Answer × State
       next s = with_database s s.database (λ list. f s list (slot_at s.table h))
 
-  -- the clauses of a command that leaves the store alone, where it does no more
+  -- the clauses of a command that leaves the store alone, if it does no more
   abbrev pub Stays : (State → Answer × State) → Turn K V D → Type 0
   Stays next turn = record {
     machine : (s : State) → Stands members means old s → Goes old.table.items old.held turn (next s);
@@ -175,7 +175,7 @@ module _ {X C B S M K V D : Type 0} (members : stores.Ghosts C) (means : meaning
       by s k None is = absurd (cc)
       by s k (Some g) is = λ apart. (refl, k)
 
-  -- and of one that only a current database offers, where none does
+  -- and of one that only a current database offers, if none does
   pub not_current : IfSome means.scheme.grafts (λ g. g.checks ≡ None) → (question : Question) → Says (λ s. machine.current means.scheme s question) (Reply (replies.Refused refused.NotOffered))
   not_current unchecked question = record { machine = λ s k. by s k means.scheme.grafts unchecked; never = λ e. absurd (cc e) }
     where
@@ -200,7 +200,7 @@ module _ {X C B S M K V D : Type 0} (members : stores.Ghosts C) (means : meaning
   }
 
   module _ {x after : X} {T : Type 0} {read : Result T Error} (is : old.held ≡ Database x) (reads : ReadsOnly means members x after read) where
-    -- a command that read, with this table behind it
+    -- a command that read, with this table after it
     moved : (next : State → Answer × State) {table known : List (Slot B S M)} → table ≡ known → (turn : Turn K V D) → (turn ≡ StoreFault → IsErrOf read (errors.Journal journal.Store))
         → ((s : State) → Holds members means (Database x) old.table.items old.opened s → Goes known (Database after) turn (next s)) → Moves next table (Database after) turn
     moved next {table} {known} same turn why each = record {
@@ -210,7 +210,7 @@ module _ {X C B S M K V D : Type 0} (members : stores.Ghosts C) (means : meaning
       opened = refl;
     }
 
-    -- its reply, where no batch was moved
+    -- its reply, if no batch was moved
     pub stayed_ok : (next : State → Answer × State) (r : reply.Reply K V D) → ((s : State) → Holds members means (Database x) old.table.items old.opened s → Goes old.table.items (Database after) (Reply r) (next s)) → Moves next old.table.items (Database after) (Reply r)
     stayed_ok next r each = moved next refl (Reply r) (λ e. absurd (cc e)) each
 
@@ -219,18 +219,18 @@ module _ {X C B S M K V D : Type 0} (members : stores.Ghosts C) (means : meaning
         → ((s : State) → Holds members means (Database x) old.table.items old.opened s → Goes old.table.items (Database after) (turn_of_error error) (next s)) → Moves next old.table.items (Database after) turn
     stayed_err next error was e each = subst (λ t. Moves next old.table.items (Database after) t) (sym e) (moved next refl (turn_of_error error) (λ fault. was ∙ ap Err (fault-told error fault)) each)
 
-    -- its reply, where a number got another slot
+    -- its reply, if a number got another slot
     pub moved_ok : (next : State → Answer × State) (h : ℕ) (slot : Slot B S M) {taken table : List (Slot B S M)} → table ≡ set taken h slot → taken ≡ set old.table.items h Gone → (r : reply.Reply K V D)
         → ((s : State) → Holds members means (Database x) old.table.items old.opened s → Goes (set (set old.table.items h Gone) h slot) (Database after) (Reply r) (next s)) → Moves next table (Database after) (Reply r)
     moved_ok next h slot put taken r each = moved next (put ∙ ap (λ t. set t h slot) taken) (Reply r) (λ e. absurd (cc e)) each
 
-    -- its error, where a number is used up
+    -- its error, if a number is used up
     pub moved_err : (next : State → Answer × State) (h : ℕ) {taken : List (Slot B S M)} → taken ≡ set old.table.items h Gone → {turn : Turn K V D} (error : Error) → read ≡ Err error → turn ≡ turn_of_error error
         → ((s : State) → Holds members means (Database x) old.table.items old.opened s → Goes (set old.table.items h Gone) (Database after) (turn_of_error error) (next s)) → Moves next taken (Database after) turn
     moved_err next h {taken} same {turn} error was e each =
         subst (λ t. Moves next taken (Database after) t) (sym e) (moved next same (turn_of_error error) (λ fault. was ∙ ap Err (fault-told error fault)) each)
 
-    -- what is left of the store where a slot was put behind a read
+    -- what is left of the store if a slot was put after a read
     pub made_keeps : {held : Given X C} → held ≡ Database after → IsUnchanged members (store_given means.inside old.held) (store_given means.inside held)
     made_keeps now = subst (λ (h : Given X C). IsUnchanged members (store_given means.inside old.held) (store_given means.inside h)) (sym now) (read-keeps members means is reads)
 

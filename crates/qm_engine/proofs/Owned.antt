@@ -31,7 +31,7 @@ own-of m rules told log has kept = record {
   own = record { stored = record { start = has.has.start; items = has.has.items; head = has.has.head; metadata = counted-alike m policies rules (chunks_of m) log has.stored has.has.metadata; stable = has.has.stable }; kept = kept };
 }
 
--- nothing of what a command puts behind an own store's list
+-- nothing of what a command appends to an own store's list
 pub none-left : (m : Scheme) {P : Type 0} (rules : Rules P) (told : Option Stored) (before after : Log) → HasLog m told before → IsKept (engine_of m rules) before → IsOwnLeft m rules told before after
 none-left m rules told before after has kept = record {
   left = left_none m before after told has;

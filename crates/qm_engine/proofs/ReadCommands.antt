@@ -54,7 +54,7 @@ module _ {X C B S M K V D : Type 0} (members : stores.Ghosts C) (means : meaning
   abbrev Goes : Turn K V D → Given X C → List (Slot B S M) → ℕ → Answer × State → Type 0
   Goes = Turns members means key value digest
 
-  -- what is read where that is allowed
+  -- what is read if that is allowed
   pub readable_ok : (s : State) (list : List Operation) (chain : Chain) (tip : List Operation) (got answer : Answer) → Contains s.had list → IsAmong s.had chain → Contains s.had tip
       → CanRead means list chain tip → (IsKnown list chain tip → got ≡ answer) → Apart root s.had → got ≡ (if_readable means.scheme s list chain tip answer).0
   readable_ok s list chain tip got answer in_had among tip_in can is apart =

@@ -193,7 +193,7 @@ module _ {X C B S M K V D : Type 0} (members : stores.Ghosts C) (means : meaning
       read_left is turn turned answer (λ s. with_database s s.database (λ list. (answer list, s)))
       (answers is turn turned answer (λ list tells stands. subst (λ t. IfReply t (λ r. answer_view key value digest r ≡ answer list)) (sym e) (no_refusal error (λ r. answer_view key value digest r ≡ answer list) (none list stands tells))))
 
--- What a call of a database comes to as a turn, where it answers so.
+-- What a call of a database comes to as a turn, if it answers so.
 module _ {X C B S M K V D T : Type 0} (members : stores.Ghosts C) (means : meaning.Ghosts X C B S M) (key : K → Bytes) (value : V → Bytes) (digest : D → Bytes) {old new : X} {read : Result T Error} (reads : ReadsOnly means members old new read) (answer : List Operation → Answer) where
   abbrev pub Replies : Turn K V D → Type 0
   Replies turn = record {

@@ -11,7 +11,7 @@ use Rattle.qm_model.specs.Schemes.{Scheme}
 use Rattle.qm_machine.specs.Text.{text_of}
 use Rattle.qm_engine.specs.Runs.{after, IsOwnStore, IsOwnLeft}
 
--- the machine's state after a line, which stays where that is no command
+-- the machine's state after a line, which stays if that is no command
 abbrev pub after_line : Scheme → {P : Type 0} → Rules P → State → Option (Line P) → State
 after_line m rules s None = s
 after_line m rules s (Some line) = (turn m rules s line).1

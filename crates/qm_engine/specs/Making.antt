@@ -13,7 +13,7 @@ use Rattle.qm_store.specs.Refusals.{refusal_of}
 use Rattle.qm_offer.specs.declared.meaning.Meaning as meaning
 use Rattle.qm_offer.specs.Words.{Fits}
 
--- what the machine does where writes make this tip list of the batch of this number
+-- what the machine does if writes make this tip list of the batch of this number
 abbrev pub made_into : Scheme → State → ℕ → List Operation → Chain → List Operation → Answer × State
 made_into m s h list chain tip =
     if takes m.grafts s.opened chain.instance && fits m.root (commitment m.root list) chain

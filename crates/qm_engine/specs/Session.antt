@@ -57,7 +57,7 @@ module _ {X C B S M : Type 0} (members : store.Ghosts C) (means : meaning.Ghosts
   abbrev pub Stands : Session X C B S M → State → Type 0
   Stands session s = Holds session.held session.table.items session.opened s
 
--- P of the reply, where the turn gave one
+-- P of the reply, if the turn gave one
 abbrev pub IfReply : {K V D : Type 0} → Turn K V D → (reply.Reply K V D → Type 0) → Type 0
 IfReply (Reply r) P = P r
 IfReply Memory P = Unit {0}
@@ -80,11 +80,11 @@ module _ {X C B S M : Type 0} (members : store.Ghosts C) (means : meaning.Ghosts
       (s : State) → Holds members means old table opened s → IsSteady means.scheme s → Apart means.scheme.root s.had → IsLeft means.scheme (members.told (store_given means.inside new)) s.log ((next s).1).log
 
   module _ {K V D : Type 0} (key : K → Bytes) (value : V → Bytes) (digest : D → Bytes) where
-    -- A reply is the machine's, where the lists of this state are apart.
+    -- A reply is the machine's, if the lists of this state are apart.
     abbrev pub Answers : Turn K V D → State → Answer × State → Type 0
     Answers turn s next = IfReply turn (λ r. Apart means.scheme.root s.had → answer_view key value digest r ≡ next.0)
 
-    -- A turn does what the machine does: a reply is the machine's, and what is held stands for its next state, where that
+    -- A turn does what the machine does: a reply is the machine's, and what is held stands for its next state, if that
     -- run's lists are apart.
     abbrev pub FollowsHeld : List (Slot B S M) → ℕ → Given X C → Turn K V D → Answer × State → Type 0
     FollowsHeld table opened new turn next = IfReply turn (λ r. Apart means.scheme.root (next.1).had → (answer_view key value digest r ≡ next.0) × Holds members means new table opened next.1)
@@ -101,7 +101,7 @@ module _ {X C B S M : Type 0} (members : store.Ghosts C) (means : meaning.Ghosts
     abbrev pub ObeysHeld : List (Slot B S M) → ℕ → Given X C → Given X C → Turn K V D → (State → Answer × State) → Type 0
     ObeysHeld table opened old new turn next = (s : State) → Holds members means old table opened s → FollowsHeld table opened new turn (next s)
 
-    -- The same of a command before which the run was steady, where the store tells the ends that restarts chose in it: the machine
+    -- The same of a command before which the run was steady, if the store tells the ends that restarts chose in it: the machine
     -- takes these of the choices to come. It may count an opening.
     abbrev pub ObeysHeldSteady : List (Slot B S M) → ℕ → Given X C → ℕ → Given X C → Turn K V D → (State → Answer × State) → Type 0
     ObeysHeldSteady table before old after new turn next =
@@ -121,14 +121,14 @@ module _ {X C B S M : Type 0} (members : store.Ghosts C) (means : meaning.Ghosts
     Tells session turn next = Obeys session session turn next
 
 -- A turn uses the store: it starts where it did, and has what it had beside its items; its count has not fallen, and it rose
--- where a fault is told.
+-- if a fault is told.
 pub record Uses {C K V D : Type 0} (members : store.Ghosts C) (old new : C) (turn : Turn K V D) : Type 0 where
   pub start : members.start new ≡ members.start old
   pub beside : except_items (members.told new) ≡ except_items (members.told old)
   pub later : members.faults old ≤ members.faults new
   pub fault : turn ≡ StoreFault → Rose (members.faults old) (members.faults new)
 
--- A turn reads the database: what it stands for stays, and its store is as it was; where the turn is a fault of the store it tells so.
+-- A turn reads the database: what it stands for stays, and its store is as it was; if the turn is a fault of the store it tells so.
 pub record TurnReads {X C B S M K V D : Type 0} (members : store.Ghosts C) (means : meaning.Ghosts X C B S M) (old new : X) (turn : Turn K V D) : Type 0 where
   pub same : (list : List Operation) → means.stands old list → means.stands new list
   pub numbered : (n : ℕ) → means.numbered old n → means.numbered new n
@@ -136,7 +136,7 @@ pub record TurnReads {X C B S M K V D : Type 0} (members : store.Ghosts C) (mean
   pub faults : IsCause (members.faults (means.inside old)) (members.faults (means.inside new)) (turn ≡ StoreFault)
 
 -- A turn handles the store: it puts no metadata but that which counts these chunks, and no restart chooses an end; the count of faults has
--- not fallen, and it rose where a fault is told.
+-- not fallen, and it rose if a fault is told.
 pub record Handles {C K V D : Type 0} (chunks : Option Chunks) (members : store.Ghosts C) (old new : C) (turn : Turn K V D) : Type 0 where
   pub beside : Turns (members.told old) (members.told new) (HasEnds chunks [])
   pub later : members.faults old ≤ members.faults new
@@ -146,7 +146,7 @@ pub record Handles {C K V D : Type 0} (chunks : Option Chunks) (members : store.
 abbrev pub IsChosen : {P : Type 0} → Line P → List ℕ → Type 0
 IsChosen line more = (rest : List ℕ) → choices_after line (more ++ rest) ≡ rest
 
--- A command's turn handles the store, and the ends that the command takes were chosen, where it has a reply.
+-- A command's turn handles the store, and the ends that the command takes were chosen, if it has a reply.
 pub record HandlesLine {C K V D P : Type 0} (chunks : Option Chunks) (members : store.Ghosts C) (line : Line P) (old new : C) (turn : Turn K V D) : Type 0 where
   pub more : List ℕ
   pub beside : Turns (members.told old) (members.told new) (HasEnds chunks more)

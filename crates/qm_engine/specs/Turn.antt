@@ -44,7 +44,7 @@ abbrev pub given_after : {X C : Type 0} → Result X (Refusal X C) → Given X C
 given_after (Ok x) = Database x
 given_after (Err r) = r.given
 
--- what it comes to, where it has no answer but that it is done
+-- what it comes to, if it has no answer but that it is done
 abbrev pub turn_settled : {K V D X C : Type 0} → Result X (Refusal X C) → Turn K V D
 turn_settled (Ok x) = Reply Done
 turn_settled (Err r) = turn_of_error r.error

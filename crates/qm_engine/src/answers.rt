@@ -49,7 +49,7 @@ pub struct Answered<C> {
     pub store: C,
 }
 
-// The reply behind the text, as a line.
+// The reply after the text, as a line.
 fn push_line<K: ByteString, V: ByteString, D: Digest>(
     alloc: Global,
     text: &mut Vec<u8>,
@@ -66,7 +66,7 @@ fn push_line<K: ByteString, V: ByteString, D: Digest>(
     Ok(())
 }
 
-// One command, whose answer goes behind the text. An ending tells why there is none.
+// One command, whose answer goes after the text. An ending tells why there is none.
 fn answer<X: Answering<C>, C: Store, P: Policy<X::Family, X::Key, X::Value> + Twin>(
     alloc: Global,
     opening: &X::Opening,

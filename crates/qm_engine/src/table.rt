@@ -103,7 +103,7 @@ pub fn merkleized_at<B, S, M>(table: &Vec<Slot<B, S, M>>, number: u64) -> Option
     }
 }
 
-/// Sets a place of the table, where there is one.
+/// Sets a place of the table, if there is one.
 pub fn put_slot<B: Drop, S: Drop, M: Drop>(
     table: &mut Vec<Slot<B, S, M>>,
     number: u64,

@@ -31,7 +31,7 @@ const MODE: u32 = 0o7777;
 
 /// A file or a folder that one handle at a time can hold.
 pub trait Hold {
-    /// Takes the lock on it until the handle is dropped. It answers false where another one has it.
+    /// Takes the lock on it until the handle is dropped. It answers false if another one has it.
     fn hold(&self) -> io::Result<bool>;
 }
 
@@ -63,7 +63,7 @@ fn given<T>(answer: io::Result<T>) -> Result<T, StoreError> {
     }
 }
 
-// The same, or none where a name is missing.
+// The same, or none if a name is missing.
 fn found<T>(answer: io::Result<T>) -> Result<Option<T>, StoreError> {
     match answer {
         Ok(value) => Ok(Some(value)),
@@ -154,7 +154,7 @@ where
         Ok(Held::Yes)
     }
 
-    // Makes the folder where it was missing, and holds it. It fails where another store was faster.
+    // Makes the folder if it was missing, and holds it. It fails if another store was faster.
     pub(crate) fn make(&mut self) -> Result<Held, StoreError> {
         if self.handle.is_some() {
             return Ok(Held::Yes);
@@ -272,7 +272,7 @@ where
         self.sync()
     }
 
-    // Where it was noted that the store is destroyed: removes what it had, and then the note.
+    // If it was noted that the store is destroyed: removes what it had, and then the note.
     pub(crate) fn finish_destroyed(&self) -> Result<(), StoreError> {
         if !self.has(DESTROYED)? {
             return Ok(());
@@ -304,7 +304,7 @@ where
         Ok(())
     }
 
-    // Removes a file where it is one of those. A name that is no text is none of them.
+    // Removes a file if it is one of those. A name that is no text is none of them.
     fn remove_chosen<L: Files + Drop>(
         &self,
         entry: io::Result<DirEntry<L, Global>>,

@@ -22,7 +22,7 @@
 //! `open` takes the folder, which no other store has until this one is dropped, and reads log and sums once. If that succeeds the
 //! store is *open*: it keeps handles to the files, and of each item where it ends, and reads items by their places. Else it is
 //! *broken*: it starts at 0 and has no items, and each call that may fail does; `trouble` says why. A store is broken from then on,
-//! with its start as it was, where a sync of the log or of the folder fails, a file can not be put in its place, a step of a
+//! with its start as it was, if a sync of the log or of the folder fails, a file can not be put in its place, a step of a
 //! `destroy` fails, metadata is not what was written, another store was faster to make the folder, or a `restart` finds another start
 //! than before, an end past the old one, or damage. Nothing leads from broken to open but another `open`.
 //!
@@ -40,7 +40,7 @@
 //! | a `log` that has what was committed, and more | it ends where the last record of the sums ends that fits; what is after that is cut before the next write or commit |
 //! | `FILE.new` beside a store that opens | removed |
 //!
-//! Where a store is broken nothing is cut, written or removed.
+//! If a store is broken nothing is cut, written or removed.
 //!
 //! # What calls do, and what a crash inside of them leaves
 //!
@@ -61,7 +61,7 @@
 //!
 //! A write that fails may have put bytes after the last item that counts. They count no more: they are cut before the next write, and
 //! have no record for a store that opens the log before that. New files are made anew and not through links, with the permissions of
-//! the file that they replace; where one can not be finished it is removed, at the latest by the next opening.
+//! the file that they replace; if one can not be finished it is removed, at the latest by the next opening.
 //!
 //! What files really hold is outside of what is proved.
 #![tactic(auto)]
@@ -98,7 +98,7 @@ enum Condition {
     Broken,
 }
 
-/// Why a store over files is broken, where that is known. Places are numbers of bytes before them.
+/// Why a store over files is broken, if that is known. Places are numbers of bytes before them.
 #[derive(Clone, Copy, Debug, PartialEq, Eq)]
 pub enum Trouble {
     /// Nothing is known.
@@ -121,14 +121,14 @@ pub enum Trouble {
 
 /// A store over the files of a folder, which tells nothing of what it holds. It takes 8 bytes of memory for each item.
 ///
-/// A call fails where the system refuses what it asks for, where a file is shorter than it was, and where an item, a head or the
+/// A call fails if the system refuses what it asks for, if a file is shorter than it was, and if an item, a head or the
 /// bytes of an entry are too many for a length of 4 bytes. A name of metadata is that of a file: one that has a slash or ends in
-/// `.new` fails. Where the system lacks memory for a call, as where the program does, the answer is `Memory`.
+/// `.new` fails. If the system lacks memory for a call, as when the program does, the answer is `Memory`.
 #[derive(Drop)]
 pub struct FileStore<R: Files> {
     folder: Folder<R>,
     log: LogFile<R::File>,
-    // none where there is no log, or one of a time without sums
+    // none if there is no log, or one of a time without sums
     sums: Option<Sums<R::File>>,
     condition: Condition,
     trouble: Trouble,
@@ -221,8 +221,8 @@ impl<R: Files + RandomSource + Clone + Drop> FileStore<R>
 where
     R::File: FileExt + Hold,
 {
-    /// The store over a folder, which need not be there. Where it is, no other store has it until this one is dropped. Its log and
-    /// its sums are read once, through buffers of 64 KiB. Where that fails the store is broken; want of memory is the only error.
+    /// The store over a folder, which need not be there. If it is, no other store has it until this one is dropped. Its log and
+    /// its sums are read once, through buffers of 64 KiB. If that fails the store is broken; want of memory is the only error.
     pub fn open(rt: R, alloc: Global, folder: &str) -> Result<FileStore<R>, AllocError>
         ensures { IfOk result (λ s. s.faults ≡ 0) }
     {
@@ -246,12 +246,12 @@ where
         }
     }
 
-    /// Why it is broken, where that is known.
+    /// Why it is broken, if that is known.
     pub fn trouble(&self) -> Trouble {
         self.trouble
     }
 
-    /// The name of the file of metadata that is not what was written, where one was read.
+    /// The name of the file of metadata that is not what was written, if one was read.
     pub fn damaged(&self) -> Option<&str> {
         self.damaged.as_deref()
     }
@@ -281,7 +281,7 @@ where
         Err(StoreError::Failed)
     }
 
-    // The log and its sums. Where there are none beside it, it counts as far as its items are whole.
+    // The log and its sums. If there are none beside it, it counts as far as its items are whole.
     fn read_files(&mut self) -> Result<(LogFile<R::File>, Option<Sums<R::File>>), StoreError>
         ensures { self.new ≡ self.old }
     {
@@ -311,7 +311,7 @@ where
         }
     }
 
-    // The sums that were made for a log which has taken its place, where they have not taken theirs. They take it.
+    // The sums that were made for a log which has taken its place, if they have not taken theirs. They take it.
     fn new_sums(&self, log: &R::File) -> Result<Option<Sums<R::File>>, StoreError> {
         let alloc = self.folder.alloc();
         let Some(file) = self.folder.open_new(&writing(), SUMS)? else {
@@ -335,7 +335,7 @@ where
         }
     }
 
-    // Counts an answer where it is a fault.
+    // Counts an answer if it is a fault.
     fn counted<T>(&mut self, answer: Result<T, StoreError>) -> Result<T, StoreError>
         ensures same { result ≡ answer }
         ensures items { self.new.items ≡ self.old.items }
@@ -389,7 +389,7 @@ where
         }
     }
 
-    // After this the store is broken where a call failed that was to make something stable.
+    // After this the store is broken if a call failed that was to make something stable.
     fn stable<T>(&mut self, answer: Result<T, StoreError>) -> Result<T, StoreError>
         ensures result { result ≡ answer }
         ensures same { self.new ≡ self.old }
@@ -401,7 +401,7 @@ where
         answer
     }
 
-    // Takes the folder, which is made where it was missing.
+    // Takes the folder, which is made if it was missing.
     fn take_folder(&mut self) -> Result<(), StoreError>
         ensures { self.new ≡ self.old }
     {

@@ -110,7 +110,7 @@ impl<F> LogFile<F> {
 }
 
 impl<F: Read + Seek + OpenFile + FileExt + Drop> LogFile<F> {
-    // The log in a file, which is none where that has no byte. Where it is said how many of its bytes count, it is to end with
+    // The log in a file, which is none if that has no byte. If it is said how many of its bytes count, it is to end with
     // them. The file is read once, through a buffer of fixed size, and each item takes 8 bytes of memory.
     pub(crate) fn of(alloc: Global, file: F, kept: Option<u64>) -> Result<LogFile<F>, StoreError> {
         let whole = file.metadata()?.len();
@@ -143,7 +143,7 @@ impl<F: Read + Seek + OpenFile + FileExt + Drop> LogFile<F> {
         })
     }
 
-    // The file, where there is one.
+    // The file, if there is one.
     pub(crate) fn file(&self) -> Option<&F> {
         self.file.as_ref()
     }
@@ -163,7 +163,7 @@ impl<F: Read + Seek + OpenFile + FileExt + Drop> LogFile<F> {
         self.has_tail
     }
 
-    // The head, which is empty where there is no file.
+    // The head, which is empty if there is no file.
     pub(crate) fn head(&mut self, alloc: Global) -> Result<Vec<u8>, StoreError>
         ensures { self.new ≡ self.old }
     {
@@ -176,7 +176,7 @@ impl<F: Read + Seek + OpenFile + FileExt + Drop> LogFile<F> {
         Ok(bytes)
     }
 
-    // The item of this number. Where it is the one after the last that was read, the file is read 64 KiB at a time.
+    // The item of this number. If it is the one after the last that was read, the file is read 64 KiB at a time.
     pub(crate) fn item(&mut self, alloc: Global, index: usize) -> Result<Vec<u8>, StoreError>
         requires { index < self.old.count }
         ensures { self.new ≡ self.old }
@@ -199,7 +199,7 @@ impl<F: Read + Seek + OpenFile + FileExt + Drop> LogFile<F> {
         Ok(bytes)
     }
 
-    // The bytes of the window from a place on, where it has that many.
+    // The bytes of the window from a place on, if it has that many.
     fn windowed(&self, from: u64, size: usize) -> Option<&[u8]> {
         let at = from.checked_sub(self.window_at)? as usize;
         let end = at.checked_add(size)?;
@@ -209,7 +209,7 @@ impl<F: Read + Seek + OpenFile + FileExt + Drop> LogFile<F> {
         self.window.get(at..end)
     }
 
-    // Fills the window from a place on, as far as items go. Where that can not be read the window has nothing.
+    // Fills the window from a place on, as far as items go. If that can not be read the window has nothing.
     fn fill(&mut self, from: u64) -> Result<(), StoreError>
         ensures { self.new ≡ self.old }
     {
@@ -231,7 +231,7 @@ impl<F: Read + Seek + OpenFile + FileExt + Drop> LogFile<F> {
         Ok(())
     }
 
-    // Writes these after the last item, as they are spelled, by one write. Where that fails, none of them counts.
+    // Writes these after the last item, as they are spelled, by one write. If that fails, none of them counts.
     pub(crate) fn append(&mut self, spelled: &[u8], added: &[Vec<u8>]) -> Result<(), StoreError>
         requires room { end_of self.old + length added.now ≤ 2 ^ 62 }
         ensures ok { OnOk result (self.new.count ≡ self.old.count + length added.now) }

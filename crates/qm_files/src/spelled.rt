@@ -1,4 +1,4 @@
-// How the files of a store spell what is in them: numbers with the highest byte first, and strings of bytes behind their
+// How the files of a store spell what is in them: numbers with the highest byte first, and strings of bytes after their
 // lengths.
 
 ghost use Rattle.std.specs.Prelude.{◌<◌, IfOk, IfSome};
@@ -21,7 +21,7 @@ pub(crate) fn spelled_length(bytes: &[u8]) -> Result<[u8; 4], StoreError> {
     }
 }
 
-// Puts a string of bytes behind its length.
+// Puts a string of bytes after its length.
 pub(crate) fn put_field(spelled: &mut Vec<u8>, field: &[u8]) -> Result<(), StoreError> {
     let length = spelled_length(field)?;
     spelled.extend_from_slice(&length)?;
@@ -96,7 +96,7 @@ pub(crate) fn read_entries(
     Ok(entries)
 }
 
-// The next entry of those in so many bytes, and how many bytes are behind it. There is none where it is not whole.
+// The next entry of those in so many bytes, and how many bytes follow it. There is none if it is not whole.
 fn read_entry(
     alloc: Global,
     from: &mut impl Read,

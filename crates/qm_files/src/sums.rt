@@ -8,7 +8,7 @@
 // alike that say `COMMITTED`, so that one of them outlives a flipped bit. Only whole records whose sum is right count.
 //
 // The file ends with zeros, room for further records: a sync of one that is put there waits for its bytes alone, and not for the file
-// system's journal, as it would where the file grew.
+// system's journal, as it would if the file grew.
 
 use crate::pieces::{Pieces, after};
 use qm_store::StoreError;
@@ -128,7 +128,7 @@ impl Record {
         Ok(hasher.finish())
     }
 
-    // The record that stands at a place, where it is one.
+    // The record that stands at a place, if it is one.
     fn read(key: &Key, place: u64, bytes: &[u8]) -> Result<Option<Record>, StoreError> {
         let record = Record {
             end: number(bytes, 0),
@@ -213,7 +213,7 @@ impl Last {
     }
 }
 
-// What a file of sums says, where it is one.
+// What a file of sums says, if it is one.
 fn read_told<F: FileExt + OpenFile>(
     alloc: Global,
     pieces: &mut Pieces,
@@ -432,7 +432,7 @@ impl<F: FileExt + OpenFile + Drop> Sums<F> {
         Ok(())
     }
 
-    // Puts records after the last one, where room for them is taken first. Where that fails there may be something after it.
+    // Puts records after the last one; room for them is taken first. If that fails there may be something after it.
     fn put(&mut self, records: &[u8]) -> Result<(), StoreError> {
         let end = after(self.at, records.len() as u64)?;
         self.is_clean = false;
@@ -453,7 +453,7 @@ impl<F: FileExt + OpenFile + Drop> Sums<F> {
         self.put(&record)
     }
 
-    // Puts a record for bytes that were written after those that are summed up. Where that fails they are not.
+    // Puts a record for bytes that were written after those that are summed up. If that fails they are not.
     pub(crate) fn put_written(&mut self, added: &[u8]) -> Result<(), StoreError> {
         if !self.is_clean {
             self.clear()?;
@@ -472,7 +472,7 @@ impl<F: FileExt + OpenFile + Drop> Sums<F> {
         put
     }
 
-    // Says that what is summed up is committed, and syncs that, where it was not said and synced before. The log was synced.
+    // Says that what is summed up is committed, and syncs that, if it was not said and synced before. The log was synced.
     pub(crate) fn commit(&mut self) -> Result<(), StoreError> {
         if !self.is_clean || self.committed != self.end {
             return self.say_committed();

@@ -127,7 +127,7 @@ module _ {D : Type 0} (bytes : D → Bytes) (hash : Bytes → Bytes) (held : ℕ
   one-value c zero = let same : c ≡ c + 0 = omega arith in ap (λ k. value k ∷ []) same
   one-value c (suc n) = let same : suc c + n ≡ c + suc n = omega arith in ap (λ l. value c ∷ l) (one-value (suc c) n ∙ ap (λ k. values (suc c) n ++ value k ∷ []) same)
 
-  -- behind other values
+  -- after other values
   pub more-values : (first : List Bytes) (from at : ℕ) (old new : List D) (v : D) → from ≤ at → map bytes old ≡ first ++ values from (at - from) → new ≡ old ++ v ∷ [] → bytes v ≡ value at →
       map bytes new ≡ first ++ values from (at + 1 - from)
   more-values first from at old new v low is put made =

@@ -10,7 +10,7 @@ use Rattle.qm_model.specs.Grafted.{chunk_size, chunk_of, pending_chunk, pending_
 use Rattle.qm_model.proofs.BitLemmas.{length-bits}
 use Rattle.qm_bits.specs.Bitmaps.{Bitmap, start, bit_count, all_bits}
 
--- what is held of nodes, where it is told what that is
+-- what is held of nodes, if it is told what that is
 pub told-values : {D : Type 0} (bytes : D → Bytes) (position : Node → ℕ) (held : ℕ → Option D) (value : Node → Bytes) (xs : List Node) (ds : List D) →
     map Some ds ≡ map held (map position xs) → All (λ x. IfSome (held (position x)) (λ d. bytes d ≡ value x)) xs → map bytes ds ≡ map value xs
 told-values bytes position held value [] [] is each = cc

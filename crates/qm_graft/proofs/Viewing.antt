@@ -14,7 +14,7 @@ use Rattle.qm_graft.specs.Grafting.{fits, kept_shape}
 use Rattle.qm_graft.specs.Trees.{Stands}
 
 module _ (shape : Shape) (births : Births) (family : IsFamily shape births) where
-  -- no node stands behind the last one
+  -- no node stands after the last one
   pub stands_inside : (leaves at : ℕ) (x : Node) → Stands shape leaves at x → at < shape.size leaves
   stands_inside leaves at x stands = omega (arith, stands.0, stands_below shape births family x leaves stands.1)
 

@@ -15,7 +15,7 @@ use std::marker::PhantomData;
 
 /// The family of trees that are grafted onto one of the family `F`, with a leaf for each chunk of `N`. Nodes stand where those
 /// of a tree of `F` stand, but an inner node's digest is made with the number of the node that it stands for in the tree of
-/// operations, where that one ends within 2^62 operations, as it does in every list.
+/// operations, if that one ends within 2^62 operations, as it does in every list.
 pub struct Grafted<F, N> {
     families: PhantomData<(F, N)>,
 }

@@ -15,7 +15,7 @@ use qm_chunks::chunks::raised;
 use qm_merkle::family::place;
 use qm_merkle::{Family, Node, Position};
 
-/// The node that stands at a position, where a tree of so many leaves has one there. It looks for the leaf that the node is born
+/// The node that stands at a position, if a tree of so many leaves has one there. It looks for the leaf that the node is born
 /// with, in as many steps as the number of leaves has digits in base 2.
 pub fn node_at<F: Graftable>(leaves: Location<F>, position: Position<F>) -> Option<Node>
     requires { leaves ≤ 2 ^ 62 }
@@ -71,7 +71,7 @@ pub fn lowered(height: u32, node: Node) -> Node
     Node::new(node.height() - height, node.index())
 }
 
-/// Where in the grafted tree a node stands of the tree of operations, where it is as high as a chunk's or higher.
+/// Where in the grafted tree a node stands of the tree of operations, if it is as high as a chunk's or higher.
 pub fn grafted_position<F: Graftable, N: Chunks>(node: Node) -> Option<Position<Grafted<F, N>>>
     requires { trees.end_of node ≤ 2 ^ 62 }
     ensures { result

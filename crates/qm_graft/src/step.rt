@@ -1,4 +1,4 @@
-//! The grafted tree behind a step, and the canonical root of the list that the step makes.
+//! The grafted tree after a step, and the canonical root of the list that the step makes.
 
 ghost use Rattle.std.specs.Prelude.{◌≡◌, ◌<◌, ◌≤◌, ◌^◌, ◌∷◌, [], ℕ, List, length, All, Contains, IsSome, IfOk, IfErr};
 ghost use Rattle.qm_model.specs.Operations.{Bytes, Operation};
@@ -29,7 +29,7 @@ use qm_merkle::{MerkleizedBatch, Position, StandardHasher, UnmerkleizedBatch};
 use qm_proofs::{Nodes, NodesOver};
 use std::alloc::Global;
 
-/// The batch of the grafted tree behind a step, as `follow` makes it, and the canonical root of the step's list, over the root of
+/// The batch of the grafted tree after a step, as `follow` makes it, and the canonical root of the step's list, over the root of
 /// its operations. Want of memory is the only error.
 pub fn grown<F: Graftable, N: Chunks, H: Hasher, B: Readable<N>, O: Nodes<F, H::Digest>>(
     alloc: Global,

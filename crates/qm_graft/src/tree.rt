@@ -20,7 +20,7 @@ use qm_merkle::{MerkleizedBatch, StandardHasher, UnmerkleizedBatch};
 use qm_proofs::Nodes;
 use std::alloc::{AllocError, Global};
 
-/// What stands behind a step: the bits of its list, and the tree of its operations.
+/// What there is after a step: the bits of its list, and the tree of its operations.
 #[derive(Drop)]
 pub struct Behind<'a, B, O> {
     pub bits: &'a B,
@@ -47,7 +47,7 @@ fn value_of<F: Graftable, N: Chunks, H: Hasher, B: Readable<N>, O: Nodes<F, H::D
     Ok(chunk_value(hasher, &bits, &node))
 }
 
-// Gives the leaf of a chunk its value behind a step, where the chunk is among those that are grafted already.
+// Gives the leaf of a chunk its value after a step, if the chunk is among those that are grafted already.
 fn update_one<F: Graftable, N: Chunks, H: Hasher, B: Readable<N>, O: Nodes<F, H::Digest>>(
     alloc: Global,
     hasher: &mut StandardHasher<H>,
@@ -144,8 +144,8 @@ fn add_all<F: Graftable, N: Chunks, H: Hasher, B: Readable<N>, O: Nodes<F, H::Di
     Ok(())
 }
 
-/// Makes a draft, which has no leaf of its own yet, the one of the list behind a step: the leaves of those of the chunks that
-/// are grafted already get their values behind the step, and leaves are added until so many chunks are grafted. Each value takes
+/// Makes a draft, which has no leaf of its own yet, the one of the list after a step: the leaves of those of the chunks that
+/// are grafted already get their values after the step, and leaves are added until so many chunks are grafted. Each value takes
 /// one digest. What changed may have any order, and name chunks that are not grafted. Want of memory is the only error.
 pub fn graft<F: Graftable, N: Chunks, H: Hasher, B: Readable<N>, O: Nodes<F, H::Digest>>(
     alloc: Global,
@@ -189,7 +189,7 @@ pub fn graft<F: Graftable, N: Chunks, H: Hasher, B: Readable<N>, O: Nodes<F, H::
     add_all(alloc, hasher, draft, behind, count)
 }
 
-/// The batch of the grafted tree behind a step, from a draft over the one before it, which has no leaf of its own yet. Each chunk
+/// The batch of the grafted tree after a step, from a draft over the one before it, which has no leaf of its own yet. Each chunk
 /// that changed takes a digest for its value and one for each node over it, each chunk that is grafted since one for its value and
 /// those of the nodes that are born with it, and nothing else is hashed, whatever the length of the list. Want of memory is the
 /// only error.

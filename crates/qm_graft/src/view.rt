@@ -66,7 +66,7 @@ impl<
         F::location_to_position(self.leaves)
     }
 
-    /// The value of the node at a position, where it is held: below the height of chunks its digest in the tree of operations, and
+    /// The value of the node at a position, if it is held: below the height of chunks its digest in the tree of operations, and
     /// else what the grafted tree has.
     pub fn get_node(&self, position: Position<F>) -> Option<D>
         ensures low { (x : trees.Node) → Stands F.shape self.now.leaves position x
@@ -105,7 +105,7 @@ impl<'a, F: Graftable, N: Chunks, D: Digest, O: Nodes<F, D>, G: Nodes<Grafted<F,
     }
 }
 
-// The value of the node at a position of a tree of so many operations, where it is held.
+// The value of the node at a position of a tree of so many operations, if it is held.
 fn node_in<F: Graftable, N: Chunks, D: Digest, O: Nodes<F, D>, G: Nodes<Grafted<F, N>, D>>(
     operations: &O,
     grafted: &G,

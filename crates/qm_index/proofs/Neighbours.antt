@@ -41,7 +41,7 @@ index_key-has index_key (k ∷ ks) n h = elim (or-either (nat_eq n (index_key k)
 module _ {lt : Bytes → Bytes → Bool} (o : IsOrder lt) {pick : ℕ → ℕ → ℕ} {R : ℕ → ℕ → Type 0} (p : IsPick pick R) (beside : ℕ → ℕ → Bool)
     (past : (a b : ℕ) → R b a → beside a b ≡ true → ⊥) (not_past : (a b : ℕ) → beside a b ≡ false → R b a)
     (index_key : Bytes → ℕ) (keys : List Bytes) (index_keys : List ℕ) (same : (n : ℕ) → has index_keys n ≡ has (map index_key keys) n) where
-  -- where the index key keeps the order of the keys, the first of them is among those of the first index key
+  -- if the index key keeps the order of the keys, the first of them is among those of the first index key
   pub front-picked : ((a b : Bytes) → Has keys a → Has keys b → lt a b ≡ true → R (index_key a) (index_key b)) → front lt keys ≡ option_and_then (λ n. front lt (keys_at index_key keys n)) (picked pick index_keys)
   front-picked keeps = cases (picked pick index_keys) refl
     where
@@ -99,7 +99,7 @@ module _ {lt : Bytes → Bytes → Bool} (o : IsOrder lt) {pick : ℕ → ℕ �
       own_has x at up is =
           contains-filter (λ k. lt key k) (keys_at index_key keys i) x ∙ and-both (contains_key (keys_at index_key keys i) x) (lt key x) (has-keys_at index_key keys i x at is) up
 
-      -- where no key of its own index key is past it, those past it have an index key past its own
+      -- if no key of its own index key is past it, those past it have an index key past its own
       lies_beside : ((x : Bytes) → contains_key (filter (λ k. lt key k) (keys_at index_key keys (index_key key))) x ≡ false) → (x : Bytes) → Has keys x → lt key x ≡ true → beside i (index_key x) ≡ true
       lies_beside none x at up = cases (beside i (index_key x)) refl
         where
@@ -195,7 +195,7 @@ some_of-length (x ∷ xs) [] h = absurd (cc)
 some_of-length (x ∷ xs) (y ∷ ys) h = refl
 
 module _ {E V : Type 0} (index_key : Bytes → ℕ) (key : E → Bytes) (value : E → V) where
-  -- an index key is one of the elements' keys where it has values of them
+  -- an index key is one of the elements' keys if it has values of them
   has-values : (elements : List E) (n : ℕ) → some_of (values_at index_key key value elements n) ≡ has (map index_key (map key elements)) n
   has-values [] n = refl
   has-values (e ∷ es) n = cases (index_key (key e) == n) refl (has-values es n)

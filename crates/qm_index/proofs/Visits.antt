@@ -11,7 +11,7 @@ FoldsTo-append R p m q (x ∷ xs) ys first later = (first.0, first.1, FoldsTo-ap
 abbrev pub LeadOn : {P A : Type 0} → (P → A → P → Type 0) → P → List A → P → List (List A) → Type 0
 LeadOn {P} R start all visit buckets = (last : P) → FoldsTo R visit (flat_map (λ bucket. bucket) buckets) last → FoldsTo R start all last
 
--- so do those behind the first bucket
+-- so do those after the first bucket
 pub LeadOn-next : {P A : Type 0} (R : P → A → P → Type 0) (start : P) (all : List A) (visit next : P) (buckets rest : List (List A)) (bucket values : List A) → buckets ≡ bucket ∷ rest → values ≡ bucket → FoldsTo R visit values next →
     LeadOn R start all visit buckets → LeadOn R start all next rest
 LeadOn-next R start all visit next buckets rest bucket values steps is shown lead last later =

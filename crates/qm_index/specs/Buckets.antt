@@ -3,7 +3,7 @@ use Rattle.std.specs.Prelude.{◌≡◌, ◌≢◌, ℕ, nat_eq, if◌then◌els
 use Rattle.std.specs.List.{flat_map, IsDistinct}
 use Rattle.std.specs.Map.{lookup, keys_of, values_of}
 
--- the values under an index key, none where it has no bucket
+-- the values under an index key, none if it has no bucket
 abbrev pub bucket_at : {V : Type 0} → List (ℕ × List V) → ℕ → List V
 bucket_at entries k = unwrap_or (lookup (nat_eq k) entries) []
 

@@ -19,7 +19,7 @@ length-first_bytes (suc n) (x ∷ xs) = ap suc (length-first_bytes n xs)
 pub capped-cons : (x : ℕ) (xs : List ℕ) (n : ℕ) → capped (suc n) (x ∷ xs) ≡ x * 256 ^ n + capped n xs
 capped-cons x xs n = ap (λ m. x * 256 ^ m + capped n xs) (length-first_bytes n xs)
 
--- where there is none it is zero
+-- if there is none it is zero
 pub capped-nil : (n : ℕ) → capped (suc n) [] ≡ 0 * 256 ^ n + capped n []
 capped-nil n = ap (λ m. 0 * 256 ^ m + capped n []) (length-first_bytes n [])
 

@@ -1,11 +1,11 @@
--- Neighbours among index keys, which go round: behind the greatest the least comes again.
+-- Neighbours among index keys, which go round: after the greatest the least comes again.
 use Rattle.std.specs.Prelude.{ℕ, min, max, Bool, true, false, nat_lt, ◌==◌, List, [], ◌∷◌, map, fold, filter, Option, None, Some, option_map, option_and_then, IsPermutation}
 use Rattle.std.specs.Option.{option_or}
 use Rattle.qm_model.specs.Operations.{Bytes}
 use Rattle.qm_model.specs.Keys.{key_lt, least, greatest}
 use Rattle.qm_index.specs.Buckets.{bucket_at}
 
--- what is picked of all the numbers, where they are compared two at a time
+-- what is picked of all the numbers, when they are compared two at a time
 abbrev pub picked : (ℕ → ℕ → ℕ) → List ℕ → Option ℕ
 picked pick [] = None
 picked pick (k ∷ ks) = Some (fold pick k ks)
@@ -36,7 +36,7 @@ neighbour_at entries found = option_map (λ n. (bucket_at entries n.0, n.1)) fou
 abbrev pub keys_at : (Bytes → ℕ) → List Bytes → ℕ → List Bytes
 keys_at index_key keys k = filter (λ key. index_key key == k) keys
 
--- the least key above the given one in its own bucket, or else the least in the bucket behind
+-- the least key above the given one in its own bucket, or else the least in the next bucket
 abbrev pub next_by_index : (Bytes → ℕ) → List ℕ → List Bytes → Bytes → Option Bytes
 next_by_index index_key index_keys keys key =
     option_or (least (filter (λ k. key_lt key k) (keys_at index_key keys (index_key key)))) (option_and_then (λ n. least (keys_at index_key keys n.0)) (next_key index_keys (index_key key)))

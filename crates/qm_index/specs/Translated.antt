@@ -8,7 +8,7 @@ abbrev pub number_of : Bytes → ℕ
 number_of [] = 0
 number_of (x ∷ xs) = x * 256 ^ length xs + number_of xs
 
--- the first bytes of a key, so many, with zeros behind a shorter one
+-- the first bytes of a key, so many, with zeros after a shorter one
 abbrev pub first_bytes : ℕ → Bytes → Bytes
 first_bytes zero key = []
 first_bytes (suc n) [] = 0 ∷ first_bytes n []

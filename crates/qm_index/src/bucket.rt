@@ -53,7 +53,7 @@ impl<V: IndexValue> Bucket<V> {
         }
     }
 
-    // Puts a value behind the others. Want of memory leaves the bucket as it was.
+    // Puts a value after the others. Want of memory leaves the bucket as it was.
     pub fn push(&mut self, alloc: Global, value: V) -> Result<(), AllocError>
         ensures ok { OnOk result (self.new ≡ self.old ++ value ∷ []) }
         ensures err { OnErr result (self.new ≡ self.old) }
@@ -96,7 +96,7 @@ impl<V: IndexValue> Bucket<V> {
     }
 }
 
-// The values and one more, or the same ones where memory is wanted.
+// The values and one more, or the same ones if memory is wanted.
 fn with_one_more<V: Drop>(
     alloc: Global,
     held: Held<V>,

@@ -15,9 +15,9 @@ use std::collections::BTreeMap;
 use std::marker::Model;
 use std::ops::Bound;
 
-/// An index that finds the buckets beside a key's. They go round: behind the greatest index key comes the least. Each call takes one descent of the map, a second one where it wraps, and no memory.
+/// An index that finds the buckets beside a key's. They go round: after the greatest index key comes the least. Each call takes one descent of the map, a second one if it wraps, and no memory.
 pub trait Ordered: Unordered {
-    /// The bucket of the greatest index key below the key's, or else, flagged as wrapped, of the greatest of all; none only where the index is empty.
+    /// The bucket of the greatest index key below the key's, or else, flagged as wrapped, of the greatest of all; none only if the index is empty.
     fn prev_bucket(&self, key: &[u8]) -> Option<(&[Self::Value], bool)>
         ensures value { option_map (λ b. (b.0.now, b.1)) result
             ≡ neighbour_at (Self.entries self.now)
@@ -25,7 +25,7 @@ pub trait Ordered: Unordered {
         ensures none { (result ≡ None) ↔ (Self.entries self.now ≡ []) }
         ensures index { IsIndex (Self.entries self.now) };
 
-    /// The bucket of the least index key above the key's, or else, flagged as wrapped, of the least of all; none only where the index is empty.
+    /// The bucket of the least index key above the key's, or else, flagged as wrapped, of the least of all; none only if the index is empty.
     fn next_bucket(&self, key: &[u8]) -> Option<(&[Self::Value], bool)>
         ensures value { option_map (λ b. (b.0.now, b.1)) result
             ≡ neighbour_at (Self.entries self.now)
@@ -33,7 +33,7 @@ pub trait Ordered: Unordered {
         ensures none { (result ≡ None) ↔ (Self.entries self.now ≡ []) }
         ensures index { IsIndex (Self.entries self.now) };
 
-    /// The bucket of the least index key; none only where the index is empty.
+    /// The bucket of the least index key; none only if the index is empty.
     fn first_bucket(&self) -> Option<&[Self::Value]>
         ensures value { option_map (λ b. b.now) result
             ≡ option_map (bucket_at (Self.entries self.now))

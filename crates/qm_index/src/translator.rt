@@ -22,19 +22,19 @@ pub trait OrderedTranslator: Translator {
 #[derive(Clone, Copy, Debug, Drop)]
 pub struct OneCap;
 
-/// The first two bytes of a key, big-endian, with zeros behind a shorter key.
+/// The first two bytes of a key, big-endian, with zeros after a shorter key.
 #[derive(Clone, Copy, Debug, Drop)]
 pub struct TwoCap;
 
-/// The first four bytes of a key, big-endian, with zeros behind a shorter key.
+/// The first four bytes of a key, big-endian, with zeros after a shorter key.
 #[derive(Clone, Copy, Debug, Drop)]
 pub struct FourCap;
 
-/// The first eight bytes of a key, big-endian, with zeros behind a shorter key.
+/// The first eight bytes of a key, big-endian, with zeros after a shorter key.
 #[derive(Clone, Copy, Debug, Drop)]
 pub struct EightCap;
 
-// The number of the first bytes, so many, with zeros behind a shorter key.
+// The number of the first bytes, so many, with zeros after a shorter key.
 #[inline(always)]
 fn capped(key: &[u8], width: u32) -> u64
     requires { width ≤ 8 }
@@ -50,7 +50,7 @@ fn capped(key: &[u8], width: u32) -> u64
     number
 }
 
-// The first byte and those behind it; zero where there is none.
+// The first byte and those after it; zero if there is none.
 #[inline(always)]
 fn first(bytes: &[u8]) -> (u8, &[u8])
     ensures byte { result.0 < 256 }

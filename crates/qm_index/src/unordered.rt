@@ -22,12 +22,12 @@ pub trait Unordered {
     /// The buckets by index key.
     ghost entries: { Self → List (ℕ × List Self.Value) };
 
-    /// The values under the key's index key, in the order in which they were put; none where it has no bucket.
+    /// The values under the key's index key, in the order in which they were put; none if it has no bucket.
     fn bucket(&self, key: &[u8]) -> &[Self::Value]
         ensures value { result.now ≡ bucket_at (entries self.now) (index_key key.now) }
         ensures index { IsIndex (entries self.now) };
 
-    /// Puts a value behind the others of the key's bucket. Want of memory is the only error, and leaves the index as it was.
+    /// Puts a value after the others of the key's bucket. Want of memory is the only error, and leaves the index as it was.
     fn insert(&mut self, key: &[u8], value: Self::Value) -> Result<(), AllocError>
         ensures ok { OnOk result (Puts (entries self.old) (entries self.new) (index_key key.now)
             (bucket_at (entries self.old) (index_key key.now) ++ value ∷ [])) }

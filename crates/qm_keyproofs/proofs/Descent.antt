@@ -86,7 +86,7 @@ module _ (hash : Bytes → Bytes) (shape : Shape) (claim : Claim) where
   plain_halves : (h i : ℕ) (ds : List Bytes) → does_meet (suc h) i ≡ true → plain (suc h) i ds ≡ option_and_then (plain_behind h i) (plain h (2 * i) ds)
   plain_halves h i ds does = ap (λ t. if t then option_and_then (plain_behind h i) (plain h (2 * i) ds) else taken ds) does
 
-  -- what is own of a node is its digest, where it is over no whole chunk or over more of them
+  -- what is own of a node is its digest, if it is over no whole chunk or over more of them
   own_plain : (h i : ℕ) (d : Bytes) → (suc h == g) ≡ false → own_value hash claim (record { height = suc h; index = i }) d ≡ d
   own_plain h i d other = ap (λ t. if t then hash (chunk_of claim i ++ d) else d) other
 
@@ -141,7 +141,7 @@ module _ (hash : Bytes → Bytes) (shape : Shape) (claim : Claim) where
       (cases_lt h g))
       (cases_lt (suc h) g)
 
-  -- the value of a node over halves, from the left half's and what is behind it
+  -- the value of a node over halves, from the left half's and what follows it
   abbrev over_left : Node → Node → Bytes × List Bytes → Taken
   over_left x r l = option_map (λ t. (own_value hash claim x (node_digest hash (shape.number x) l.0 t.0), t.1)) (value_of hash shape claim r l.1)
 

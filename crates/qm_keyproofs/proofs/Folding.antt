@@ -57,7 +57,7 @@ module _ (hash : Bytes → Bytes) (shape : Shape) (claim : Claim) where
       ap (λ k. option_map (folded hash k) (option_map (λ rest. d ∷ rest) o)) is
       ∙ mapped_twice (folded hash (suc n)) (λ rest. d ∷ rest) (folded_onto hash d n) (λ rest. refl) o
 
-  -- the steps of the folds, where a peak is the first of those that are left
+  -- the steps of the folds, if a peak is the first of those that are left
   module _ (qs : List Node) (p : Node) (ps : List Node) (ds : List Bytes) (is : qs ≡ p ∷ ps) where
     pub none_behind : (f : List Bytes → Bytes) → None ≡ value_of hash shape claim p ds → None ≡ option_map f (rows qs ds)
     none_behind f none = sym (ap (λ xs. option_map f (rows xs ds)) is ∙ ap (option_map f) (rows_none p ps ds none))

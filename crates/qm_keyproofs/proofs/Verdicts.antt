@@ -63,7 +63,7 @@ module _ (hash : Bytes → Bytes) (shape : Shape) (claim : Claim) (range : Range
   unfit true true true true false w refuted = refl
   unfit true true true true true w refuted = absurd (refuted refl refl refl refl refl)
 
-  -- a verdict of no: where its numbers don't fit, where a digest of a chunk doesn't, and where it has no root
+  -- a verdict of no: if its numbers don't fit, if a digest of a chunk doesn't, and if it has no root
   pub verdict_unfit : (Fits → ⊥) → false ≡ verdict_on hash shape claim range root
   verdict_unfit refuted =
       unfit (nat_le n (2 ^ 62)) (nat_lt 0 (length claim.items)) (nat_le (claim.start + length claim.items) n) (nat_le range.proof.inactive (length (peaks shape n)))

@@ -21,7 +21,7 @@ abbrev pub own_value : (Bytes → Bytes) → Claim → Node → Bytes → Bytes
 own_value hash claim node digest = if node.height == claim.height then hash (chunk_of claim node.index ++ digest) else digest
 
 module _ (hash : Bytes → Bytes) (shape : Shape) (claim : Claim) where
-  -- the value of a node, from the first digests of a proof and the claim, and the digests behind those
+  -- the value of a node, from the first digests of a proof and the claim, and the digests after those
   abbrev pub value_of : Node → List Bytes → Taken
   value_of node ds = rebuilt_value hash shape claim.height claim.items claim.start claim.chunks node ds
 
@@ -29,7 +29,7 @@ module _ (hash : Bytes → Bytes) (shape : Shape) (claim : Claim) where
   abbrev pub values_of : List Node → List Bytes → Option (List Bytes)
   values_of row ds = rebuilt_values hash shape claim.height claim.items claim.start claim.chunks row ds
 
-  -- a digest is there exactly where there is such a chunk, and is the claimed chunk's where that is claimed
+  -- a digest is there exactly if there is such a chunk, and is the claimed chunk's if that is claimed
   abbrev pub agrees_with : Option ℕ → Option Bytes → Bool
   agrees_with chunk digest = agrees hash shape claim.height claim.items claim.start claim.chunks chunk digest
 

@@ -14,7 +14,7 @@ pub struct ChunkBytes<N: Chunks> {
 }
 
 impl<N: Chunks> ChunkBytes<N> {
-    /// The chunk of these bytes, exactly where there are as many as a chunk has.
+    /// The chunk of these bytes, exactly if there are as many as a chunk has.
     pub fn new(bytes: Vec<u8>) -> Option<Self>
         ensures some { IsSome result ↔ (length bytes.items ≡ N.LEN) }
         ensures bytes { IfSome result (λ chunk. chunk.bytes.items ≡ bytes.items) }

@@ -41,7 +41,7 @@ pub trait Claimed {
         ensures { H.Digest.bytes result
             ≡ trees.leaf_digest H.hash position (slice_index_or (claim self.now).items number []) };
 
-    /// The chunk of this number, without bytes where there is none.
+    /// The chunk of this number, without bytes if there is none.
     fn chunk(&self, number: u64) -> &[u8]
         ensures { result.now ≡ slice_index_or (claim self.now).chunks number [] };
 }

@@ -94,7 +94,7 @@ fn excludes<K: ByteString>(key: &K, next_key: &K, other: &K) -> bool
     key != other && in_span(key, next_key.as_bytes(), other)
 }
 
-// Whether the span of a key up to the next one has another key between its ends, where the next one of the last is the first.
+// Whether the span of a key up to the next one has another key between its ends, the next one of the last being the first.
 fn in_span(key: &[u8], next: &[u8], other: &[u8]) -> bool
     ensures { result ≡ range_proofs.in_span key.now next.now other.now }
 {

@@ -25,7 +25,7 @@ pub fn lend<B: ByteString>(value: &B) -> Lent<'_, B>
     Lent::Of(value)
 }
 
-/// The value, lent, where there is one.
+/// The value, lent, if there is one.
 pub fn lend_option<B: ByteString>(value: &Option<B>) -> Option<Lent<'_, B>>
     ensures bytes { option_map (lent_bytes B.bytes) result ≡ option_map B.bytes value.now }
     ensures known { IfSome (option_map B.bytes value.now) (λ bs.

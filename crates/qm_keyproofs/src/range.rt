@@ -24,7 +24,7 @@ use qm_merkle::StandardHasher;
 use qm_proofs::Proof;
 
 /// A proof that operations stand at locations in a row, against a canonical root: digests of nodes beside the locations, grafted
-/// ones from the height of chunks on; the digests of the pending and of the partial chunk, where there is one; and the operations
+/// ones from the height of chunks on; the digests of the pending and of the partial chunk, if there is one; and the operations
 /// root. Any numbers and digests make a proof; `verify` says no to those that are none.
 #[derive(Drop)]
 pub struct RangeProof<D> {
@@ -94,8 +94,8 @@ impl<D: Digest> RangeProof<D> {
         }
     }
 
-    // Whether the digests of the pending and of the partial chunk are there where such chunks are, and those of the claimed ones,
-    // where these are claimed.
+    // Whether the digests of the pending and of the partial chunk are there if such chunks are, and those of the claimed ones,
+    // if these are claimed.
     fn has_digests<F: Graftable, H: Hasher<Digest = D>, C: Claimed>(
         &self,
         hasher: &mut StandardHasher<H>,
@@ -152,7 +152,7 @@ impl<D: Digest> RangeProof<D> {
     }
 }
 
-// Whether there is a digest exactly where there is such a chunk, and that of the claimed one, where that is claimed.
+// Whether there is a digest exactly if there is such a chunk, and that of the claimed one, if that is claimed.
 fn agrees<F: Graftable, H: Hasher, C: Claimed>(
     hasher: &mut StandardHasher<H>,
     claim: &C,
@@ -171,7 +171,7 @@ fn agrees<F: Graftable, H: Hasher, C: Claimed>(
     }
 }
 
-// Whether the digest is that of the claimed chunk, where that is claimed.
+// Whether the digest is that of the claimed chunk, if that is claimed.
 fn agrees_at<F: Graftable, H: Hasher, C: Claimed>(
     hasher: &mut StandardHasher<H>,
     claim: &C,

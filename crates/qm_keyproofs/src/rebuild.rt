@@ -144,7 +144,7 @@ impl<D: Digest> RangeProof<D> {
         self.fold_onto::<F, H, C>(hasher, claim, 1, first, used)
     }
 
-    // The digest that the values of the peaks from a number on fold to from the right, where so many digests are used.
+    // The digest that the values of the peaks from a number on fold to from the right, if so many digests are used.
     fn fold_right<F: Family, H: Hasher<Digest = D>, C: Claimed>(
         &self,
         hasher: &mut StandardHasher<H>,
@@ -216,7 +216,7 @@ impl<D: Digest> RangeProof<D> {
         self.fold_onto::<F, H, C>(hasher, claim, number + 1, folded, used)
     }
 
-    // A node's value, where so many digests are used, and how many are used with it.
+    // A node's value, if so many digests are used, and how many are used with it.
     fn rebuild<F: Family, H: Hasher<Digest = D>, C: Claimed>(
         &self,
         hasher: &mut StandardHasher<H>,

@@ -10,7 +10,7 @@ use Rattle.std.specs.Io.KnownBytes.{Appends, Consumes, IsAtEnd, Keeps}
 use Rattle.qm_model.specs.Causes.{Grows, IsCause, Rose}
 
 module _ (start before now : ℕ) (F : Type 0) (same : before ≡ start) where
-  -- a later call rose where it failed
+  -- a later call rose if it failed
   pub caused : {G : Type 0} → IsCause before now G → (F → G) → IsCause start now F
   caused cause from = record { later = omega (arith, same, cause.later); failed = λ f. subst (λ n. Rose n now) same (cause.failed (from f)) }
 

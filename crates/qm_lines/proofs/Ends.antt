@@ -1,4 +1,4 @@
--- Where a range ends: a key and behind it a bracket.
+-- Where a range ends: a key and after it a bracket.
 use Rattle.std.proofs.Common.{◌≡◌, ◌∙◌, ◌++◌, ◌-◌, ◌==◌, ℕ, true, false, [], ◌∷◌, length, take, get_or, Option, None, Some, option_map, ap, sym, arith, length-append}
 use Rattle.std.specs.Prelude.{if◌then◌else◌, bytes_eq, codes}
 use Rattle.std.proofs.Math.Seq.{get_or-append_seam, take-append_seam}

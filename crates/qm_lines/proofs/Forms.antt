@@ -20,7 +20,7 @@ Others name zero all = ⊤
 Others name (suc n) [] = ⊥
 Others name (suc n) (f ∷ more) = (false ≡ bytes_eq name f.0) × Others name n more
 
--- the one behind n has the name
+-- the one after n others has the name
 abbrev Named : Bytes → ℕ → List Form → Type 0
 Named name n [] = ⊥
 Named name zero (f ∷ more) = true ≡ bytes_eq name f.0

@@ -6,7 +6,7 @@ use Rattle.std.proofs.lemmas.List.{drop-drop, drop_all, take_all, take-append-dr
 pub rest : (at : ℕ) (text : List ℕ) → take (length text - at) (drop at text) ≡ drop at text
 rest at text = take_all (length text - at) (drop at text) (omega (arith, length-drop at text))
 
--- as many of those behind `at` as there are and there is room for
+-- as many of those from `at` on as there are and there is room for
 module _ (bytes lent : List ℕ) (at count : ℕ) (out : List ℕ) (same : lent ≡ bytes)
     (most : count ≡ min (length (take (length lent - at) (drop at lent))) (length out)) where
   piece : take (length lent - at) (drop at lent) ≡ drop at bytes
@@ -26,6 +26,6 @@ module _ (bytes lent : List ℕ) (at count : ℕ) (out : List ℕ) (same : lent 
   pub front_end : count ≡ 0 → 0 < length out → drop (at + count) bytes ≡ []
   front_end none room = drop_all (at + count) bytes (omega (arith, front_full, none, room, length-drop at bytes))
 
--- n bytes of those behind `at` end within the text
+-- n bytes of those from `at` on end within the text
 pub reach : (at n : ℕ) (text : List ℕ) → at < length text → n ≤ length (drop at text) → at + n ≤ length text
 reach at n text more few = omega (arith, more, few, length-drop at text)

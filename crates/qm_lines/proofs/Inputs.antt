@@ -53,7 +53,7 @@ without_behind xs ys more =
     ∙ ap (λ (t : Bytes). cond (get_or ys (length ys - 1) 0 == 10) t (xs ++ ys)) shorter
     ∙ either (get_or ys (length ys - 1) 0 == 10) (take (length ys - 1) ys) ys xs
 
--- a line, its feed, and what is behind
+-- a line, its feed, and what follows
 line_and_more : (xs ys : Bytes) → IsWhole xs → lines_of (xs ++ 10 ∷ ys) ≡ xs ∷ lines_of ys
 line_and_more xs [] h =
     some_lines (xs ++ 10 ∷ []) (omega (arith, length-append xs (10 ∷ [])))
@@ -71,7 +71,7 @@ first_line xs i h feed before =
     let whole : IsWhole (take i xs) = λ k within. let below : k < i = omega (arith, length-take i xs) in subst (λ (b : ℕ). b ≢ 10) (sym (get_or-take i xs k 0 below)) (before k below) in
     ap lines_of cut ∙ line_and_more (take i xs) (drop (i + 1) xs) whole
 
--- The commands so far are the first k, and the lines behind them are those of the rest.
+-- The commands so far are the first k, and the lines after them are those of the rest.
 pub record IsAt (input rest : Bytes) (k : ℕ) : Type 0 where
   pub few : k ≤ length (commands_of (lines_of input))
   pub commands : drop k (commands_of (lines_of input)) ≡ commands_of (lines_of rest)

@@ -4,7 +4,7 @@ use Rattle.std.specs.Borrow.{Bor}
 use Rattle.std.proofs.lemmas.List.{drop_more, get_or-map, length-map}
 use Rattle.qm_model.specs.Operations.{Bytes}
 
--- the i-th of those that are lent, and those behind it
+-- the i-th of those that are lent, and those after it
 pub opened : (refs : List (Bor Bytes)) (i : ℕ) (d : Bor Bytes) → i < length refs → drop i (map (λ (x : Bor Bytes). x.now) refs) ≡ (get_or refs i d).now ∷ drop (i + 1) (map (λ (x : Bor Bytes). x.now) refs)
 opened refs i d h =
     let lent : List Bytes = map (λ (x : Bor Bytes). x.now) refs in

@@ -12,7 +12,7 @@ few_parts [] few = refl
 few_parts (a ∷ []) few = refl
 few_parts (a ∷ b ∷ parts) few = absurd (omega arith)
 
--- the first part has the name, and says something behind it
+-- the first part has the name, and says something after it
 pub some_said : {A : Type 0} (name : Bytes) (read : Bytes → Option A) (parts : List Bytes) (word : Bytes) (rest : List Bytes) (a : A) →
     Some (word, rest) ≡ first_named name parts → read word ≡ Some a → Some (Some a, rest) ≡ optional name read parts
 some_said name read [] word rest a first says = cc

@@ -1,4 +1,4 @@
--- Words that are read one by one, and a last word behind keys.
+-- Words that are read one by one, and a last word after keys.
 use Rattle.std.proofs.Common.{◌≡◌, ◌+◌, ◌<◌, ℕ, List, [], ◌∷◌, ◌++◌, drop, length, get_or, map, Option, Some, None, option_map, refl, sym, ◌∙◌, ap, append_assoc}
 use Rattle.std.specs.Prelude.{option_and_then}
 use Rattle.std.specs.Borrow.{Bor}

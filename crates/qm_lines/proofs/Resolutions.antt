@@ -1,4 +1,4 @@
--- Slots and the writes behind them, and what stands before both.
+-- Slots and the writes after them, and what stands before both.
 use Rattle.std.proofs.Common.{◌≡◌, ◌∙◌, ◌+◌, ◌-◌, ◌<◌, ◌≤◌, ℕ, List, [], ◌∷◌, ◌++◌, drop, take, length, get_or, Option, Some, None, option_map, refl, sym, ap, arith, append_assoc, append-nil, length-drop}
 use Rattle.std.specs.Prelude.{option_and_then}
 use Rattle.std.specs.Borrow.{Bor}
@@ -14,11 +14,11 @@ use Rattle.qm_lines.specs.declared.parse.unread.Unread.{Unread}
 use Rattle.qm_lines.proofs.Lines.{opened}
 use Rattle.qm_lines.proofs.Readings.{unread-of}
 
--- slots, and the others behind them, if there are those
+-- slots, and the others after them, if there are those
 abbrev pub with_others : List Slot → Option (List Write) → Option Resolution
 with_others done others = option_map (λ (ws : List Write). (done, ws)) others
 
--- what a word and those behind it are
+-- what a word and those after it are
 abbrev resumed : Option Slot → Option Resolution → Option (List Write) → Option Resolution
 resumed (Some slot) rest others = option_map (with_slot slot) rest
 resumed None rest others = with_others [] others
@@ -64,7 +64,7 @@ module _ (refs : List (Bor Bytes)) (i : ℕ) (done : List Slot) (so_far : option
         one_more done slot (resolution_of (drop (i + 1) (lent refs)))
         ∙ sym (ap (λ s. option_map (with_slots done) (resumed s (resolution_of (drop (i + 1) (lent refs))) (each_write (drop i (lent refs))))) some) ∙ here
 
--- those behind the first n that are lent
+-- those after the first n that are lent
 pub lent_behind : (refs : List (Bor Bytes)) (n : ℕ) → lent (take (length refs - n) (drop n refs)) ≡ drop n (lent refs)
 lent_behind refs n =
     ap lent (take_all (length refs - n) (drop n refs) (omega (arith, length-drop n refs))) ∙ sym (drop-map (λ (x : Bor Bytes). x.now) n refs)

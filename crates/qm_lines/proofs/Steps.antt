@@ -13,7 +13,7 @@ pub not_empty : {D : Type 0} (some of : List Bytes → Option D) → ((a : Bytes
 not_empty some of is [] h = cc
 not_empty some of is (a ∷ words) h = is a.now (lent words)
 
--- no word, fewer than two, and more than one or two, where they are read as none
+-- no word, fewer than two, and more than one or two, if they are read as none
 module _ {D : Type 0} (of : List Bytes → Option D) where
   pub no_word : None ≡ of [] → (words : List (Bor Bytes)) → length words < 1 → None ≡ of (lent words)
   no_word none [] few = none
@@ -91,7 +91,7 @@ both-none : {A B D : Type 0} (made : A → B → D) (x : Option A) → None ≡ 
 both-none made None = refl
 both-none made (Some x) = refl
 
--- a word, and what is read of those behind it
+-- a word, and what is read of those after it
 module _ {A B D : Type 0} (first : Bytes → Option A) (rest : List Bytes → Option B) (made : A → B → D) (of : List Bytes → Option D)
     (is : (a : Bytes) (ws : List Bytes) → both made (rest ws) (first a) ≡ of (a ∷ ws))
     (all : List (Bor Bytes)) (a : Bor Bytes) (words : List (Bor Bytes)) (split : all ≡ a ∷ words) where

@@ -1,4 +1,4 @@
--- What is written behind a string, piece by piece.
+-- What is appended to a string, piece by piece.
 use Rattle.std.proofs.Common.{◌≡◌, ◌+◌, ◌-◌, ◌<◌, ◌≤◌, ℕ, List, [], ◌∷◌, ◌++◌, take, length, get_or, map, flat_map, Result, Ok, Err, arith, sym, ◌∙◌, ap, append_assoc, append-nil}
 use Rattle.std.specs.Prelude.{if◌then◌else◌, is_ok, IfOk}
 use Rattle.std.proofs.lemmas.List.{map-append, take_all, take_more}
@@ -10,7 +10,7 @@ pub pushed : {T E : Type 0} (old new text : Bytes) (r : Result T E) → new ≡ 
 pushed old new text (Ok u) h = h
 pushed old new text (Err e) h = tt
 
--- what was written behind what was written
+-- what was written after what was written before
 pub written_behind : {T E : Type 0} (old mid new first next : Bytes) (r : Result T E) → mid ≡ old ++ first → IfOk r (λ _. new ≡ mid ++ next) → IfOk r (λ _. new ≡ old ++ (first ++ next))
 written_behind old mid new first next (Ok u) h k = k ∙ ap (λ (t : Bytes). t ++ next) h ∙ append_assoc old first next
 written_behind old mid new first next (Err e) h k = tt

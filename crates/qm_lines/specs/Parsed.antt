@@ -41,7 +41,7 @@ byte_line = line_view (λ k. k) (λ v. v) policy_view
 abbrev pub lent : List (Bor Bytes) → List Bytes
 lent words = map (λ (w : Bor Bytes). w.now) words
 
--- what is read of a text that is read as this: none where it is malformed, and nothing is said where memory is wanting
+-- what is read of a text that is read as this: none if it is malformed, and nothing is said if memory is wanting
 abbrev pub Unreads : {A : Type 0} → Unread → Option A → Type 0
 Unreads unreads.Malformed o = None ≡ o
 Unreads unreads.Memory o = ⊤
@@ -80,7 +80,7 @@ with_keys before (keys, from) = (before ++ keys, from)
 abbrev pub limits_view : Limits → walks.Limits
 limits_view l = record { entries = l.entries; skips = l.skips }
 
--- what stands behind the name that the first part begins with, and the parts after it
+-- what follows the name that the first part begins with, and the parts after it
 abbrev pub first_named : Bytes → List Bytes → Option (Bytes × List Bytes)
 first_named name [] = None
 first_named name (part ∷ parts) = if begins_with name part then Some (behind name part, parts) else None

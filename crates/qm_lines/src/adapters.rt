@@ -9,7 +9,7 @@ use crate::ports::{Failed, Sink, SinkError, Source};
 use std::io::{self, ErrorKind, Read, Write};
 use std::marker::Model;
 
-// A read that goes on where a signal interrupted it.
+// A read that goes on if a signal interrupted it.
 fn read_on<R: Read>(inner: &mut R, out: &mut [u8]) -> io::Result<usize>
     ensures bound { ReadsAtMost result out.new }
     ensures bytes { ReadConsumes (R.remaining inner.old) (R.remaining inner.new) result out.new }
@@ -23,7 +23,7 @@ fn read_on<R: Read>(inner: &mut R, out: &mut [u8]) -> io::Result<usize>
     inner.read(out)
 }
 
-// A write that goes on where a signal interrupted it.
+// A write that goes on if a signal interrupted it.
 fn write_on<W: Write>(inner: &mut W, piece: &[u8]) -> io::Result<usize>
     ensures bound { WritesAtMost result piece.now }
     ensures bytes { WriteAppends (W.contents inner.old) (W.contents inner.new) result piece.now }

@@ -101,7 +101,7 @@ pub enum InfoCommand<K> {
 /// What opens the database, makes it last or ends it.
 #[derive(Drop)]
 pub enum StoreCommand {
-    /// Opens the store: the longest list that it keeps and that ends with a commit, of at most so many operations where a
+    /// Opens the store: the longest list that it keeps and that ends with a commit, of at most so many operations if a
     /// number is given.
     Open(Option<u64>),
     /// Forgets the operations before a location, and makes those that are left stable.

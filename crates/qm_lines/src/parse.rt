@@ -49,7 +49,7 @@ fn line_length(input: &[u8]) -> usize
         .unwrap_or(input.len())
 }
 
-/// The first line of an input, without its line feed, and what is behind it. An empty input has none.
+/// The first line of an input, without its line feed, and what follows it. An empty input has none.
 pub fn next_line(input: &[u8]) -> Option<(&[u8], &[u8])>
     ensures none { IfNone result (grammar.lines_of input.now ≡ []) }
     ensures some { IfSome result (λ found.

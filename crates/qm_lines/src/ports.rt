@@ -12,12 +12,12 @@ pub struct Failed;
 
 /// Gives bytes, in order.
 pub trait Source {
-    /// The bytes that are left, where it tells them.
+    /// The bytes that are left, if it tells them.
     ghost left: { Self → Option (List ℕ) };
 
     ghost faults: { Self → ℕ };
 
-    /// Puts the next bytes at the front of `out`, and says how many. None where `out` has room is the end.
+    /// Puts the next bytes at the front of `out`, and says how many. None, if `out` has room, is the end.
     /// After a failure a further call goes on as if the failed one had not been made.
     fn read(&mut self, out: &mut [u8]) -> Result<usize, Failed>
         ensures bound { ReadsAtMost result out.new }
@@ -40,7 +40,7 @@ pub enum SinkError {
 
 /// Takes bytes, in order.
 pub trait Sink {
-    /// The bytes that went in, where it tells them.
+    /// The bytes that went in, if it tells them.
     ghost text: { Self → Option (List ℕ) };
 
     ghost faults: { Self → ℕ };

@@ -53,7 +53,7 @@ fn write_optional<B: ByteString>(
     write_bytes(out, mark, value.as_bytes())
 }
 
-// A mark, a key, and its value behind a sign.
+// A mark, a key, and its value after a sign.
 fn write_pair(out: &mut String, mark: &str, key: &[u8], value: &[u8]) -> Result<(), AllocError>
     ensures { Adds out.old out.new result
         (mark.now ++ (texts.hex_text key.now ++ (codes "=" ++ texts.hex_text value.now))) }
@@ -223,7 +223,7 @@ fn write_roots<D: Digest>(out: &mut String, root: &D, operations: &D) -> Result<
     write_hex(out, " ", operations.bytes())
 }
 
-// A proof, and a slash for what is behind it.
+// A proof, and a slash before what follows it.
 fn write_proof<D: Digest>(
     out: &mut String,
     leaves: u64,

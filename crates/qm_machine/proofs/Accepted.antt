@@ -1,4 +1,4 @@
--- What an accepted opening of a log takes up: as many operations as it says, the last of them at or behind the start, and the fresh
+-- What an accepted opening of a log takes up: as many operations as it says, the last of them at or after the start, and the fresh
 -- list of an empty log.
 use Rattle.std.proofs.Common.{◌≡◌, ℕ, zero, suc, ◌+◌, ◌-◌, ◌<◌, ◌≤◌, Bool, true, false, List, [], ◌∷◌, length, drop, Option, Some, None, refl, sym, ◌∙◌, subst, arith, le_refl}
 use Rattle.std.specs.Prelude.{get_or, IfSome, ◌==◌, ◌&&◌, option_map}
@@ -23,7 +23,7 @@ pub accepted : (r : Option Refused) (size n : ℕ) → opening_of r size ≡ ope
 accepted (Some r) size n is = absurd (cc)
 accepted None size n is = (refl, cc)
 
--- where the last commit ends, of items that stand behind a start
+-- where the last commit ends, of items that stand after a start
 
 abbrev IsWithin : ℕ → ℕ → Option Selected → Type 0
 IsWithin start n at = IfSome at (λ c. (start < c.size) × (c.size ≤ n))
@@ -68,7 +68,7 @@ module _ (m : Scheme) (log : Log) (bound : Option ℕ) (start : log.start ≤ le
       by None e within = omega (arith, e)
       by (Some c) e within = let low = within.1 in omega (arith, e, low, counted)
 
-  -- a commit stands at or behind the start
+  -- a commit stands at or after the start
   pub opens-behind : (n : ℕ) → opening (layout_of m) found bound ≡ opens (suc n) → log.start ≤ suc n
   opens-behind n is = by (selected found bound) (accepted _ _ (suc n) is).1 (selected-within found bound)
     where

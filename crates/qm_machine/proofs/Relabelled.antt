@@ -90,7 +90,7 @@ choices-relabelled f Close choices = refl
 choices-relabelled f Destroy choices = refl
 choices-relabelled f (Crash keep) choices = refl
 
--- where each policy makes the steps of its other name
+-- if each policy makes the steps of its other name
 module _ {P Q : Type 0} (f : P → Q) (a : Rules P) (b : Rules Q)
     (same : (kind : Kind) (ops : List Operation) (ws : List Write) (p : P) (meta : Option Bytes) → step kind a ops ws p meta ≡ step kind b ops ws (f p) meta) (m : Scheme) where
   same_writes : (s : State) (h : ℕ) (policy : P) (meta : Option Bytes) (list : List Operation) (chain : Chain) (ws : List Write) → merkleize_writes m a s h policy meta list chain ws ≡ merkleize_writes m b s h (f policy) meta list chain ws

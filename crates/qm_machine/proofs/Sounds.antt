@@ -168,7 +168,7 @@ module _ (m : Scheme) {P : Type 0} (rules : Rules P) where
           let inside = good.floor_within in
           omega (arith, start, inside, short, length-take-le (ended_size whole) whole short, length-take-le log.stable log.list kept.stable)
 
-  -- where a list takes the place of a log's, as many chunks may be pruned, if it settles no less
+  -- if a list takes the place of a log's, as many chunks may be pruned, if it settles no less
   pruned-more : (chunks : Option Chunks) (log : Log) (list : List Operation) → floor (settled_list log) ≤ floor (ended_part (take log.stable list)) → length (settled_list log) ≤ length (ended_part (take log.stable list))
       → ArePruned (engine_of m rules) chunks log → ArePruned (engine_of m rules) chunks (record log { list = list })
   pruned-more None log list low few is = tt
@@ -248,7 +248,7 @@ module _ (m : Scheme) {P : Type 0} (rules : Rules P) where
   abbrev pub IsFormed : State → Type 0
   IsFormed s = (list : List Operation) → s.database ≡ Some list → All (IsOf m.form) list
 
-  -- a state that is sound, where its lists are apart and its database's list is formed
+  -- a state that is sound, if its lists are apart and its database's list is formed
   abbrev Sound : Answer × State → Type 0
   Sound turned = Apart m.root (turned.1).had → IsFormed turned.1 → IsSound m rules turned.1
 

@@ -50,14 +50,14 @@ key_of word = within 1 32 (decode_of word)
 abbrev pub value_of : Bytes → Option Bytes
 value_of word = if bytes_eq word (codes "-") then Some [] else within 1 64 (decode_of word)
 
--- whether a word begins with a name, and what stands behind that
+-- whether a word begins with a name, and what follows that
 abbrev pub begins_with : Bytes → Bytes → Bool
 begins_with name word = bytes_eq (take (length name) word) name
 
 abbrev pub behind : Bytes → Bytes → Bytes
 behind name word = drop (length name) word
 
--- What the first of some parts says behind this name, and the parts after it; none, and all parts, where it has another name.
+-- What the first of some parts says after this name, and the parts after it; none, and all parts, if it has another name.
 abbrev pub optional : {A : Type 0} → Bytes → (Bytes → Option A) → List Bytes → Option (Option A × List Bytes)
 optional name read [] = Some (None, [])
 optional name read (part ∷ parts) =
@@ -71,12 +71,12 @@ swap_of_words words = None
 abbrev pub swap_of : Bytes → Option (Bytes × Bytes)
 swap_of word = swap_of_words (slice_split (λ c. c == 62) word)
 
--- the policy of these numbers and values, where no part is left
+-- the policy of these numbers and values, if no part is left
 abbrev pub rule_of : ℕ → ℕ → Option Bytes → Option Bytes → Option (Bytes × Bytes) × List Bytes → Option Policy
 rule_of entries skips drops stops (swap, []) = Some (rule entries skips drops stops swap)
 rule_of entries skips drops stops (swap, part ∷ parts) = None
 
--- a value to drop, one to stop at, and two to swap, each where it is given, in this order
+-- a value to drop, one to stop at, and two to swap, each if it is given, in this order
 abbrev pub rule_with : ℕ → ℕ → List Bytes → Option Policy
 rule_with entries skips parts =
     option_and_then (λ d. option_and_then (λ s. option_and_then (rule_of entries skips d.0 s.0) (optional (codes "swap=") swap_of s.1)) (optional (codes "stop=") value_of d.1)) (optional (codes "drop=") value_of parts)
@@ -97,7 +97,7 @@ abbrev pub only_policy : Policy → List Bytes → Option Policy
 only_policy policy [] = Some policy
 only_policy policy parts = None
 
--- a name, and the parts behind it
+-- a name, and the parts after it
 abbrev pub policy_of_words : List Bytes → Option Policy
 policy_of_words [] = None
 policy_of_words (name ∷ parts) =
@@ -113,7 +113,7 @@ policy_of word = policy_of_words (slice_split (λ c. c == 58) word)
 abbrev pub metadata_of : Bytes → Option (Option Bytes)
 metadata_of word = if bytes_eq word (codes "none") then Some None else option_map (λ v. Some v) (value_of word)
 
--- the number behind a word and an equals sign
+-- the number after a word and an equals sign
 abbrev pub named_number : Bytes → Bytes → Option ℕ
 named_number name word = if begins_with name word then number_of (behind name word) else None
 
@@ -138,7 +138,7 @@ reading_of [] = None
 reading_of (w ∷ []) = last_reading w
 reading_of (w ∷ v ∷ ws) = option_and_then (λ k. option_map (with_key k) (reading_of (v ∷ ws))) (key_of w)
 
--- a slot: a name or, behind another, a value
+-- a slot: a name or, after another, a value
 abbrev pub slot_of : Bytes → Option Slot
 slot_of word =
     if bytes_eq word (codes "keep") then Some keep
@@ -166,7 +166,7 @@ abbrev pub each_write : List Bytes → Option (List Write)
 each_write [] = Some []
 each_write (w ∷ ws) = option_and_then (λ x. option_map (λ xs. x ∷ xs) (each_write ws)) (write_of w)
 
--- what becomes of staged keys, and behind that other writes
+-- what becomes of staged keys, and after that other writes
 abbrev pub Resolution : Type 0
 Resolution = List Slot × List Write
 
@@ -191,7 +191,7 @@ only_number words = None
 abbrev pub numbered : (ℕ → Line Policy) → List Bytes → Option (Line Policy)
 numbered line words = option_map line (only_number words)
 
--- The commands that need more, each of the words behind its name.
+-- The commands that need more, each of the words after its name.
 
 abbrev pub info_of : List Bytes → Option (Line Policy)
 info_of [] = Some Info
@@ -201,7 +201,7 @@ abbrev pub root_of : List Bytes → Option (Line Policy)
 root_of [] = Some Root
 root_of words = numbered BatchRoot words
 
--- up to a size, where one is given
+-- up to a size, if one is given
 abbrev pub open_of : List Bytes → Option (Line Policy)
 open_of [] = Some (Open None)
 open_of (a ∷ []) = option_map (λ n. Open (Some n)) (named_number (codes "max=") a)
@@ -258,7 +258,7 @@ abbrev pub only_key : (Bytes → Line Policy) → List Bytes → Option (Line Po
 only_key line (a ∷ []) = option_map line (key_of a)
 only_key line words = None
 
--- a sign for a range's end, or a bracket beside a key: a square one where the key itself is in the range, else a round one
+-- a sign for a range's end, or a bracket beside a key: a square one if the key itself is in the range, else a round one
 abbrev pub low_of : Bytes → Option Limit
 low_of [] = None
 low_of (c ∷ cs) =
@@ -285,7 +285,7 @@ abbrev pub chunks_of : List Bytes → Option (Line Policy)
 chunks_of (a ∷ b ∷ []) = option_and_then (λ start. option_map (λ max. Current (Chunks start max)) (positive_of b)) (number_of a)
 chunks_of words = None
 
--- each command's name, and what the words behind it say: of those that a current database offers
+-- each command's name, and what the words after it say: of those that a current database offers
 abbrev pub current_forms : List (Bytes × (List Bytes → Option (Line Policy)))
 current_forms =
     (codes "held", only_key (λ key. Current (Held key)))
@@ -386,7 +386,7 @@ abbrev pub bad_here : ℕ → Option (Line Policy) → Option ℕ → Option ℕ
 bad_here n None later = Some n
 bad_here n (Some c) later = later
 
--- the number of the first line that is none, where they are numbered from n on
+-- the number of the first line that is none, if they are numbered from n on
 abbrev pub bad_from : ℕ → List Bytes → Option ℕ
 bad_from n [] = None
 bad_from n (line ∷ lines) = bad_here n (line_of line) (bad_from (n + 1) lines)

@@ -69,7 +69,7 @@ root_text : text (lines (codes "open" ∷ codes "root" ∷ [])) ≡ lines (codes
 unfolding encode_with digits digits_below
 root_text = refl
 
--- a batch that the database has left behind, its number used up, and a second opening
+-- a stale batch, its number used up, and a second opening
 stale_text : text (lines (codes "open" ∷ codes "batch" ∷ codes "batch" ∷ codes "put 1 61 01" ∷ codes "merkleize 1 prop none" ∷ codes "apply 1" ∷ codes "merkleize 2 prop none" ∷ codes "apply 2" ∷ codes "open" ∷ []))
     ≡ lines (codes "open 1 0 1" ∷ codes "batch 1" ∷ codes "batch 2" ∷ codes "ok" ∷ codes "merkleized 1 1 4 2" ∷ codes "applied 4" ∷ codes "refused StaleBatch" ∷ codes "refused NoSuchHandle 2" ∷ codes "open 2 0 4" ∷ [])
 unfolding decode_pairs encode_with digits digits_below four_bytes eight_bytes
@@ -139,14 +139,14 @@ no_database_text : forked (lines (codes "tip" ∷ codes "get 6b" ∷ codes "many
 unfolding decode_pairs encode_with digits digits_below four_bytes eight_bytes
 no_database_text = refl
 
--- a settled list of 4 operations, and 3 more behind it
+-- a settled list of 4 operations, and 3 more after it
 settled_lines : List Bytes
 settled_lines = codes "open" ∷ codes "batch" ∷ codes "put 1 6b 76" ∷ codes "merkleize 1 prop none" ∷ codes "apply 1" ∷ codes "commit" ∷ codes "batch" ∷ codes "put 2 6c 77" ∷ codes "merkleize 2 prop none" ∷ codes "apply 2" ∷ []
 
 settled_replies : List Bytes
 settled_replies = codes "open 1 0 1" ∷ codes "batch 1" ∷ codes "ok" ∷ codes "merkleized 1 1 4 2" ∷ codes "applied 4" ∷ codes "ok" ∷ codes "batch 2" ∷ codes "ok" ∷ codes "merkleized 2 4 7 3" ∷ codes "applied 7" ∷ []
 
--- a crash that left the settled list, or more but not all of what stands behind it
+-- a crash that left the settled list, or more but not all of what follows it
 crash_keeping_none : lasting (lines (settled_lines ++ codes "crash 0" ∷ codes "open" ∷ [])) ≡ lines (settled_replies ++ codes "ok" ∷ codes "open 2 0 4" ∷ [])
 unfolding settled_lines settled_replies decode_pairs encode_with digits digits_below four_bytes eight_bytes
 crash_keeping_none = refl
@@ -383,7 +383,7 @@ half_swap : no_policy (codes "rule:1:1:swap=01")
 unfolding no_policy decode_pairs
 half_swap = refl
 
--- staged reads: slots in order, a write behind them that counts, and slots that are too few
+-- staged reads: slots in order, a write after them that counts, and slots that are too few
 staged_start : List Bytes
 staged_start = codes "open" ∷ codes "batch" ∷ codes "put 1 61 01" ∷ codes "merkleize 1 prop none" ∷ codes "apply 1" ∷ codes "batch" ∷ codes "stage 2 61 61 61" ∷ []
 
@@ -411,7 +411,7 @@ staged_child : forked (lines (codes "open" ∷ codes "batch" ∷ codes "put 1 00
 unfolding decode_pairs encode_with digits digits_below four_bytes eight_bytes
 staged_child = refl
 
--- what is no line: a slot behind a write, a write without a value, no key to stage
+-- what is no line: a slot after a write, a write without a value, no key to stage
 slot_behind_write : line_of (codes "resolve 2 hold none 61=01 keep") ≡ None
 unfolding decode_pairs
 slot_behind_write = refl

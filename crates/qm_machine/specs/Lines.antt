@@ -18,7 +18,7 @@ pub data Question : Type 0 where
 
 -- what a line asks for; a batch goes by its number
 pub data Line (P : Type 0) : Type 0 where
-  -- up to a size, where one is given
+  -- up to a size, if one is given
   Open : Option ℕ → Line P
   Batch : Line P
   -- a child of a merkleized batch, which keeps so many of its kept ancestors, or all
@@ -84,7 +84,7 @@ pub data Answer : Type 0 where
   Read : List (Option Bytes) → Answer
   -- from which staged key up to which, and what was read of these
   Expanded : ℕ → ℕ → List (Option Bytes) → Answer
-  -- a key, where there is one
+  -- a key, if there is one
   Beside : Option Bytes → Answer
   -- the live update whose span holds a key; and of a key its value, and the next key
   Spanning : Option Live → Answer

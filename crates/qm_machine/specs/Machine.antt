@@ -147,7 +147,7 @@ ops s h = list_operations s h (slot_at s.table h)
 abbrev pub meta : State → Answer × State
 meta s = with_database s s.database (λ list. (Metadata (last_metadata list), s))
 
--- the batch gets its tip list, or is used up where that is refused
+-- the batch gets its tip list, or is used up if that is refused
 abbrev pub merkleize_tip : State → ℕ → Chain → List Operation → Option Refused → Answer × State
 merkleize_tip s h chain tip None =
     (Merkleized h (length chain.base) (length tip) (floor tip), record (with_slot s h (merkleized chain tip)) { had = tip ∷ s.had })
@@ -206,7 +206,7 @@ module _ (m : Scheme) where
   abbrev pub found_in : Log → Found
   found_in log = record { start = log.start; items = map (λ op. Some op) (drop log.start log.list); head = concat (pins_at m.hash m.shape m.form (take log.start log.list) log.start); metadata = None; count = log.chunks }
 
-  -- up to a bound, where there is one; an open database is closed first
+  -- up to a bound, if there is one; an open database is closed first
   abbrev pub open_store : State → Option ℕ → Answer × State
   open_store s bound = opened_as (closed s) (opening (layout_of m) (found_in s.log) bound)
 
@@ -234,7 +234,7 @@ module _ (m : Scheme) where
   read_in s h keys list gone = refuse s (NoSuchHandle h)
   read_in s h keys list (staged chain parent ws ks) = refuse s (NoSuchHandle h)
 
-  -- the answer, with this in the batch's place, which is used up where the database is at no state of the batch's parent
+  -- the answer, with this in the batch's place, which is used up if the database is at no state of the batch's parent
   abbrev pub if_staged : State → ℕ → List Operation → Chain → Chain → Answer → Slot → Answer × State
   if_staged s h list chain parent answer slot =
       if readable m.root (commitment m.root list) parent chain.base then (answer, with_slot s h slot) else refuse (with_slot s h gone) StaleRead
@@ -249,7 +249,7 @@ module _ (m : Scheme) where
   abbrev pub stage : State → ℕ → List Bytes → Answer × State
   stage s h keys = with_database s s.database (λ list. stage_in s h keys list (slot_at s.table h))
 
-  -- those of more keys, behind the staged ones
+  -- those of more keys, after the staged ones
   abbrev pub expand_in : State → ℕ → List Bytes → List Operation → Slot → Answer × State
   expand_in s h keys list (staged chain parent ws ks) =
       if_staged s h list chain parent (Expanded (length ks) (length ks + length keys) (map (read_through chain.base ws) keys)) (staged chain parent ws (ks ++ keys))
@@ -260,7 +260,7 @@ module _ (m : Scheme) where
   abbrev pub expand : State → ℕ → List Bytes → Answer × State
   expand s h keys = with_database s s.database (λ list. expand_in s h keys list (slot_at s.table h))
 
-  -- the values of keys, through a batch where one is given
+  -- the values of keys, through a batch if one is given
   abbrev pub read : State → List Bytes → Option ℕ → Answer × State
   read s keys None = with_database s s.database (λ list. (Read (map (value_of list) keys), s))
   read s keys (Some h) = with_database s s.database (λ list. read_in s h keys list (slot_at s.table h))
@@ -276,7 +276,7 @@ module _ (m : Scheme) where
   beside_in s h beside list (writing chain parent ws) = refuse s (NoSuchHandle h)
   beside_in s h beside list (staged chain parent ws ks) = refuse s (NoSuchHandle h)
 
-  -- the same, or on the database's list where no batch is given
+  -- the same, or on the database's list if no batch is given
   abbrev pub beside_of : State → (List Bytes → Option Bytes) → Option ℕ → Answer × State
   beside_of s beside None = with_database s s.database (λ list. (Beside (beside (live_keys list)), s))
   beside_of s beside (Some h) = with_database s s.database (λ list. beside_in s h beside list (slot_at s.table h))
@@ -368,7 +368,7 @@ choices_after line choices = choices
 
 -- under policies with these rules
 module _ (m : Scheme) {P : Type 0} (rules : Rules P) where
-  -- writes make a batch's tip list; the batch is also used up where it is of another instance, or the database has moved on
+  -- writes make a batch's tip list; the batch is also used up if it is of another instance, or the database has moved on
   abbrev pub merkleize_writes : State → ℕ → P → Option Bytes → List Operation → Chain → List Write → Answer × State
   merkleize_writes s h policy meta list chain ws =
       let tip = steps.step (kind_of m) rules chain.base ws policy meta in

@@ -59,7 +59,7 @@ operations_text ops = flat_map (λ op. codes " " ++ operation_text op) ops
 abbrev pub values_text : List (Option Bytes) → Bytes
 values_text values = flat_map (λ v. codes " " ++ optional_text v) values
 
--- a key, where there is one
+-- a key, if there is one
 abbrev pub beside_text : Option Bytes → Bytes
 beside_text None = codes "none"
 beside_text (Some k) = codes "key " ++ hex_text k

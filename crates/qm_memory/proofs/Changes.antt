@@ -18,14 +18,14 @@ use Rattle.qm_memory.specs.Changes.{Change, grew, settled_from, rewound_from, pr
 abbrev others : Bytes → List Named → List Named
 others name ms = filter (λ m. not (bytes_eq name m.name)) ms
 
--- none goes where none has the name
+-- none goes if none has the name
 others-all : (name : Bytes) (ms : List Named) → All (λ o. bytes_eq name o.name ≡ false) ms → others name ms ≡ ms
 others-all name [] none = refl
 others-all name (m ∷ ms) none =
     let here : bytes_eq name m.name ≡ false = none 0 m (omega arith) in
     rw here (ap (λ xs. m ∷ xs) (others-all name ms (All-tail (λ o. bytes_eq name o.name ≡ false) m ms none)))
 
--- where the names differ, the one at the place of the name is all that goes
+-- if the names differ, the one at the place of the name is all that goes
 pub others-removed : (name : Bytes) (ms : List Named) → AreNamedOnce ms → remove ms (place_of name ms) ≡ others name ms
 others-removed name [] once = refl
 others-removed name (m ∷ ms) once = at (bytes_eq name m.name) refl (others-removed name ms once.1)
@@ -34,7 +34,7 @@ others-removed name (m ∷ ms) once = at (bytes_eq name m.name) refl (others-rem
     at true is rest = rw is (sym (others-all name ms (subst (λ n. All (λ o. bytes_eq n o.name ≡ false) ms) (sym ((bytes_eq-Decides name m.name).0 is)) once.0)))
     at false is rest = let up : 1 + place_of name ms ≡ suc (place_of name ms) = omega arith in rw (is, up) (ap (λ xs. m ∷ xs) rest)
 
--- where it stands nowhere, nothing goes
+-- if it stands nowhere, nothing goes
 pub others-absent : (name : Bytes) (ms : List Named) → AreNamedOnce ms → place_of name ms ≡ length ms → others name ms ≡ ms
 others-absent name ms once absent =
     sym (others-removed name ms once) ∙ ap (λ n. remove ms n) absent ∙ ap₂ (λ xs ys. xs ++ ys) (take_all (length ms) ms (omega arith)) (drop_of_length-le ms {i = suc (length ms)} (omega arith)) ∙ append-nil ms
@@ -43,11 +43,11 @@ others-absent name ms once absent =
 pub place-within : (name : Bytes) (ms : List Named) → place_of name ms ≤ length ms
 place-within name ms = prefix_len-le-length (λ m. not (bytes_eq name m.name)) ms
 
--- what is replaced, where it stands there
+-- what is replaced, if it stands there
 pub putting-over : (name : Bytes) (ms : List Named) (named : Named) → place_of name ms < length ms → named ≡ get_or ms (place_of name ms) named → put_over (place_of name ms) named ≡ putting name ms
 putting-over name ms named within is = ap (λ o. replaced (place_of name ms) o) (sym (slice_get_read ms (length ms) (place_of name ms) named refl within is))
 
--- where it is put back there, all is as it was
+-- if it is put back there, all is as it was
 abbrev put_back : ℕ → Option Named → List Named → List Named
 put_back place None ms = ms
 put_back place (Some named) ms = insert ms place named

@@ -38,7 +38,7 @@ pub cut-append : (from : ℕ) (ends : List ℕ) (last : ℕ) (later bytes : List
 cut-append from [] last later bytes are = ap (λ n. cut n later bytes) are
 cut-append from (to ∷ ends) last later bytes are = ap (λ xs. slice_range bytes from to ∷ xs) (cut-append to ends last later bytes are.1)
 
--- bytes behind the last end change no item
+-- bytes after the last end change no item
 pub cut-longer : (from : ℕ) (ends bytes more : List ℕ) (last : ℕ) → AreEnds from ends last → last ≤ length bytes → cut from ends (bytes ++ more) ≡ cut from ends bytes
 cut-longer from [] bytes more last are within = refl
 cut-longer from (to ∷ ends) bytes more last are within =
@@ -139,7 +139,7 @@ items-take ends bytes items n end are is within at =
           ∙ cut-take 0 ends bytes n ∙ ap (λ xs. take n xs) is,
     )
 
--- the items behind the first ones, with the bytes from their end on
+-- the items after the first ones, with the bytes from their end on
 pub items-drop : (ends bytes : List ℕ) (items : List (List ℕ)) (n gone : ℕ) → AreEnds 0 ends (length bytes) → cut 0 ends bytes ≡ items → n ≤ length items → gone ≡ get_or (0 ∷ ends) n 0
     → AreEnds 0 (map (λ end. end - gone) (drop n ends)) (length (drop gone bytes)) × (cut 0 (map (λ end. end - gone) (drop n ends)) (drop gone bytes) ≡ drop n items)
 items-drop ends bytes items n gone are is within at =
@@ -152,7 +152,7 @@ items-drop ends bytes items n gone are is within at =
           ∙ ap (λ k. cut k (drop n ends) bytes) at ∙ cut-drop 0 ends bytes n ∙ ap (λ xs. drop n xs) is,
     )
 
--- the items behind the first ones end where these end, or later
+-- the items after the first ones end where these end, or later
 pub ends-behind : (ends bytes : List ℕ) (items : List (List ℕ)) (n gone : ℕ) → AreEnds 0 ends (length bytes) → cut 0 ends bytes ≡ items → n ≤ length items → gone ≡ get_or (0 ∷ ends) n 0 → All (λ end. gone ≤ end) (drop n ends)
 ends-behind ends bytes items n gone are is within at =
     let there : n ≤ length ends = ends-count ends bytes items n is within in

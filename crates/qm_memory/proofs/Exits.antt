@@ -27,7 +27,7 @@ Told result old new Done = record {
   memory : result ≡ Err stores.Memory → new ≡ called old;
 }
 
--- one more has room where a call made room for it
+-- one more has room if a call made room for it
 pub one_fits : (len capacity : ℕ) → len + 1 ≤ capacity → len < capacity
 one_fits len capacity room = omega arith
 
@@ -43,7 +43,7 @@ cut_fits first to kept left is from within limit = let long = ap length is ∙ l
 pub chosen_within : (first stable count keep len least to : ℕ) → first ≤ stable → stable ≤ first + count → len ≡ count → least ≡ min (first + len) keep → to ≡ max stable least → (first ≤ to) × (to ≤ first + count)
 chosen_within first stable count keep len least to from within is lower chosen = (omega arith, omega arith)
 
--- what changed, behind what had changed before
+-- what changed, after what had changed before
 pub noted : (before room after : List Change) (x y : Change) → after ≡ room ++ x ∷ [] → room ≡ before → x ≡ y → reverse after ≡ y ∷ reverse before
 noted before room after x y more same is = ap reverse more ∙ reverse-append room (x ∷ []) ∙ ap₂ (λ c cs. c ∷ reverse cs) is same
 
@@ -99,7 +99,7 @@ module _ (counted : Result ⊤ StoreError) (old now : Mem) (inside : IsInside ol
           memory = λ memory. absurd cc;
         }
 
--- a call that is counted fails where its number is listed
+-- a call that is counted fails if its number is listed
 pub found-listed : (fail found : List ℕ) (number : ℕ) (fails : Bool) → found ≡ fail → IsAnyAnswer (λ n b. eqb n number ≡ b) found fails → Decides fails (Contains fail number)
 found-listed fail found number fails same answer = subst (λ (ks : List ℕ). Decides fails (Contains ks number)) same (Decides-contains found number fails (contains_decides eqb Decides-eqb found number fails answer))
 

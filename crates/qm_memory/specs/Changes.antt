@@ -4,7 +4,7 @@ use Rattle.std.specs.List.{insert, position_or_len}
 use Rattle.qm_model.specs.Operations.{Bytes}
 use Rattle.qm_model.specs.StoreModel.{Named, Rest, Stored, rest_of}
 
--- What a call changed: so many items were put behind; all became stable, which was so up to here; these items were cut off, and
+-- What a call changed: so many items were appended; all became stable, which was so up to here; these items were cut off, and
 -- this was the stable length; the start, the head, and the items that were taken away at the beginning; metadata were put under a
 -- new name, or in place of these, which stood at this place; a restart cut these items off, and this was the stable length; all
 -- that the store held was dropped, but for the ends that its restarts chose.
@@ -62,7 +62,7 @@ undone (put_over place named) s = record s { metadata = insert (drop 1 s.metadat
 undone (restarted_from gone stable) s = record s { items = s.items ++ gone; stable = stable; ends = take (length s.ends - 1) s.ends }
 undone (emptied held) s = record held { ends = s.ends }
 
--- the states before each of these changes, where the newest stands first
+-- the states before each of these changes, of which the newest stands first
 abbrev pub before : List Change → Stored → List Stored
 before [] s = []
 before (change ∷ changes) s = undone change s ∷ before changes (undone change s)

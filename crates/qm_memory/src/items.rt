@@ -50,7 +50,7 @@ impl Items {
         &self.bytes[start..end]
     }
 
-    // Puts copies behind the last item. After an error nothing has changed.
+    // Puts copies after the last item. After an error nothing has changed.
     pub(crate) fn append(&mut self, added: &[Vec<u8>]) -> Result<(), AllocError>
         ensures ok { OnOk result (self.new ≡ self.old ++ map (λ v. v.items) added.now) }
         ensures err { OnErr result (self.new ≡ self.old) }
@@ -62,7 +62,7 @@ impl Items {
         Ok(())
     }
 
-    // Takes away the items behind the first ones, so many.
+    // Takes away the items after the first `count`.
     pub(crate) fn truncate(&mut self, count: usize)
         requires { count ≤ length self.old }
         ensures { self.new ≡ take count self.old }
@@ -95,7 +95,7 @@ impl Items {
         })
     }
 
-    // A copy of the items behind the first ones, so many.
+    // A copy of the items after the first `count`.
     pub(crate) fn behind(&self, alloc: Global, count: usize) -> Result<Items, AllocError>
         requires { count ≤ length self.now }
         ensures { IfOk result (λ items. items ≡ drop count self.now) }
@@ -142,7 +142,7 @@ fn copy_of_front<T: Copy>(alloc: Global, items: &[T], count: usize) -> Result<Ve
     Vec::from_slice(alloc, &items[..count])
 }
 
-// A copy of the elements behind the first ones, so many.
+// A copy of the elements after the first `count`.
 fn copy_behind<T: Copy>(alloc: Global, items: &[T], count: usize) -> Result<Vec<T>, AllocError>
     requires { count ≤ length items.now }
     ensures { IfOk result (λ copy. copy.items ≡ drop count items.now) }
@@ -171,7 +171,7 @@ fn byte_count(items: &[Vec<u8>]) -> Result<usize, AllocError>
     Ok(count)
 }
 
-// Puts copies behind the last item. There is room for them.
+// Puts copies after the last item. There is room for them.
 fn put_all(bytes: &mut Vec<u8>, ends: &mut Vec<usize>, added: &[Vec<u8>])
     requires ends { AreEnds 0 ends.old.items (length bytes.old.items) }
     requires places { vec_len ends.old + length added.now ≤ vec_capacity ends.old }

@@ -107,7 +107,7 @@ impl MemStore {
         self.kept.item(at)
     }
 
-    // Counts a call, which fails where it is listed.
+    // Counts a call, which fails if it is listed.
     fn call(&mut self) -> Result<(), StoreError>
         ensures listed { (result ≡ Err StoreError.Failed) ↔ Contains self.old.fail self.old.calls }
         ensures ok { OnOk result (self.new ≡ called self.old) }

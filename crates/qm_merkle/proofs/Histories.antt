@@ -87,7 +87,7 @@ module _ (shape : Shape) {D : Type 0} where
         ∙ is_some-slice_get layer.tree.nodes (p - shape.size layer.tree.start) (omega (arith, from, below, whole.full))
 
     module _ (peaked : HasPeaks shape) (mem : Kept D) (whole : IsWhole shape mem) where
-      -- layers over a tree have each node, where the tree is at one of their lists
+      -- layers over a tree have each node, if the tree is at one of their lists
       pub there : (layers : List (Layer D)) (base : ℕ) → AreLinked shape base layers → Contains (stops base layers) mem.leaves → AreThere shape layers mem base
       there [] base linked stop x born bare =
           let at : base ≡ mem.leaves = only (first_or_other base [] mem.leaves stop) in

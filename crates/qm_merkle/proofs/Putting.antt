@@ -294,7 +294,7 @@ module _ (shape : Shape) {D : Type 0} where
         (since-at value leaves xs k x lt at ∙ ap (λ l. l ∷ drop (suc k) layers) (sym same)) in
         (next, omega (arith, next.high, top-drop leaves layers k newest_is.chain, newest_is.start, newest_is.whole.order))
 
-    -- where none is to be put in, the leaves are the newest's
+    -- if none is to be put in, the leaves are the newest's
     pub none_next : newest.tree.start < leaves → leaves ≡ newest.tree.leaves
     none_next before = sym (ap (top_of leaves) (since-past leaves newest (map value xs) before)) ∙ (chained leaves newest.tree.leaves (newest ∷ map value xs) linked reach).1
 

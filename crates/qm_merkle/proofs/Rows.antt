@@ -156,7 +156,7 @@ too_high {shape} family {x} {h} {i} {base} is born =
     let inside : end_of (record { height = h; index = i }) ≤ base = subst (λ y. end_of y ≤ base) is (omega (arith, family.inside x, born)) in
     omega (arith, inside)
 
--- replaced leaves so far, where these entries are left: the nodes that were put, and their row
+-- replaced leaves so far, if these entries are left: the nodes that were put, and their row
 pub record Taken (shape : Shape) {D : Type 0} (replaced left nodes : List (ℕ × D)) (row : List ℕ) : Type 0 where
   pub rest : All (λ e. found_at replaced e.0 ≡ Some e.1) left
   pub same : (i : ℕ) → IsSome (found_at nodes (shape.position (leaf i))) → found_at nodes (shape.position (leaf i)) ≡ found_at replaced i

@@ -46,7 +46,7 @@ module _ (shape : Shape) (births : Births) (family : IsFamily shape births) (pea
   }
 
   module _ {D : Type 0} (kept : Kept D) (whole : IsWhole shape kept) where
-    -- a node that is there is held, where the node over it was not there at the kept start
+    -- a node that is there is held, if the node over it was not there at the kept start
     pub node_held : (x : Node) → shape.birth x ≤ kept.leaves → kept.start < shape.birth (over x) → Holds shape kept (shape.position x)
     node_held x born bare = ⊎_elim
         (λ (new : kept.start < shape.birth x). inr (stands_past shape births family x kept.start new, stands_below shape births family x kept.leaves born))
@@ -86,7 +86,7 @@ module _ (shape : Shape) (births : Births) (family : IsFamily shape births) (pea
             ap (option_map bytes) (pin_at-other (shape.position y) (map shape.position ys) d ds (shape.position x) other.1) ∙ go ys ds tail k (omega arith) is)
             (eqb_tells (shape.position y) (shape.position x))
 
-    -- each node that is there, where the node over it was not at the kept start, is held
+    -- each node that is there, if the node over it was not at the kept start, is held
     pub gives : (x : Node) → kept.start ≤ 2 ^ 62 → shape.birth x ≤ kept.leaves → kept.start < shape.birth (over x) → Gives bytes (node_at shape kept (shape.position x)) (digest_of hash shape leaves x)
     gives x few born bare = ⊎_elim
         (λ (new : kept.start < shape.birth x). stands.nodes x new born)

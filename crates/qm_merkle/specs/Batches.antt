@@ -116,7 +116,7 @@ seen_at shape layers mem x = option_or (layers_at shape layers (shape.position x
 abbrev pub made_at : {D : Type 0} → Shape → List (ℕ × D) → List (Layer D) → Kept D → ℕ → Option D
 made_at shape entries layers mem p = option_or (found_at entries p) (option_or (layers_at shape layers p) (node_at shape mem p))
 
--- layers over a tree have each node of so many leaves, where the node over it was not there at the kept start
+-- layers over a tree have each node of so many leaves, if the node over it was not there at the kept start
 abbrev pub AreThere : {D : Type 0} → Shape → List (Layer D) → Kept D → ℕ → Type 0
 AreThere shape layers mem base = (x : Node) → shape.birth x ≤ base → mem.start < shape.birth (over x) → IsSome (seen_at shape layers mem x)
 

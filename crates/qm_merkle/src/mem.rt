@@ -347,7 +347,7 @@ impl<F: Family, D: Digest> Mem<F, D> {
         hasher.node_digest(F::number(node), &left, &right)
     }
 
-    // The digest of a node that is there when these of a leaf's nodes are made, where the node over it is not.
+    // The digest of a node that is there when these of a leaf's nodes are made, if the node over it is not.
     fn half(&self, made: &[D], node: Node) -> D
         requires room { length made.now ≤ Births.count F.births self.now.leaves }
         requires held { IsHeld F.shape F.births self.now.leaves (length made.now) node }
@@ -410,7 +410,7 @@ impl<F: Family, D> Mem<F, D> {
 }
 
 impl<F: Family, D: Copy> Mem<F, D> {
-    // Adds the nodes from the kept start on, where there is room.
+    // Adds the nodes from the kept start on, if there is room.
     pub(crate) fn append_to(&self, nodes: &mut Vec<D>)
         requires { length nodes.old.items + length self.now.nodes ≤ vec_capacity nodes.old }
         ensures items { nodes.new.items ≡ nodes.old.items ++ self.now.nodes }

@@ -29,7 +29,7 @@ bit_of [] i op at = cc
 bit_of (x ∷ ops) zero op at = let same : x ≡ op = cc in ap (λ o. Some (is_active o ops)) same
 bit_of (x ∷ ops) (suc i) op at = bit_of ops i op at
 
--- of lists one behind the other
+-- of lists one after the other
 at_left : {X : Type 0} (xs ys : List X) (i : ℕ) (x : X) → slice_get xs i ≡ Some x → slice_get (xs ++ ys) i ≡ Some x
 at_left [] ys i x at = cc
 at_left (y ∷ xs) ys zero x at = at
@@ -44,7 +44,7 @@ not_last : (rest more : List Operation) (next : Operation) → is_last (rest ++ 
 not_last [] more next = refl
 not_last (op ∷ rest) more next = refl
 
--- the bit of a location of a list, once more stands behind it
+-- the bit of a location of a list, once more stands after it
 pub bit_before : (ops more : List Operation) (next : Operation) (i : ℕ) (op : Operation) → slice_get ops i ≡ Some op
     → slice_get (bits (ops ++ next ∷ more)) i ≡ Some (is_some (live_at 0 op (drop (suc i) ops ++ next ∷ more)))
 bit_before ops more next i op at =
@@ -52,7 +52,7 @@ bit_before ops more next i op at =
     ∙ ap (λ rest. Some (is_active op rest)) (drop_left ops (next ∷ more) i op at)
     ∙ ap (λ t. Some (t || is_some (live_at 0 op (drop (suc i) ops ++ next ∷ more)))) (not_last (drop (suc i) ops) more next)
 
--- an update whose key is written again behind it loses its bit
+-- an update whose key is written again after it loses its bit
 pub superseded_clear : (ops more : List Operation) (next : Operation) (i : ℕ) (k v : Bytes) (n : Option Bytes) → slice_get ops i ≡ Some (update k v n) → touched k (next ∷ more) ≡ true
     → slice_get (bits (ops ++ next ∷ more)) i ≡ Some false
 superseded_clear ops more next i k v n at again =
@@ -64,7 +64,7 @@ superseded_clear ops more next i k v n at again =
     or_true true = refl
     or_true false = refl
 
--- an update of which nothing stands behind keeps its bit
+-- an update whose key nothing after it touches keeps its bit
 pub untouched_keeps : (ops more : List Operation) (next : Operation) (i : ℕ) (k v : Bytes) (n : Option Bytes) → slice_get ops i ≡ Some (update k v n) → touched k (drop (suc i) ops) ≡ false → touched k (next ∷ more) ≡ false
     → slice_get (bits (ops ++ next ∷ more)) i ≡ Some true
 untouched_keeps ops more next i k v n at none before =
@@ -219,7 +219,7 @@ tail_of : (xs : List Operation) (op : Operation) → (next : Operation) × (more
 tail_of [] op = (op, [], refl)
 tail_of (x ∷ xs) op = (x, xs ++ op ∷ [], refl)
 
--- a step's list has more operations behind the list
+-- a step's list has more operations after the list
 pub step_more : {P : Type 0} (kind : Kind) (rules : Rules P) (ops : List Operation) (ws : List Write) (policy : P) (meta : Option Bytes)
     → (next : Operation) × (more : List Operation) × (step kind rules ops ws policy meta ≡ ops ++ next ∷ more)
 step_more kind rules ops ws policy meta =

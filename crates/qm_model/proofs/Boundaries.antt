@@ -46,8 +46,8 @@ boundary-rises shape g floor higher n more low few =
         let least = prunable_least shape g more (higher / 2 ^ g) c (omega (arith, most, up, is)) there in
         omega (arith, is, least)
 
--- chunks may go that are below the floor and reach no further than the list, which has as many operations as their threshold, where they
--- have one; where they have none, no node over one of them waits
+-- chunks may go that are below the floor and reach no further than the list, which has as many operations as their threshold, if they
+-- have one; if they have none, no node over one of them waits
 pub may-go : (shape : Shape) (g floor n c : ℕ) → ((k : ℕ) → pair_absorption_threshold shape g (suc k) ≡ None → shape.birth (chunk_node g k) ≤ suc k * 2 ^ g)
     → c * 2 ^ g ≤ floor → c * 2 ^ g ≤ n → option_map_or (λ least. nat_lt n least) (pair_absorption_threshold shape g c) false ≡ false → c * 2 ^ g ≤ sync_boundary shape g floor n
 may-go shape g floor n zero prompt low inside absorbed = omega arith

@@ -31,7 +31,7 @@ use Rattle.qm_model.proofs.BitLemmas.{bit_of, chunk_bit, chunk_span}
 use Rattle.qm_model.proofs.RangeProving.{range_verified}
 use Rattle.qm_model.proofs.KeySpeaking.{found_there, not_itself, not_both, not_above, gt_is_lt, filter_passes, filter_at}
 
--- a live update stands where it says, and nothing behind it touches its key
+-- a live update stands where it says, and nothing after it touches its key
 abbrev pub Stands : ℕ → List Operation → Live → Type 0
 Stands start ops e = (i : ℕ) × (e.location ≡ start + i) × (slice_get ops i ≡ Some (update e.key e.value e.next)) × (touched e.key (drop (suc i) ops) ≡ false)
 
@@ -55,7 +55,7 @@ live_stand start (update k v n ∷ ops) =
 live_stand start (delete k ∷ ops) = later start (delete k) ops (live_stand (suc start) ops)
 live_stand start (commit m f ∷ ops) = later start (commit m f) ops (live_stand (suc start) ops)
 
--- an update that nothing behind it touches is active
+-- an update that nothing after it touches is active
 pub update_active : (ops : List Operation) (i : ℕ) (k v : Bytes) (n : Option Bytes) → slice_get ops i ≡ Some (update k v n) → touched k (drop (suc i) ops) ≡ false → slice_get (bits ops) i ≡ Some true
 update_active ops i k v n at none =
     bit_of ops i (update k v n) at
@@ -276,7 +276,7 @@ module _ (hash : Bytes → Bytes) (shape : Shape) (g : ℕ) (enough : 3 ≤ g) (
         held : held_check hash shape g form ops e ≡ true
         held = held_verified key e found
 
-        -- a key that has a neighbour before it has one behind it
+        -- a key that has a neighbour before it has one after it
         some_keys : (ks : List Bytes) → predecessor ks x ≡ Some key → successor ks key ≡ None → ⊥
         some_keys [] first last = cc
         some_keys (k ∷ ks) first last = at (least (filter (λ j. key_lt key j) (k ∷ ks))) refl

@@ -72,7 +72,7 @@ ended-rises xs ys front = cases (ended-part xs)
 settled-length : (log : Log) → length (settled_list log) ≡ ended_size (take log.stable log.list)
 settled-length log = let part = take log.stable log.list in length-take-le (ended_size part) part (ended-within part)
 
--- where more of a list is stable, no less is settled
+-- if more of a list is stable, no less is settled
 settled-rises : (log other : Log) → Begins (take log.stable log.list) (take other.stable other.list) → length (settled_list log) ≤ length (settled_list other)
 settled-rises log other front =
     let up = ended-rises (take log.stable log.list) (take other.stable other.list) front in
@@ -94,7 +94,7 @@ settled-within log to low = Begins-through (settled_list log) (take log.stable l
 pub settled-before : (log : Log) (more : List Operation) → Begins (settled_list log) (log.list ++ more)
 settled-before log more = Begins-through (settled_list log) log.list (log.list ++ more) (settled-in log) (take-append_seam log.list more)
 
--- Metadata of one log is that of another, where both go on from a settled list within which as many chunks may be pruned.
+-- Metadata of one log is that of another, if both go on from a settled list within which as many chunks may be pruned.
 abbrev pub MetadataStays : {P : Type 0} → Engine P → Type 0
 MetadataStays e = (low log other : Log) (s t : Stored) → IsKept e low → low.chunks ≡ log.chunks → other.chunks ≡ log.chunks → Begins (settled_list low) log.list → Begins (settled_list low) other.list → t.metadata ≡ s.metadata
     → MetadataIs e e.layout.chunks log s → MetadataIs e e.layout.chunks other t
@@ -159,7 +159,7 @@ module _ {P : Type 0} {kind : Kind} {rules : Rules P} (keeps : Keeps kind rules)
         cases (inl part) = inl (Begins-through (take i.to is.log.list) is.log.list before.list (begins_take i.to is.log.list) part)
         cases (inr part) = inr (Begins-through (take i.to is.log.list) is.log.list after.list (begins_take i.to is.log.list) part)
 
-    -- so where all that a crash may have found is between them, so is what it leaves
+    -- so if all that a crash may have found is between them, so is what it leaves
     pub left-between : (rests : List Rest) (image : Stored) → AreBetween own before after rests → MayBeLeft rests image → IsBetween own before after image
     left-between rests image all may =
         image-between (at_rest may.found) image (All-contains (λ r. IsBetween own before after (at_rest r)) rests may.found all may.among) may.left
@@ -426,7 +426,7 @@ module _ {P : Type 0} {kind : Kind} {rules : Rules P} (keeps : Keeps kind rules)
       cases (inl late) = two image (record { found = crash.found; among = subst (λ rests. Contains (rest_of u ∷ rests) crash.found) (sym (since-is t u second more)) late; left = crash.left })
       cases (inr early) = one image (record { found = crash.found; among = subst (λ rests. Contains (rest_of t ∷ rests) crash.found) (sym (since-is s t first noted)) (Contains-more first (rest_of t) crash.found early); left = crash.left })
 
-  -- a call that failed, where what it may leave is between the logs
+  -- a call that failed, if what it may leave is between the logs
   pub failed-crashes : (before after : Log) (R Q : Stored → Stored → Type 0) (s new : Stored) → ((t : Stored) → R s t → IsBetween own before after t) → ((t : Stored) → Q s t → IsBetween own before after t) → Fails R Q s new → CrashesBetween own before after s new
   failed-crashes before after R Q s new here each fails image crash =
       cases (Contains-append_cases (rest_of new ∷ []) fails.notes crash.found (subst (λ rests. Contains (rest_of new ∷ rests) crash.found) (since-is s new fails.notes fails.past) crash.among))
@@ -439,7 +439,7 @@ module _ {P : Type 0} {kind : Kind} {rules : Rules P} (keeps : Keeps kind rules)
           (All-cons (λ r. IsBetween own before after (at_rest r)) (rest_of new) [] (alike new (at_rest (rest_of new)) refl (here new fails.now)) (All-nil (λ r. IsBetween own before after (at_rest r)))) now) crash.left
       cases (inr noted) = alike (record image { ends = s.ends }) image refl (each (record image { ends = s.ends }) (fails.each image (record { found = crash.found; among = noted; left = crash.left })))
 
-  -- with these operations behind, of which so many are stable
+  -- with these operations after its list, which is stable up to here
   abbrev part_at : List Operation → ℕ → Log → Log
   part_at more stable log = record log { list = log.list ++ more; stable = stable }
 
@@ -642,7 +642,7 @@ module _ {P : Type 0} {kind : Kind} {rules : Rules P} (keeps : Keeps kind rules)
       (of-more log after (whole log) (at_rest (rest_of (settled s))) (own-alike (whole log) (settled s) (at_rest (rest_of (settled s))) refl done) (inl (Begins-self log.list)) more)
       (one-note log after log s is (inl (Begins-self log.list)) (le_refl (length (settled_list log))))))
 
-  -- a prune that fails, behind its commit
+  -- a prune that fails after its commit
   pub failed_prune-crashes : (log : Log) (s new : Stored) (to : ℕ) (head : Bytes) → IsOwn own log s → log.start ≤ to → IsKept own (from to (whole log)) → head ≡ head_of own (from to log)
       → Fails (λ u. ReadsAs u.stable (IsOldOrNew (pruned to head) u)) (λ u. ReadsAs u.stable (IsOldOrNew (pruned to head) u)) (settled s) new → CrashesBetween own log (from to (whole log)) s new
   failed_prune-crashes log s new to head is behind low heads fails =
@@ -686,7 +686,7 @@ module _ {P : Type 0} {kind : Kind} {rules : Rules P} (keeps : Keeps kind rules)
               alike r.image t (whole-image (pruned to head (settled s)) r.image t (omega (arith, far, size)) (omega (arith, end)) i r.reads (omega (arith, end, least)) r.within)
               (image-between log (from to (whole log)) (pruned to head (settled s)) r.image last i)
 
-  -- an opening that fails in its rewind, or behind it
+  -- an opening that fails in its rewind, or after it
   pub failed_opening-crashes : (log : Log) (s new : Stored) (n : ℕ) → IsOwn own log s → n ≤ length log.list → IsCommitEnded (take n log.list) → IsKept own (taken_up (take n log.list) log)
       → Fails (λ s. ReadsAs (min s.stable n) (RewindLeaves n s)) (λ s. ReadsAs (min s.stable n) (RewindLeaves n s)) s new → CrashesBetween own log (taken_up (take n log.list) log) s new
   failed_opening-crashes log s new n is within ended low fails =

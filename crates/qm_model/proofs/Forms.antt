@@ -72,7 +72,7 @@ by_tag-plain form (commit meta floor) back is done =
     ∙ ap (option_and_then (λ (f : ℕ × Bytes). at_end form.sizes (commit meta f.0, f.1))) (read_floor-eight_bytes floor back is.1)
     ∙ at_end-is form.sizes (commit meta floor) back done
 
--- what is behind an operation without padding
+-- what follows an operation without padding
 padding : Bool → Option (ℕ × ℕ) → Bytes → Bytes
 padding ordered None bs = []
 padding ordered (Some p) bs = replicate (longest ordered p - length bs) 0
@@ -155,7 +155,7 @@ spelling-once form a b one other same = same_Some a b (sym (decoded-spelling for
 pub IsSpelling-once : (form : Form) (bs : Bytes) (a b : Operation) → IsSpelling form bs a → IsSpelling form bs b → a ≡ b
 IsSpelling-once form bs a b spells_a spells_b = spelling-once form a b spells_a.of spells_b.of (spells_a.spelled ∙ sym spells_b.spelled)
 
--- Where bytes are decoded to an operation, they are its spelling.
+-- If bytes are decoded to an operation, they are its spelling.
 
 pub AreBytes-all : (bs : Bytes) → All (λ b. b < 256) bs → AreBytes bs
 AreBytes-all [] all i = lit< tt
@@ -248,7 +248,7 @@ read_floor-read bs below =
     (λ h. record { whole = rw (eight_bytes-number_of_eight p.0 cut.count cut.front) cut.whole; fit = leb-true _ _ h; back = cut.back })
     (λ _. tt))
 
--- the bytes begin with the operation, and only padding is behind it
+-- the bytes begin with the operation, and only padding follows it
 record IsPlain (form : Form) (bs : Bytes) (op : Operation) : Type 0 where
   back : Bytes
   whole : plain form.sizes op ++ back ≡ bs

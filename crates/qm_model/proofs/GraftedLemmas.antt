@@ -108,7 +108,7 @@ boundary_most shape g floor n =
     let low : prunable_chunks shape g n (floor / 2 ^ g) * 2 ^ g ≤ floor / 2 ^ g * 2 ^ g = mul-le (prunable_chunks shape g n (floor / 2 ^ g)) (2 ^ g) (floor / 2 ^ g) (2 ^ g) most (le_refl (2 ^ g)) in
     omega arith
 
--- where chunks go, the size is needed
+-- if chunks go, the size is needed
 pub prunable_needed : (shape : Shape) (g n c : ℕ) → 0 < prunable_chunks shape g n c → needed_size shape g (prunable_chunks shape g n c) ≤ n
 prunable_needed shape g n zero some = absurd (omega arith)
 prunable_needed shape g n (suc c) some = ⊎_elim
@@ -188,7 +188,7 @@ last_bit (x ∷ y ∷ ops) (suc i) op at = last_bit (y ∷ ops) i op at ∙ same
     same : (m n : ℕ) → length (y ∷ ops) - 1 ≡ m → n ≡ suc m → (length (y ∷ ops) - 1 == i) ≡ (length (x ∷ y ∷ ops) - 1 == suc i)
     same m n e f = grind (arith, nat_tests)
 
--- a location's bit is set exactly where it is among the active ones
+-- a location's bit is set exactly if it is among the active ones
 pub bit_is_active : (ops : List Operation) (i : ℕ) (op : Operation) → slice_get ops i ≡ Some op → slice_get (bits ops) i ≡ Some (list_any (λ k. k == i) (active ops))
 bit_is_active ops i op at =
     bit_of ops i op at ∙ ap Some (
@@ -289,7 +289,7 @@ raised_born g k i =
     ap (λ h. mmb.birth (record { height = h; index = i })) up ∙ mmb_inner_born (k + g) i
     ∙ ap₂ (λ x y. suc i * x + y - 1) (ap (λ h. 2 ^ h) (sym up) ∙ pow-add 2 (suc k) g) (pow-add 2 k g)
 
--- where a node over chunks is born in the operations tree, what it stands for is born in the grafted tree
+-- if a node over chunks is born in the operations tree, what it stands for is born in the grafted tree
 pub mmb_lowered_born : (g n k i : ℕ) → 0 < g → mmb.birth (raised g (record { height = k; index = i })) ≤ n → mmb.birth (record { height = k; index = i }) ≤ grafted_chunks mmb g n
 mmb_lowered_born g n zero i some born =
     let at : 0 + g ≡ g = omega arith in
@@ -312,7 +312,7 @@ mmb_lowered_born g n (suc k) i some born =
     let half_some = pow_pos (g - 1) in
     let grafted = born_grafted mmb g n (m - 1) (omega arith) (omega arith) in omega arith
 
--- where c chunks may go, each node of the grafted tree over the first c chunks stands for one that is born in the operations tree
+-- if c chunks may go, each node of the grafted tree over the first c chunks stands for one that is born in the operations tree
 pub mmb_absorbed : (g n c k i : ℕ) → 0 < g → 0 < c → needed_size mmb g c ≤ n → mmb.birth (record { height = k; index = i }) ≤ c → mmb.birth (raised g (record { height = k; index = i })) ≤ n
 mmb_absorbed g n zero k i some more needed born = absurd (omega arith)
 mmb_absorbed g n (suc c) k i some more needed born = at k born
@@ -320,7 +320,7 @@ mmb_absorbed g n (suc c) k i some more needed born = at k born
     enough : suc (c / 2) * 2 ^ suc g + 2 ^ g - 1 ≤ n
     enough = subst (λ o. option_map_or (λ n. n) o (mmb.birth (chunk_node g (suc c - 1))) ≤ n) (mmb_threshold g c some) needed
 
-    -- the pair ends behind the chunks
+    -- the pair ends after the chunks
     past : suc c * 2 ^ g ≤ suc (c / 2) * 2 ^ suc g
     past =
         let wide = pow-suc 2 g in

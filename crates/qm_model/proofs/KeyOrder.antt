@@ -267,7 +267,7 @@ module _ {lt : Bytes → Bytes → Bool} (o : IsOrder lt) where
             near = λ x at. ap (λ t. if t then lt key x && lt x s else lt key x || lt x s) (none s first.has) ∙ or-none (lt key x) (lt x s) (none x at) (first.low x at);
           }
 
-  -- where there are keys, one is nearest
+  -- if there are keys, one is nearest
   pub nearest-some : (keys : List Bytes) (key k : Bytes) → Has keys k → (s : Bytes) × (nearest lt keys key ≡ Some s)
   nearest-some [] key k h = absurd (cc)
   nearest-some (x ∷ xs) key k h = cases (front lt (filter (λ k. lt key k) (x ∷ xs)))
@@ -363,7 +363,7 @@ module _ {lt : Bytes → Bytes → Bool} (o : IsOrder lt) where
     near = λ x h. elim (Has-either c [] x h) [ inl e ↦ subst (λ z. amid lt key c z ≡ false) e (amid-end key c) | inr e ↦ absurd (cc) ];
   }
 
-  -- a new key is next where it is on the way to what was next
+  -- a new key is next if it is on the way to what was next
   pub near-new : (keys : List Bytes) (key s c : Bytes) → IsNear lt keys key s → IsNear lt (c ∷ keys) key (if amid lt key s c then c else s)
   near-new keys key s c is = swap (near-append keys (c ∷ []) key s c is (near-only c key))
     where
@@ -415,7 +415,7 @@ module _ {lt : Bytes → Bytes → Bool} (o : IsOrder lt) where
       cases true e = e
       cases false e = absurd (apart (bytes_eq d x) (ap (bytes_eq d) (sym (o.total d x high e)) ∙ bytes_same d) other)
 
-  -- without the next key the one behind it is next
+  -- without the next key the one after it is next
   beyond : (key d t x : Bytes) → amid lt key d t ≡ false → amid lt key d x ≡ false → amid lt d t x ≡ false → bytes_eq d t ≡ false → bytes_eq d x ≡ false → amid lt key t x ≡ false
   beyond key d t x h k m dt dx = cases (lt key d) (lt d t) refl refl h k m
     where
@@ -452,7 +452,7 @@ module _ {lt : Bytes → Bytes → Bool} (o : IsOrder lt) where
     near = λ x h. let rest = in-rest keys d x h in beyond key d t x (first.near t second.has) (first.near x rest.0) (second.near x rest.0) (turned_eq t d other) rest.1;
   }
 
-  -- among fewer keys, of which the next one is none, that behind it is next
+  -- among fewer keys, without the next one, the one after it is next
   pub near-skips : (keys fewer : List Bytes) (key d t : Bytes) → ((x : Bytes) → Has fewer x → Has keys x) → IsNear lt keys key d → contains_key fewer d ≡ false → IsNear lt fewer d t → IsNear lt fewer key t
   near-skips keys fewer key d t part first gone second = record {
     has = second.has;
@@ -524,7 +524,7 @@ is-predecessor keys key p is = predecessor-nearest keys key ∙ is-nearest falls
 pub predecessor-some : (keys : List Bytes) (key k : Bytes) → Has keys k → (p : Bytes) × (predecessor keys key ≡ Some p)
 predecessor-some keys key k h = let found = nearest-some falls keys key k h in (found.0, predecessor-nearest keys key ∙ found.1)
 
--- where there is none there are no keys
+-- if there is none there are no keys
 pub successor-none : (keys : List Bytes) (key : Bytes) → successor keys key ≡ None → (x : Bytes) → contains_key keys x ≡ false
 successor-none keys key h x = false-not (contains_key keys x) (λ at. let found = successor-some keys key x at in absurd (some (sym h ∙ found.1)))
   where
@@ -551,7 +551,7 @@ after-before keys fewer key s part at is = record { has = at; near = λ x h. is.
 pub before-after : (keys fewer : List Bytes) (key p : Bytes) → ((x : Bytes) → Has fewer x → Has keys x) → Has fewer key → IsPrevious keys key p → IsNext fewer p key
 before-after keys fewer key p part at is = record { has = at; near = λ x h. is.near x (part x h) }
 
--- of two keys that are there, one is the successor of the other where that is its predecessor
+-- of two keys that are there, one is the successor of the other if that is its predecessor
 pub successor-predecessor : (keys : List Bytes) (key s : Bytes) → Has keys key → successor keys key ≡ Some s → predecessor keys s ≡ Some key
 successor-predecessor keys key s at h = is-predecessor keys s key (after-before keys keys key s (λ x h. h) at (successor-is keys key s h))
 
@@ -586,7 +586,7 @@ predecessor-same xs ys key same = cases (predecessor xs key) (predecessor ys key
         let is = predecessor-is xs key s p in
         sym (is-predecessor ys key s (before-fewer xs ys key s (λ x h. same x ∙ h) (sym (same s) ∙ is.has) is)) ∙ q
 
--- where no key that is gone, nor one that is new, has the key as the one before it among those kept, its next key stays
+-- if no key that is gone, nor one that is new, has the key as the one before it among those kept, its next key stays
 pub successor-kept : (all kept : List Bytes) (key : Bytes) → ((x : Bytes) → Has kept x → Has all x) → Has kept key
     → ((x : Bytes) → Has all x → contains_key kept x ≡ false → predecessor kept x ≡ Some key → ⊥) → successor all key ≡ successor kept key
 successor-kept all kept key part at clear = cases (contains_key kept found.0) refl
@@ -608,7 +608,7 @@ successor-only c key = is-successor (c ∷ []) key c (to_next (near-only rises c
 pub predecessor-only : (c key : Bytes) → predecessor (c ∷ []) key ≡ Some c
 predecessor-only c key = is-predecessor (c ∷ []) key c (to_previous (near-only falls c key))
 
--- a new key is the next where it is on the way
+-- a new key is the next if it is on the way
 
 pub successor-new : (keys : List Bytes) (key s c : Bytes) → successor keys key ≡ Some s → successor (c ∷ keys) key ≡ Some (if between key s c then c else s)
 successor-new keys key s c h = is-successor (c ∷ keys) key (if between key s c then c else s) (to_next (near-new rises keys key s c (from_next (successor-is keys key s h))))
@@ -630,7 +630,7 @@ predecessor-append xs ys key p q h k =
     (to_previous (near-append falls xs ys key p q (from_previous (predecessor-is xs key p h)) (from_previous (predecessor-is ys key q k))))
     ∙ ap (λ t. Some (if t then q else p)) (amid-turned key p q)
 
--- without a key that is not the next one that stays, and without the next one that behind it is
+-- if a key goes that is not the next one, that one stays; if the next one goes, the one after it is next
 
 pub successor-other : (keys : List Bytes) (key s d : Bytes) → successor keys key ≡ Some s → bytes_eq s d ≡ false → successor (without (d ∷ []) keys) key ≡ Some s
 successor-other keys key s d h other = is-successor (without (d ∷ []) keys) key s (to_next (near-other rises keys key s d (from_next (successor-is keys key s h)) other))

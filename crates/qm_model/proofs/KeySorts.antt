@@ -169,7 +169,7 @@ rising-by_key xs keys up same =
 middle-has : (front : List Bytes) (k : Bytes) (back : List Bytes) → Has (front ++ k ∷ back) k
 middle-has front k back = contains-append front (k ∷ back) k ∙ or-right (contains_key front k) (contains_key (k ∷ back) k) (Has-first k back)
 
--- those in front of one are below it, and those behind it above
+-- those in front of one are below it, and those after it above
 front-below : (front : List Bytes) (k : Bytes) (back : List Bytes) → IsStrictlySortedBy (slice_cmp nat_cmp) (front ++ k ∷ back) → (x : Bytes) → Has front x → key_lt x k ≡ true
 front-below [] k back up x h = absurd (cc)
 front-below (y ∷ front) k back up x h = elim (Has-either y front x h) [
@@ -196,7 +196,7 @@ successor-cut front key s back up low high = is-successor (front ++ s ∷ back) 
   ];
 })
 
--- the first of all, where none is above
+-- the first of all, if none is above
 pub successor-wraps : (key s : Bytes) (back : List Bytes) → IsStrictlySortedBy (slice_cmp nat_cmp) (s ∷ back) → ((x : Bytes) → Has (s ∷ back) x → key_lt key x ≡ false) → successor (s ∷ back) key ≡ Some s
 successor-wraps key s back up low = is-successor (s ∷ back) key s (record {
   has = Has-first s back;
@@ -218,7 +218,7 @@ predecessor-cut front key p back up low high = is-predecessor (front ++ p ∷ ba
   ];
 })
 
--- the last of all, where none is below
+-- the last of all, if none is below
 pub predecessor-wraps : (front : List Bytes) (key p : Bytes) → IsStrictlySortedBy (slice_cmp nat_cmp) (front ++ p ∷ []) → ((x : Bytes) → Has (front ++ p ∷ []) x → key_lt x key ≡ false) → predecessor (front ++ p ∷ []) key ≡ Some p
 predecessor-wraps front key p up high = is-predecessor (front ++ p ∷ []) key p (record {
   has = middle-has front p [];

@@ -45,7 +45,7 @@ touched_by (x ∷ ops) (suc i) k v n at = ap (λ t. touches k x || t) (touched_b
     last true = refl
     last false = refl
 
--- an update that nothing behind it touches is the live update of its key
+-- an update that nothing after it touches is the live update of its key
 pub live_found : (start : ℕ) (ops : List Operation) (i : ℕ) (k v : Bytes) (n : Option Bytes) → slice_get ops i ≡ Some (update k v n) → touched k (drop (suc i) ops) ≡ false
     → live_of (live_from start ops) k ≡ Some (record { location = start + i; key = k; value = v; next = n })
 live_found start [] i k v n at none = cc
@@ -253,7 +253,7 @@ span_empty keys key next is = at (least (filter (key_lt key) keys)) refl
             flipped true never = absurd (never refl)
             flipped false never = refl
 
--- where each key of the live updates is out of a span, so is a key that has a value
+-- if each key of the live updates is out of a span, so is a key that has a value
 live_out : (P : Bytes → Type 0) (es : List Live) (x : Bytes) → Each P (map (λ e. e.key) es) → (option_map (λ e. e.value) (live_of es x) ≡ None) ⊎ P x
 live_out P [] x all = inl refl
 live_out P (e ∷ es) x all = ⊎_elim
@@ -333,7 +333,7 @@ module _ (hash : Bytes → Bytes) (size : ℕ) (sized : (m : Bytes) → length (
         ⊎_elim (λ (says : KeySays ops proof.location key value (Some next)). inl (spanned_absent ops proof.location key value next x ring says second.0)) (λ clash. inr clash)
         (key_speaks proof key value (Some next) short own second.1)
 
-    -- no key has a value where the commit is active at its own floor
+    -- no key has a value if the commit is active at its own floor
     pub emptied_speaks : (proof : OperationProof) (meta : Option Bytes) (x : Bytes) → IsGood ops → IsOf form (commit meta proof.location) → IsSized size g proof.range (proof.chunk ∷ []) → exclusion_verdict hash shape g form (emptied proof meta) x (canonical hash shape g form ops) ≡ true
         → AbsenceSays ops x ⊎ Collides hash (exclusion_inputs hash shape g form (emptied proof meta)) rooted
     emptied_speaks proof meta x good short own e = ⊎_elim

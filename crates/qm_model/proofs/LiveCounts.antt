@@ -100,7 +100,7 @@ ordered-count ops ws =
     inside false false h = refl
     inside false true h = h refl
 
--- as many are made as there are keys, where each key makes one
+-- as many are made as there are keys, if each key makes one
 length-full : {X Y : Type 0} (f : X → Option Y) (xs : List X) → Each (λ x. is_some (f x) ≡ true) xs → length (filter_map f xs) ≡ length xs
 length-full f [] h = refl
 length-full f (x ∷ xs) h = cases (f x) h.0 (length-full f xs h.1)

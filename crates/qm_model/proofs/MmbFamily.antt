@@ -101,7 +101,7 @@ merges n more =
     absurd (omega (arith, count_one n (power ∙ ap (λ k. 2 ^ k) (sym top)))))
     (cases_lt 0 r.0)
 
--- where n + 2 is so made up, the node of that height and index is born with leaf n
+-- if n + 2 is so made up, the node of that height and index is born with leaf n
 pub merged : (n h i : ℕ) → n + 2 ≡ suc i * (2 ^ h * 2) + 2 ^ h → (v2 (n + 2) ≡ h) × (mmb_births.count n ≡ 2) × (mmb_births.born n 1 ≡ record { height = suc h; index = i })
 merged n h i e =
     let r = odd_of (n + 2) (omega arith) in

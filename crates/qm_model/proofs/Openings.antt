@@ -257,7 +257,7 @@ unfolding size_in
 accepted None k size e = (refl, ap (λ o. unwrap_or (size_in o) 0) e)
 accepted (Some r) k size e = absurd (none-some size (ap size_in e))
 
--- where no commit is selected, the store is empty
+-- if no commit is selected, the store is empty
 found_empty : (b : Bool) → option_map DataCorrupted (commit_refusal b None) ≡ None → b ≡ true
 found_empty true e = refl
 found_empty false e = absurd (none-some _ (sym e))
@@ -328,7 +328,7 @@ module _ {P : Type 0} (e : Engine P) (log : Log) where
     all = λ n less within. omega (arith, less, within, length-take (b - log.start) (drop log.start log.list), length-drop log.start log.list);
   }
 
-  -- a size that is past the start is not above the bound, nor is what stands behind the start
+  -- a size that is past the start is not above the bound, nor is what is kept after the start
   bound_above : (bound : Option ℕ) (n k : ℕ) → n ≤ log.start + k → 0 < k → IfSome bound (λ b. k ≤ b - log.start) → IfSome bound (λ b. n ≤ b)
   bound_above None n k up some h = tt
   bound_above (Some b) n k up some h = omega (arith, up, some, h)
@@ -394,7 +394,7 @@ module _ {P : Type 0} {kind : Kind} {rules : Rules P} (keeps : Keeps kind rules)
   abbrev own : Engine P
   own = record { kind = kind; rules = rules; hash = hash; layout = layout }
 
-  -- where the settled list gets longer, as many chunks may be pruned
+  -- if the settled list gets longer, as many chunks may be pruned
   pub pruned-rises : (chunks : Option Chunks) (log : Log) (list : List Operation) (stable : ℕ) → floor (settled_list log) ≤ floor (ended_part (take stable list)) → length (settled_list log) ≤ length (ended_part (take stable list))
       → ArePruned own chunks log → ArePruned own chunks (record log { list = list; stable = stable })
   pruned-rises None log list stable low few is = tt
@@ -676,7 +676,7 @@ module _ {P : Type 0} {kind : Kind} {rules : Rules P} (keeps : Keeps kind rules)
   whole = record { kind = kind; rules = rules; hash = hash; layout = layout }
 
   module _ (log : Log) (kept : IsKept whole log) where
-    -- where something is settled, its commit stands behind the start
+    -- if something is settled, its commit stands after the start
     settled : IsPart (take log.stable log.list) (settled_size log) → (settled_size log ≡ 0) ⊎ ((log.start < settled_size log) × (settled_size log ≤ log.stable) × IsCommitEnded (take (settled_size log) log.list))
     settled (inl z) = inl z
     settled (inr (some, less, ended)) =
@@ -696,7 +696,7 @@ module _ {P : Type 0} {kind : Kind} {rules : Rules P} (keeps : Keeps kind rules)
         cases (inl z) = omega (arith, z)
         cases (inr (past, less, ended)) = selected-longest whole log None (settled_size log) past (le_trans less kept.stable) tt ended
 
-    -- something, where there is an operation
+    -- something, if there is an operation
     selects_some : log.start ≡ 0 → 0 < length log.list → 0 < size_of (selected (found_in whole log) None)
     selects_some at some =
         let front : take 1 log.list ≡ fresh = ap (take 1) (sym kept.made.begins) ∙ take-least 1 (length log.list) kept.made.whole some ∙ made-begins kept.made.whole kept.made.made in

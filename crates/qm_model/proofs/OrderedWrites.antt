@@ -50,7 +50,7 @@ alive_at None (Some e) = refl
 alive_at (Some v) None = refl
 alive_at (Some v) (Some e) = refl
 
--- a key is live after the writes where it was and is not deleted, or is created
+-- a key is live after the writes if it was and is not deleted, or is created
 alive : (o : Option Write) (l : Option Live) → is_some (overwritten o (option_map (λ e. e.value) l)) ≡ ((is_some l && not (picked is_none is_some o l)) || picked is_some is_none o l)
 alive None None = refl
 alive None (Some e) = refl

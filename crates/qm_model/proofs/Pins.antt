@@ -1,4 +1,4 @@
--- What the pins of pruned chunks are, and the chunks before them, whatever comes behind a list.
+-- What the pins of pruned chunks are, and the chunks before them, whatever comes after a list.
 use Rattle.std.proofs.Common.{◌≡◌, ℕ, zero, suc, ◌+◌, ◌*◌, ◌^◌, ◌<◌, ◌≤◌, Bool, true, false, List, [], ◌∷◌, ◌++◌, length, drop, map, get_or, None, Some, arith, ap, ap₂, sym, ◌∙◌, subst, refl, le_refl}
 use Rattle.std.specs.Prelude.{◌||◌, if◌then◌else◌, is_some, All}
 use Rattle.std.proofs.Math.Nat.{le_trans, pow-suc}
@@ -127,7 +127,7 @@ module _ {P : Type 0} (e : Engine P) (births : Births) (family : IsFamily e.layo
         (counted.pins ∙ ap (map (λ pin. Some pin)) (same-pins settled log.list log.chunks good low few old ∙ sym (same-pins settled other.list log.chunks good low few new)));
   }
 
-  -- and where no chunk is pruned, of each list
+  -- and if no chunk is pruned, of each list
   pub counted-none : peaks e.layout.shape 0 ≡ [] → (log other : Log) (entries : List Entry) → log.chunks ≡ 0 → other.chunks ≡ log.chunks → IsCounted e c log entries → IsCounted e c other entries
   counted-none bare log other entries none same counted = record {
     readable = counted.readable;

@@ -131,7 +131,7 @@ plain_end (update k v n) p h = h
 plain_end (delete k) p h = h
 plain_end (commit m f) p h = p
 
--- a commit-ended beginning of one commit behind others is all of it
+-- a commit-ended beginning of one commit after others is all of it
 to_commit : (e rest plain : List Operation) (c : Operation) → Each IsPlain plain → IsCommitEnded e → e ++ rest ≡ plain ++ c ∷ [] → e ≡ plain ++ c ∷ []
 to_commit [] rest plain c each ended h = absurd ended
 to_commit (x ∷ []) rest [] c each ended h = let same : x ≡ c = cc in ap (λ z. z ∷ []) same

@@ -18,7 +18,7 @@ use Rattle.qm_model.proofs.MmrPeaks.{test_true}
 use Rattle.qm_model.proofs.Speaking.{both_true, at_most}
 use Rattle.qm_model.proofs.Proving.{true_or_false, less_true, less_tells, operations_leaves, length-item_leaves, rebuilt_listed, items_stand, items_end}
 
--- chunks one behind the other
+-- chunks one after the other
 pub length-chunks_from : (chunks : ℕ → Bytes) (c k : ℕ) → length (chunks_from chunks c k) ≡ k
 length-chunks_from chunks c zero = refl
 length-chunks_from chunks c (suc k) = let rest = length-chunks_from chunks (suc c) k in omega arith
@@ -51,7 +51,7 @@ module _ (hash : Bytes → Bytes) (shape : Shape) (g : ℕ) (list items : List B
   plain : (h i : ℕ) (ds : List Bytes) → rebuilt hash shape items a h i (listed hash shape leaves a b h i ++ ds) ≡ Some (digest hash shape leaves h i, ds)
   plain h i ds = rebuilt_listed hash shape list items a b stand end within h i ds
 
-  -- what a proof lists of a node over a chunk's is rebuilt to its value, and what is behind it is left
+  -- what a proof lists of a node over a chunk's is rebuilt to its value, and what follows it is left
   over_listed : (k i : ℕ) (ds : List Bytes) → rebuilt_over hash shape g items a given k i (listed_over hash shape g leaves chunks a b k i ++ ds) ≡ Some (value_over hash shape g leaves chunks k i, ds)
   over_listed zero i ds =
       let l = listed hash shape leaves a b g i in
@@ -100,7 +100,7 @@ module _ (hash : Bytes → Bytes) (shape : Shape) (g : ℕ) (list items : List B
       ap (option_and_then (λ t. option_map (λ rest. t.0 ∷ rest) (rebuilt_values hash shape g items a given ps t.1))) (value_listed p rest)
       ∙ ap (option_map (λ rest. grafted_value hash shape g leaves chunks p ∷ rest)) (values_listed ps)
 
--- a chunk's digest agrees with the chunk, where it is given
+-- a chunk's digest agrees with the chunk, if it is given
 agreed : (hash : Bytes → Bytes) (shape : Shape) (g : ℕ) (items : List Bytes) (a : ℕ) (given : List Bytes) (chunks : ℕ → Bytes)
     → ((c : ℕ) → a / 2 ^ g ≤ c → c < a / 2 ^ g + length given → get_or given (c - a / 2 ^ g) [] ≡ chunks c)
     → (at : Option ℕ) → agrees hash shape g items a given at (option_map (λ c. hash (chunks c)) at) ≡ true

@@ -203,7 +203,7 @@ module _ (hash : Bytes → Bytes) (size : ℕ) (sized : (m : Bytes) → length (
       (λ (none : meets a (a + length items) x ≡ false). inl (over_apart (suc k) i none))
       (true_or_false (meets a (a + length items) x))
 
-  -- what a peak says: its claimed items are the list's, and so are its chunks, where it is as high as a chunk's node
+  -- what a peak says: its claimed items are the list's, and so are its chunks, if it is as high as a chunk's node
   abbrev Says : Node → Type 0
   Says p = Stand hash size sized P Q shape list items a p.height p.index × (g ≤ p.height → Chunks (p.height - g) p.index)
 
@@ -290,7 +290,7 @@ module _ (hash : Bytes → Bytes) (size : ℕ) (sized : (m : Bytes) → length (
 
   -- Digests of the pending and of the partial chunk.
 
-  -- the claimed chunk is the list's, where it is claimed
+  -- the claimed chunk is the list's, if it is claimed
   abbrev Claim : Option ℕ → Type 0
   Claim at = (c : ℕ) → at ≡ Some c → a / 2 ^ g ≤ c → c < a / 2 ^ g + length given → get_or given (c - a / 2 ^ g) [] ≡ chunks c
 
@@ -460,7 +460,7 @@ module _ (hash : Bytes → Bytes) (size : ℕ) (sized : (m : Bytes) → length (
     abbrev Chunk : Option ℕ → Type 0
     Chunk = Claim hash size sized checked rooted shape g list items a given chunks whole meeting back
 
-    -- where each peak's claimed items and chunks are the list's, and so are the pending and the partial chunk, all are
+    -- if each peak's claimed items and chunks are the list's, and so are the pending and the partial chunk, all are
     all_said : a + length items ≤ length ops → Each Peak (peaks shape (length ops)) → Chunk (pending_chunk shape g (length ops)) → Chunk (partial_chunk (2 ^ g) (length ops)) → RangeSays g form ops items a given
     all_said within peak pending partial = (stand, same)
       where
@@ -510,7 +510,7 @@ module _ (hash : Bytes → Bytes) (size : ℕ) (sized : (m : Bytes) → length (
       abbrev their_inactive : ℕ
       their_inactive = grafted_inactive shape g ops
 
-      -- where the numbers and the folds are the list's, too
+      -- if the numbers and the folds are the list's, too
       bagged : range.proof.leaves ≡ length ops → range.proof.inactive ≡ their_inactive →
           fold_right hash (fold_inactive hash (take range.proof.inactive out) ++ drop range.proof.inactive out) ≡ fold_right hash (fold_inactive hash (take their_inactive theirs) ++ drop their_inactive theirs) →
           Each checked (values_inputs hash shape g items a given (peaks shape range.proof.leaves) range.proof.digests) → Each checked (inactive_inputs hash (take range.proof.inactive out) ++ right_inputs hash (fold_inactive hash (take range.proof.inactive out) ++ drop range.proof.inactive out)) →
@@ -543,7 +543,7 @@ module _ (hash : Bytes → Bytes) (size : ℕ) (sized : (m : Bytes) → length (
       abbrev their_rest : Bytes
       their_rest = pending_part (pending_digest hash shape g ops) ++ partial_part (partial_of hash shape g (length ops) (partial_digest hash shape g ops))
 
-      -- the pending and the partial chunk, where the rest of the canonical root's input is the list's
+      -- the pending and the partial chunk, if the rest of the canonical root's input is the list's
       parts_said : n ≡ length ops → my_rest ≡ their_rest → agrees hash shape g items a given (pending_chunk shape g n) range.pending ≡ true → agrees hash shape g items a given (partial_chunk (2 ^ g) n) range.partial ≡ true →
           Each checked (claimed_input hash shape g items a given (pending_chunk shape g n)) → Each checked (claimed_input hash shape g items a given (partial_chunk (2 ^ g) n)) →
           Each rooted (chunk_input hash shape g chunks (pending_chunk shape g (length ops))) → Each rooted (chunk_input hash shape g chunks (partial_chunk (2 ^ g) (length ops))) →

@@ -134,7 +134,7 @@ found-image s image may = by may.found is may.left
         let j : IsImage (at_rest (rest_of s)) image = subst (λ r. IsImage (at_rest r) image) same i in
         record { to = j.to; may = record { stable = j.may.stable; within = j.may.within }; same = ap (λ (x : Stored). record x { ends = s.ends }) j.same }
 
--- an image of a store is one of it with items behind
+-- an image of a store is one of it with items appended
 pub image-grown : (more : List Bytes) (s image : Stored) → IsImage s image → IsImage (appended more s) image
 image-grown more s image i =
     let within = i.may.within in

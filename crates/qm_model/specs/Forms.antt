@@ -3,7 +3,7 @@ use Rattle.std.specs.Prelude.{◌≡◌, ℕ, ◌+◌, ◌-◌, ◌<◌, ◌≤�
 use Rattle.std.specs.Int.{w32, w64, from_be_bytes}
 use Rattle.qm_model.specs.Operations.{Bytes, Operation, update, delete, commit, four_bytes, eight_bytes}
 
--- whether updates name a next key, the sizes of keys and of values where these are fixed, and which bytes are keys and values
+-- whether updates name a next key, the sizes of keys and of values if these are fixed, and which bytes are keys and values
 pub record Form : Type 0 where
   pub ordered : Bool
   pub sizes : Option (ℕ × ℕ)
@@ -20,7 +20,7 @@ key_size sizes = option_map (λ p. p.0) sizes
 abbrev pub value_size : Option (ℕ × ℕ) → Option ℕ
 value_size sizes = option_map (λ p. p.1) sizes
 
--- a key or a value: the bytes alone where they have a fixed size, else their length before them
+-- a key or a value: the bytes alone if they have a fixed size, else their length before them
 abbrev pub field : Option ℕ → Bytes → Bytes
 field None bs = four_bytes (length bs) ++ bs
 field (Some n) bs = bs
@@ -52,7 +52,7 @@ padded ordered (Some p) bs = bs ++ replicate (longest ordered p - length bs) 0
 abbrev pub spelling : Form → Operation → Bytes
 spelling form op = padded form.ordered form.sizes (plain form.sizes op)
 
--- of this size, or short where there is none
+-- of this size, or short if there is none
 abbrev pub IsSized : Option ℕ → Bytes → Type 0
 IsSized None bs = length bs < 2 ^ 32
 IsSized (Some n) bs = length bs ≡ n
@@ -84,16 +84,16 @@ number_of_four bs = from_be_bytes w32 bs
 unfoldable pub number_of_eight : Bytes → ℕ
 number_of_eight bs = from_be_bytes w64 bs
 
--- the first n bytes, and what is behind them
+-- the first n bytes, and what follows them
 abbrev pub first_bytes : ℕ → Bytes → Option (Bytes × Bytes)
 first_bytes n bs = if nat_le n (length bs) then Some (take n bs, drop n bs) else None
 
--- a key or a value, and what is behind it
+-- a key or a value, and what follows it
 abbrev pub read_field : Option ℕ → Bytes → Option (Bytes × Bytes)
 read_field None bs = option_and_then (λ p. first_bytes (number_of_four p.0) p.1) (first_bytes 4 bs)
 read_field (Some n) bs = first_bytes n bs
 
--- the same, where the bytes are those of a key or a value
+-- the same, if the bytes are those of a key or a value
 abbrev pub tested : (Bytes → Bool) → Bytes × Bytes → Option (Bytes × Bytes)
 tested test p = if test p.0 then Some p else None
 
@@ -107,13 +107,13 @@ read_value form bs = option_and_then (tested form.is_value) (read_field (value_s
 abbrev pub read_next : Form → Bytes → Option (Option Bytes × Bytes)
 read_next form bs = if form.ordered then option_map (λ p. (Some p.0, p.1)) (read_key form bs) else Some (None, bs)
 
--- a mark of 0 for no metadata, or a mark of 1 before it, and what is behind it
+-- a mark of 0 for no metadata, or a mark of 1 before it, and what follows it
 abbrev pub read_metadata : Form → Bytes → Option (Option Bytes × Bytes)
 read_metadata form [] = None
 read_metadata form (mark ∷ bs) =
     if mark == 0 then Some (None, bs) else if mark == 1 then option_map (λ p. (Some p.0, p.1)) (read_value form bs) else None
 
--- 8 bytes of a number of at most 2 ^ 62, and what is behind it
+-- 8 bytes of a number of at most 2 ^ 62, and what follows it
 abbrev pub read_floor : Bytes → Option (ℕ × Bytes)
 read_floor bs = option_and_then (λ p. if nat_le (number_of_eight p.0) (2 ^ 62) then Some (number_of_eight p.0, p.1) else None) (first_bytes 8 bs)
 
@@ -127,7 +127,7 @@ abbrev pub is_end : Option (ℕ × ℕ) → Bytes → Bool
 is_end None bs = length bs == 0
 is_end (Some p) bs = are_zeros bs
 
--- the thing, where nothing but padding is left over
+-- the thing, if nothing but padding is left over
 abbrev pub at_end : {A : Type 0} → Option (ℕ × ℕ) → A × Bytes → Option A
 at_end sizes p = if is_end sizes p.1 then Some p.0 else None
 

@@ -1,4 +1,4 @@
--- Which nodes of its tree a database holds, and what is refused where one is not held.
+-- Which nodes of its tree a database holds, and what is refused if one is not held.
 use Rattle.std.specs.Prelude.{ℕ, ◌==◌, ◌&&◌, ◌||◌, nat_le, nat_lt, Bool, not, List, ◌++◌, length, map, find, Option, option_map}
 use Rattle.std.specs.List.{list_any}
 use Rattle.std.specs.Option.{option_or}
@@ -25,7 +25,7 @@ first_pruned is_held positions = option_map (λ p. Merkle (ElementPruned p)) (fi
 abbrev pub pins_lacked : Shape → ℕ → List Operation → ℕ → Option Refused
 pins_lacked shape start list n = option_or (pins_refusal list n) (first_pruned (is_held shape start (length list)) (peak_positions shape n))
 
--- where the nodes stand that the proof of a batch's own operations lists, and behind these the pins at its base
+-- where the nodes stand that the proof of a batch's own operations lists, and after these the pins at its base
 abbrev pub proof_positions : Shape → Chain → List Operation → List ℕ
 proof_positions shape chain tip = map shape.position (needed_of shape (length tip) (length chain.base) (length tip)) ++ peak_positions shape (length chain.base)
 

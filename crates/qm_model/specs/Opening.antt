@@ -26,7 +26,7 @@ pub record Layout : Type 0 where
   pub digest_size : ℕ
   pub chunks : Option Chunks
 
--- what an opening finds: where the items start, each as an operation, none where it spells none; the head; why the
+-- what an opening finds: where the items start, each as an operation, none if it spells none; the head; why the
 -- metadata cannot be read, if it cannot, and how many chunks are pruned by it
 pub record Found : Type 0 where
   pub start : ℕ
@@ -60,7 +60,7 @@ below_bound (Some bound) f = take (bound - f.start) f.items
 abbrev pub selected : Found → Option ℕ → Option Selected
 selected f bound = last_commit f.start None (below_bound bound f)
 
--- its size and its floor, and 0 where there is none
+-- its size and its floor, and 0 if there is none
 abbrev pub size_of : Option Selected → ℕ
 size_of at = option_map_or (λ c. c.size) at 0
 
@@ -81,7 +81,7 @@ metadata_key prefix n = prefix ∷ eight_bytes n
 abbrev pub entry_of : List Entry → Bytes → Option Bytes
 entry_of entries key = option_map (λ e. e.value) (find (λ e. bytes_eq e.key key) entries)
 
--- the bytes of the count, those of 0 where there is none
+-- the bytes of the count, those of 0 if there is none
 abbrev pub count_bytes : List Entry → Bytes
 count_bytes entries = unwrap_or (entry_of entries (metadata_key 1 0)) (eight_bytes 0)
 
@@ -93,7 +93,7 @@ entries_of pairs = map (λ p. record { key = p.0; value = p.1 }) pairs
 abbrev pub count_in : List Entry → ℕ
 count_in entries = number_of_eight (count_bytes entries)
 
--- the pins of these peaks, numbered from i on, each where it is there
+-- the pins of these peaks, numbered from i on, each if it is there
 abbrev pub numbered_pins : {A : Type 0} → List Entry → ℕ → List A → List (Option Bytes)
 numbered_pins entries i [] = []
 numbered_pins entries i (peak ∷ peaks) = entry_of entries (metadata_key 0 i) ∷ numbered_pins entries (suc i) peaks
@@ -113,7 +113,7 @@ is_wrong_size size (Some pin) = not (length pin == size)
 
 -- The checks.
 
--- a refusal, where something holds
+-- a refusal, if something holds
 abbrev pub when : {A : Type 0} → Bool → A → Option A
 when false r = None
 when true r = Some r
@@ -144,7 +144,7 @@ found_with layout s (Some c) =
 abbrev pub found : Layout → Stored → Found
 found layout s = found_with layout s layout.chunks
 
--- no commit is kept, or the selected one's floor is behind it
+-- no commit is kept, or the selected one's floor is above it
 abbrev pub commit_refusal : Bool → Option Selected → Option Corrupt
 commit_refusal is_empty None = when (not is_empty) NoRetainedCommit
 commit_refusal is_empty (Some c) = when (nat_lt (c.size - 1) c.floor) FloorExceedsCommit
@@ -154,7 +154,7 @@ abbrev pub is_unabsorbed : Shape → Option Chunks → ℕ → ℕ → Bool
 is_unabsorbed shape None size count = false
 is_unabsorbed shape (Some c) size count = option_map_or (λ least. nat_lt size least) (pair_absorption_threshold shape c.height count) false
 
--- the start's chunk is behind the pruned ones
+-- the start's chunk is past the one after the pruned ones
 abbrev pub is_past_bits : Option Chunks → ℕ → ℕ → Bool
 is_past_bits None start count = false
 is_past_bits (Some c) start count = nat_lt count (start / 2 ^ c.height)
@@ -174,7 +174,7 @@ is_link keys e = option_map_or (same_key e.next) (successor keys e.key) false
 abbrev pub is_ring : List Operation → Bool
 is_ring ops = list_all (is_link (live_keys ops)) (live ops)
 
--- the checks of an opening up to a bound, in their order; where a floor is pruned, the selected size is told
+-- the checks of an opening up to a bound, in their order; if a floor is pruned, the selected size is told
 abbrev pub checks : Layout → Found → Option ℕ → List (Option Refused)
 checks layout f bound =
     let at = selected f bound in
@@ -201,7 +201,7 @@ opening_refusal layout f bound = first_refusal (checks layout f bound)
 
 -- What an opening comes to.
 
--- a refusal, or the size of the list that is opened, 0 where that is the fresh one
+-- a refusal, or the size of the list that is opened, 0 if that is the fresh one
 pub data Opening : Type 0 where
   refuses : Refused → Opening
   opens : ℕ → Opening

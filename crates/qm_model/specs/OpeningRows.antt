@@ -15,7 +15,7 @@ use Rattle.qm_model.specs.Refused.{InvalidInitializationBound, HistoricalFloorPr
 use Rattle.qm_model.specs.Opening.{Layout, Opening, refuses, opens, opening, found, metadata_key}
 use lib.Count.{ones, ones_in}
 
--- unordered, ordered and current databases with digests of 32 bytes and, where they have some, chunks of 32 bytes
+-- unordered, ordered and current databases with digests of 32 bytes and, if they have some, chunks of 32 bytes
 abbrev any : Layout
 any = record { form = variable; shape = mmr; digest_size = 32; chunks = None }
 
@@ -76,7 +76,7 @@ empty_store_bounded : opened any (store 0 []) (Some 7) ≡ opens 0
 unfolding digits_below four_bytes eight_bytes number_of_four number_of_eight ones ones_in
 empty_store_bounded = refl
 
--- an item that spells nothing behind a commit is cut
+-- an item that spells nothing after a commit is cut
 foreign_item_last : opened any (store 0 (ends 0 ∷ puts ∷ puts ∷ foreign ∷ [])) None ≡ opens 1
 unfolding digits_below four_bytes eight_bytes number_of_four number_of_eight ones ones_in
 foreign_item_last = refl
@@ -86,7 +86,7 @@ no_commit : opened any (store 0 (puts ∷ [])) None ≡ refuses (DataCorrupted N
 unfolding digits_below four_bytes eight_bytes number_of_four number_of_eight ones ones_in
 no_commit = refl
 
--- a floor behind its commit
+-- a floor above its commit
 floor_past_commit : opened any (store 0 (ends 0 ∷ ends 5 ∷ [])) None ≡ refuses (DataCorrupted FloorExceedsCommit)
 unfolding digits_below four_bytes eight_bytes number_of_four number_of_eight ones ones_in
 floor_past_commit = refl
@@ -201,7 +201,7 @@ empty_with_bits : opened current (with_entries (counts (eight_bytes 1) ∷ pin 0
 unfolding digits_below four_bytes eight_bytes number_of_four number_of_eight ones ones_in
 empty_with_bits = refl
 
--- a start behind the pruned chunks
+-- a start past the chunk after the pruned ones
 start_past_bits : opened current (with_pins 1 (store 256 (ends 256 ∷ []))) None ≡ refuses (DataCorrupted PrunedPastBits)
 unfolding digits_below four_bytes eight_bytes number_of_four number_of_eight ones ones_in
 start_past_bits = refl
@@ -221,7 +221,7 @@ floor_below_bits : opened current (with_entries (counts (eight_bytes 1) ∷ pin 
 unfolding digits_below four_bytes eight_bytes number_of_four number_of_eight ones ones_in
 floor_below_bits = refl
 
--- where merges are delayed, a size below what the pruned chunk asks for
+-- if merges are delayed, a size below what the pruned chunk asks for
 unabsorbed : opened delayed (with_entries (counts (eight_bytes 1) ∷ pin 0 32 ∷ []) (store 256 (ends 256 ∷ []))) None ≡ refuses (HistoricalFloorPruned 257)
 unfolding digits_below four_bytes eight_bytes number_of_four number_of_eight ones ones_in count_leading_zeros
 unabsorbed = refl

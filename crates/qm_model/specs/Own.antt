@@ -60,7 +60,7 @@ taken_up list log = record log { list = list; stable = length list }
 abbrev pub left_at : ℕ → Log → Log
 left_at to log = record log { list = take to log.list; stable = to }
 
--- the size of the longest beginning of a list that ends with a commit, 0 where none does
+-- the size of the longest beginning of a list that ends with a commit, 0 if none does
 abbrev pub ended_size : List Operation → ℕ
 ended_size list = size_of (last_commit 0 None (map (λ op. Some op) list))
 
@@ -86,7 +86,7 @@ module _ {P : Type 0} (e : Engine P) where
   MetadataIs None log s = log.chunks ≡ 0
   MetadataIs (Some c) log s = IsCounted c log (metadata_in s.metadata c.name)
 
-  -- the pins of what stands before the start, one behind another
+  -- the pins of what stands before the start, one after another
   abbrev pub head_of : Log → Bytes
   head_of log = concat (pins_at e.hash e.layout.shape e.layout.form (take log.start log.list) log.start)
 
@@ -98,7 +98,7 @@ module _ {P : Type 0} (e : Engine P) where
     pub metadata : MetadataIs e.layout.chunks log s
     pub stable : s.stable ≡ log.stable
 
-  -- What metadata counts of a list, it counts of each list with as many pruned chunks, where both go on from what is settled of this log.
+  -- What metadata counts of a list, it counts of each list with as many pruned chunks, if both go on from what is settled of this log.
   abbrev pub KeepsCount : Log → Type 0
   KeepsCount low = (log other : Log) (s t : Stored) → low.chunks ≡ log.chunks → other.chunks ≡ log.chunks → Begins (settled_list low) log.list → Begins (settled_list low) other.list
       → t.metadata ≡ s.metadata → MetadataIs e.layout.chunks log s → MetadataIs e.layout.chunks other t
@@ -156,7 +156,7 @@ module _ {P : Type 0} (e : Engine P) where
 
   -- What a crash leaves of an own store, while a call makes one log of the other.
 
-  -- as much as is settled before stays, as far as the call keeps the list; or nothing does, where the call leaves nothing
+  -- as much as is settled before stays, as far as the call keeps the list; or nothing does, if the call leaves nothing
   abbrev pub Stays : Log → Log → Log → Type 0
   Stays before after log =
       (min (length (settled_list before)) (length after.list) ≤ length (settled_list log)) × ((after ≡ no_log) → (length (settled_list before) ≤ length (settled_list log)) ⊎ (log ≡ no_log))
@@ -190,7 +190,7 @@ CrashesBetween e before after old new = (image : Stored) → IsCrash old new ima
 abbrev pub counted : ℕ → Log → Log
 counted count log = record log { chunks = count }
 
--- What crashes leave of own stores inside each call, and inside one call behind another.
+-- What crashes leave of own stores inside each call, and inside one call after another.
 pub record CrashLaws {P : Type 0} (e : Engine P) : Type 0 where
   pub commit : (log : Log) (s : Stored) → IsOwn e log s → CrashesBetween e log (record log { stable = length log.list }) s (settled s)
   pub failed_commit : (log : Log) (s new : Stored) → IsOwn e log s → Fails (λ s. ReadsAs s.stable (IsImage s)) (λ s. ReadsAs s.stable (IsImage s)) s new → CrashesBetween e log (record log { stable = length log.list }) s new
@@ -207,7 +207,7 @@ pub record CrashLaws {P : Type 0} (e : Engine P) : Type 0 where
   -- a prune, which commits first
   pub prune : (log : Log) (s : Stored) (to : ℕ) (head : Bytes) → IsOwn e log s → log.start ≤ to → IsKept e (record log { start = to; stable = length log.list }) → head ≡ head_of e (record log { start = to })
       → CrashesBetween e log (record log { start = to; stable = length log.list }) s (pruned to head (settled s))
-  -- one that fails, behind its commit
+  -- one that fails after its commit
   pub failed_prune : (log : Log) (s new : Stored) (to : ℕ) (head : Bytes) → IsOwn e log s → log.start ≤ to → IsKept e (record log { start = to; stable = length log.list }) → head ≡ head_of e (record log { start = to })
       → Fails (λ u. ReadsAs u.stable (IsOldOrNew (pruned to head) u)) (λ u. ReadsAs u.stable (IsOldOrNew (pruned to head) u)) (settled s) new → CrashesBetween e log (record log { start = to; stable = length log.list }) s new
   -- of a database with chunks: a prune that commits first, and then counts the chunks that it prunes

@@ -29,7 +29,7 @@ is_after (included k) key = not (key_lt key k)
 is_after (excluded k) key = key_lt k key
 is_after unlimited key = true
 
--- the key does not come behind this end
+-- the key does not come after this end
 abbrev pub is_before : Limit → Bytes → Bool
 is_before (included k) key = not (key_lt k key)
 is_before (excluded k) key = key_lt key k
@@ -66,7 +66,7 @@ span_of_b = refl
 span_of_none : option_map (λ e. e.key) (span_of two_keys []) ≡ Some (99 ∷ [])
 span_of_none = refl
 
--- from a, without c; behind a; from c to a, and from a to before it, nothing
+-- from a, without c; after a; from c to a, and from a to before it, nothing
 from_a : pairs_in (included (97 ∷ [])) (excluded (99 ∷ [])) two_keys ≡ (97 ∷ [], 1 ∷ []) ∷ []
 from_a = refl
 

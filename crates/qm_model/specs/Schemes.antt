@@ -14,7 +14,7 @@ use Rattle.qm_model.specs.Own.{Engine, ArePrompt}
 use Rattle.qm_model.specs.Families.{Births, HasPlaces}
 
 -- what a current database has over an any one: chunks of activity bits, grafted onto its trees, and the checks of its proofs of keys and
--- ranges, where it offers these
+-- ranges, if it offers these
 pub record Grafts : Type 0 where
   pub chunks : Chunks
   pub checks : Option Checks

@@ -19,7 +19,7 @@ write_in (key, away) = Some (record { key = key; value = None })
 abbrev pub slotted : List Write → List Bytes → List Slot → List Write → List Write
 slotted recorded keys slots others = recorded ++ filter_map write_in (zip keys slots) ++ others
 
--- of a key that stands thrice the last slot counts that is none to keep, and a write behind the slots before it
+-- of a key that stands three times the last slot counts that does not keep it; a write after the slots counts before that
 last_slot_counts : last_writes (slotted [] ((97 ∷ []) ∷ (97 ∷ []) ∷ (97 ∷ []) ∷ []) (put (5 ∷ []) ∷ away ∷ keep ∷ []) []) ≡ record { key = 97 ∷ []; value = None } ∷ []
 last_slot_counts = refl
 

@@ -48,11 +48,11 @@ rest_of s = record { start = s.start; items = s.items; head = s.head; metadata =
 abbrev pub at_rest : Rest → Stored
 at_rest r = record { start = r.start; items = r.items; head = r.head; metadata = r.metadata; stable = r.stable; ends = []; past = [] }
 
--- its past, where a call finds it so
+-- its past, if a call finds it so
 abbrev pub found_by : Stored → List Rest
 found_by s = rest_of s ∷ s.past
 
--- the metadata of a name, none where none was put
+-- the metadata of a name, none if none was put
 abbrev pub metadata_in : List Named → Bytes → List Entry
 metadata_in [] name = []
 metadata_in (m ∷ ms) name = if bytes_eq name m.name then m.entries else metadata_in ms name
@@ -74,7 +74,7 @@ cut to s = take (to - s.start) s.items
 abbrev pub lowered : ℕ → Stored → Stored
 lowered to s = record s { stable = min s.stable to }
 
--- its past, where a rewind to a location takes these items away; one that takes none away takes no time
+-- its past, if a rewind to a location takes these items away; one that takes none away takes no time
 abbrev pub cut_by : ℕ → Stored → List Bytes → List Rest
 cut_by to s [] = s.past
 cut_by to s (item ∷ items) = found_by (lowered to s)
@@ -152,7 +152,7 @@ DestroyLeaves s new = ReadsAs s.stable (IsImage s) new ⊎ ReadsAs 0 (IsImage (d
 
 -- Of a store that may not tell what it holds.
 
--- what is told after a call, where it was told before
+-- what is told after a call, if it was told before
 abbrev pub Turns : Option Stored → Option Stored → (Stored → Stored → Type 0) → Type 0
 Turns None new R = new ≡ None
 Turns (Some s) None R = ⊥
@@ -185,7 +185,7 @@ pub record Fails (R Q : Stored → Stored → Type 0) (s new : Stored) : Type 0 
   pub past : new.past ≡ notes ++ s.past
   pub each : (image : Stored) → MayBeLeft notes image → Q s (record image { ends = s.ends })
 
--- where it is told, and both leave the same
+-- if it is told, and both leave the same
 abbrev pub Leaves : Option Stored → Option Stored → (Stored → Stored → Type 0) → Type 0
 Leaves old new R = Turns old new (Fails R R)
 

@@ -9,7 +9,7 @@ held = record { start = 10; items = (1 ∷ []) ∷ [] ∷ (3 ∷ 3 ∷ []) ∷ (
 held-end : end_of held ≡ 15
 held-end = refl
 
--- an append puts items behind, and makes none stable
+-- an append adds items at the end, and makes none stable
 appended-is : appended ((6 ∷ []) ∷ []) held ≡ record held { items = (1 ∷ []) ∷ [] ∷ (3 ∷ 3 ∷ []) ∷ (4 ∷ []) ∷ (5 ∷ []) ∷ (6 ∷ []) ∷ []; past = (appended ((6 ∷ []) ∷ []) held).past }
 appended-is = refl
 
@@ -47,7 +47,7 @@ named-is = refl
 named-found : metadata_in named.metadata (0x61 ∷ []) ≡ entry 1 ∷ []
 named-found = refl
 
--- none where none was put, also under a name that begins alike
+-- none if none was put, also under a name that begins alike
 named-none : metadata_in named.metadata (0x61 ∷ 0x62 ∷ []) ≡ []
 named-none = refl
 

@@ -12,7 +12,7 @@ use Rattle.qm_model.specs.Grafted.{metadata, grafted_pins}
 use Rattle.qm_model.specs.StoreModel.{Named, Stored, metadata_in, with_metadata, end_of, appended, settled, rewound, pruned, HasAppended, RewindLeaves, IsImage, IsOldOrNew, ReadsAs}
 use Rattle.qm_model.specs.Schemes.{Scheme, layout_of, chunks_of, chunks_after}
 
--- the pins of what a list has before a location, one behind another
+-- the pins of what a list has before a location, one after another
 abbrev pub head_at : Scheme → List Operation → ℕ → Bytes
 head_at m list to = concat (pins_at m.hash m.shape m.form (take to list) to)
 
@@ -32,7 +32,7 @@ pub record HasList (m : Scheme) (s : Stored) (size : ℕ) (list : List Operation
   pub head : s.head ≡ head_at m list s.start
   pub grafted : HasPins (chunks_of m) m s list
 
--- the list that is taken up where this number of items is selected, the fresh one where none are; the links of an ordered one form a ring
+-- the list that is taken up if this number of items is selected, the fresh one if none are; the links of an ordered one form a ring
 abbrev pub IsTaken : Scheme → Stored → ℕ → List Operation → Type 0
 IsTaken m s zero list = list ≡ fresh
 IsTaken m s (suc n) list = HasList m s (suc n) list × (m.form.ordered ≡ true → IsRing list)
@@ -41,7 +41,7 @@ IsTaken m s (suc n) list = HasList m s (suc n) list × (m.form.ordered ≡ true 
 abbrev pub selected_size : Scheme → Option ℕ → Stored → ℕ
 selected_size m bound s = size_of (selected (found (layout_of m) s) bound)
 
--- a store after it: what is behind the list is gone, and all is stable
+-- a store after it: what follows the list is gone, and all is stable
 abbrev pub taken : Scheme → ℕ → Stored → Stored
 taken m zero s = settled (appended (map (spelling m.form) fresh) s)
 taken m (suc n) s = settled (rewound (suc n) s)
@@ -83,11 +83,11 @@ LeavesSync m list s new = ReadsAs s.stable (IsImage s) new ⊎ ReadsAs (end_of s
 abbrev pub before_prune : Scheme → List Operation → ℕ → Stored → Stored
 before_prune m list to s = with_count m list (chunks_after m.grafts (counted_in m s) to) (settled s)
 
--- and after it, with this head; it starts where it did where that is there or after it
+-- and after it, with this head; it starts where it did if that is there or after it
 abbrev pub after_prune : Scheme → List Operation → ℕ → ℕ → Bytes → Stored → Stored
 after_prune m list start to head s = if nat_lt start to then pruned to head (before_prune m list to s) else before_prune m list to s
 
--- and after one that failed: what was stable stays; or all, with the metadata before or after; or, where the location is after the start,
+-- and after one that failed: what was stable stays; or all, with the metadata before or after; or, if the location is after the start,
 -- all of it with that metadata, pruned or not
 abbrev pub LeavesPrune : Scheme → List Operation → ℕ → (Bytes → Type 0) → ℕ → Stored → Stored → Type 0
 LeavesPrune m list start IsHead to s new =

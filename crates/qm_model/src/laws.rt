@@ -45,7 +45,7 @@ pub fn floor_is_inside<P: Ruled>()
         → let after = step unordered P.rules ops ws policy meta in floor after < length after }
 {}
 
-/// Where nothing is live after a step, and nowhere else, its floor is its commit.
+/// If nothing is live after a step, and only then, its floor is its commit.
 pub fn an_empty_list_has_its_floor_at_the_commit<P: Ruled>()
     ensures { (ops : List Operation) (ws : List Write) (policy : P) (meta : Option Bytes)
         → IsGood ops
@@ -132,7 +132,7 @@ pub fn steps_change_the_map<P: Ruled>()
         (overwritten (write_of (last_writes ws) key) (value_of ops key)) }
 {}
 
-/// A step of an ordered database does not lower the floor, which is a location of its list, below each live update, and its commit exactly where nothing is live.
+/// A step of an ordered database does not lower the floor, which is a location of its list, below each live update, and its commit exactly if nothing is live.
 pub fn ordered_floors_are_kept<P: Ruled>()
     ensures inside { (ops : List Operation) (ws : List Write) (policy : P) (meta : Option Bytes)
         → floor ops ≤ length ops
@@ -150,7 +150,7 @@ pub fn ordered_floors_are_kept<P: Ruled>()
         (live after ≡ []) ↔ (suc (floor after) ≡ length after) }
 {}
 
-/// Where each live update names the next live key, each does after the writes of a step, and after the step.
+/// If each live update names the next live key, each does after the writes of a step, and after the step.
 pub fn the_ring_is_kept<P: Ruled>()
     ensures writes { (ops : List Operation) (ws : List Write) → IsRing ops
         → IsRing (ops ++ ordered_writes ops ws) }
@@ -382,7 +382,7 @@ pub fn crashes_leave_own_stores<P: Ruled>()
         IsOwn e log s → (i : IsImage s image) → IsOwn e (left_at i.to log) image }
 {}
 
-/// Where the head of an own store of any databases has the length of the pins at its start, an opening without a bound accepts it, and takes up no less than what is settled. An unordered database's form is that of updates without a next key.
+/// If the head of an own store of any databases has the length of the pins at its start, an opening without a bound accepts it, and takes up no less than what is settled. An unordered database's form is that of updates without a next key.
 pub fn own_stores_are_opened<P: Ruled>()
     ensures unordered { (hash : Bytes → Bytes) (form : Form) (shape : Shape) (digest_size : ℕ)
         (log : Log)
@@ -397,7 +397,7 @@ pub fn own_stores_are_opened<P: Ruled>()
         → OpensWhole e log }
 {}
 
-/// A crash at any moment inside a call, or behind it, leaves of an own store of any databases one that is between the log before the call and the log after it.
+/// A crash at any moment inside a call, or after it, leaves of an own store of any databases one that is between the log before the call and the log after it.
 pub fn crashes_inside_calls_leave_own_stores<P: Ruled>()
     ensures unordered { (hash : Bytes → Bytes) (form : Form) (shape : Shape) (digest_size : ℕ)
         → CrashLaws (any_engine unordered P.rules hash form shape digest_size) }
@@ -405,7 +405,7 @@ pub fn crashes_inside_calls_leave_own_stores<P: Ruled>()
         → CrashLaws (any_engine ordered P.rules hash form shape digest_size) }
 {}
 
-/// Of current databases over such a family: what an accepted opening takes up, where no node waits that it does not ask for; what a crash leaves at rest; and what one leaves at any moment inside a call, also of a prune that counts more chunks first.
+/// Of current databases over such a family: what an accepted opening takes up, if no node waits that it does not ask for; what a crash leaves at rest; and what one leaves at any moment inside a call, also of a prune that counts more chunks first.
 pub fn current_stores_stay_own<P: Ruled>()
     ensures unordered_openings { (hash : Bytes → Bytes) (form : Form) (shape : Shape)
         (digest_size : ℕ) (c : Chunks) → ArePrompt (Some c) shape
@@ -431,7 +431,7 @@ pub fn current_stores_stay_own<P: Ruled>()
         → CrashLaws (current_engine ordered P.rules hash form shape digest_size c) }
 {}
 
-/// Where more chunks need no smaller size, and the head of an own store of current databases has the length of the pins at its start, an opening without a bound accepts it, and takes up no less than what is settled; so it does behind a crash at any moment.
+/// If more chunks need no smaller size, and the head of an own store of current databases has the length of the pins at its start, an opening without a bound accepts it, and takes up no less than what is settled; so it does after a crash at any moment.
 pub fn current_stores_are_opened<P: Ruled>()
     ensures unordered { (hash : Bytes → Bytes) (form : Form) (shape : Shape) (digest_size : ℕ)
         (c : Chunks) (log : Log) → NeedsRise (Some c) shape
@@ -461,7 +461,7 @@ pub fn current_stores_are_opened<P: Ruled>()
         → OpensBetween e before after s }
 {}
 
-/// Where its head has the length of the pins at its start, a store of any databases that is between two logs is opened without a bound, to a commit-ended beginning of one of the two lists or to the fresh one, no shorter than what was settled and stays.
+/// If its head has the length of the pins at its start, a store of any databases that is between two logs is opened without a bound, to a commit-ended beginning of one of the two lists or to the fresh one, no shorter than what was settled and stays.
 pub fn what_crashes_leave_is_opened<P: Ruled>()
     ensures unordered { (hash : Bytes → Bytes) (form : Form) (shape : Shape) (digest_size : ℕ)
         (before after : Log) (s : Stored)

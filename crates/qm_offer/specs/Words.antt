@@ -49,21 +49,21 @@ module _ {X C B S M : Type 0} (means : meaning.Ghosts X C B S M) where
   abbrev pub CanRead : List Operation → Chain → List Operation → Type 0
   CanRead list chain tip = readable means.scheme.root (commitment means.scheme.root list) chain tip ≡ true
 
-  -- A read through a batch of this chain with this tip failed: as stale only where the list is not known, and for want of
-  -- memory at any time; else the batch can be read, and where the store tells all and the list is known it is for no refusal.
+  -- A read through a batch of this chain with this tip failed: as stale only if the list is not known, and for want of
+  -- memory at any time; else the batch can be read, and if the store tells all and the list is known it is for no refusal.
   pub record IsReadFailure (tells : Type 0) (list : List Operation) (chain : Chain) (tip : List Operation) (error : Error) : Type 0 where
     pub stale : error ≡ StaleRead → ¬ IsKnown list chain tip
     pub refused : error ≢ StaleRead → tells → IsKnown list chain tip → refusal_of error ≡ None
     pub order : error ≢ StaleRead → error ≢ Memory → CanRead list chain tip
 
-  -- A proof through a batch of this chain with this tip failed, over a store of this start: as stale only where the list is not known,
-  -- and for want of memory at any time; else the batch can be read, and where the list is known it is for the first node that is lacked.
+  -- A proof through a batch of this chain with this tip failed, over a store of this start: as stale only if the list is not known,
+  -- and for want of memory at any time; else the batch can be read, and if the list is known it is for the first node that is lacked.
   pub record IsProofFailure (start : ℕ) (list : List Operation) (chain : Chain) (tip : List Operation) (error : Error) : Type 0 where
     pub stale : error ≡ StaleRead → ¬ IsKnown list chain tip
     pub refused : error ≢ StaleRead → IsKnown list chain tip → IsDue error (proof_lacked means.scheme.shape start list chain tip)
     pub order : error ≢ StaleRead → error ≢ Memory → CanRead list chain tip
 
-  -- A call that read left what the database stands for, and what its store has; where it failed by that, its faults rose.
+  -- A call that read left what the database stands for, and what its store has; if it failed by that, its faults rose.
   pub record ReadsOnly (members : store.Ghosts C) (old new : X) {A : Type 0} (result : Result A Error) : Type 0 where
     pub same : (list : List Operation) → means.stands old list → means.stands new list
     pub numbered : (n : ℕ) → means.numbered old n → means.numbered new n
@@ -74,8 +74,8 @@ module _ {X C B S M : Type 0} (means : meaning.Ghosts X C B S M) where
   abbrev pub Takes : X → Chain → Type 0
   Takes db chain = (n : ℕ) → means.numbered db n → takes means.scheme.grafts n chain.instance ≡ true
 
-  -- What comes of making this tip list of a batch of this chain, over this list. It is refused as stale where the batch's chain began
-  -- on another instance, then where the list is not on the chain; any other refusal is that of the tip list.
+  -- What comes of making this tip list of a batch of this chain, over this list. It is refused as stale if the batch's chain began
+  -- on another instance, then if the list is not on the chain; any other refusal is that of the tip list.
   pub record Makes (members : store.Ghosts C) (old : X) (list : List Operation) (chain : Chain) (tip : List Operation) (result : Result M Error) : Type 0 where
     pub instance : IfOk result (λ _. Takes old chain)
     pub fit : IfOk result (λ _. Fits list chain)
@@ -103,7 +103,7 @@ module _ {X C B S M : Type 0} (means : meaning.Ghosts X C B S M) where
     pub later : members.faults (means.inside old) ≤ members.faults (store_after means.inside result)
 
   -- What comes of opening a store up to a bound, as a database of this instance number: it stands for the list that is taken up, and
-  -- what the store has behind that is gone; or it is refused as the definition says, with the store as it was; or memory or the store
+  -- what the store has after that is gone; or it is refused as the definition says, with the store as it was; or memory or the store
   -- failed. Of a store that tells no items its start and its faults are told.
   pub record Opens (members : store.Ghosts C) (old : C) (bound : Option ℕ) (number : ℕ) (result : Result X (Refusal X C)) : Type 0 where
     pub opened : IfSome (members.told old) (λ s. (list : List Operation) → IsTaken means.scheme s (selected_size means.scheme bound s) list → IfOk result (λ x. means.stands x list))
@@ -137,7 +137,7 @@ module _ {X C B S M : Type 0} (means : meaning.Ghosts X C B S M) where
     pub never : refusal_of refusal.error ≡ None
     pub cause : IsCause (members.faults (means.inside old)) (members.faults store) (refusal.error ≡ Journal journal.Store)
 
-  -- The operations were made stable, and the store of a list is then this: the database stands for what it stood for. Where that failed
+  -- The operations were made stable, and the store of a list is then this: the database stands for what it stood for. If that failed
   -- the store is given back, as such a call leaves it.
   pub record IsSettling (members : store.Ghosts C) (After : List Operation → Stored → Stored) (Left : List Operation → Stored → Stored → Type 0) (old : X) (result : Result X (Refusal X C)) : Type 0 where
     pub stands : (list : List Operation) → means.stands old list → IfOk result (λ new. means.stands new list)
@@ -169,7 +169,7 @@ module _ {X C B S M : Type 0} (means : meaning.Ghosts X C B S M) where
       ⊎ (((list : List Operation) → means.stands old list → to ≤ means.scheme.boundary list)
       × IsGivenUp members old (LeavesStore members old (λ list. LeavesPrune means.scheme list (members.start (means.inside old)) (IsHeadOf old to) to)) refusal)
 
-  -- The store was emptied, or given back where that failed.
+  -- The store was emptied, or given back if that failed.
   pub record IsDestroying (members : store.Ghosts C) (old : X) (result : Result C (Refusal X C)) : Type 0 where
     pub start : IfOk result (λ new. members.start new ≡ 0)
     pub told : IfOk result (λ new. Becomes (members.told (means.inside old)) (members.told new) destroyed)

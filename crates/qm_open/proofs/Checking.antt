@@ -64,7 +64,7 @@ module _ (form : Form) (shape : Shape) (size : ℕ) (s : Stored) (start : ℕ) (
   opened-due e head item (inr (inr (inl other))) = subst (λ e. IsDue e content) (sym other) (head-refused (head other))
   opened-due e head item (inr (inr (inr lost))) = let both = item lost in subst (λ e. IsDue e content) (sym lost) (item-refused both.0 both.1)
 
-  -- and so is one of the look at the links behind it
+  -- and so is one of the look at the links after it
   pub links-due : {C D : Type 0} (members : store.Ghosts C) (old new : Log C D) (e : Error) → length s.head ≡ length (peaks shape start) * size → list_any is_none (items_within form s at.floor at.size) ≡ false
       → (e ≡ errors.DataCorrupted corrupt.LinksFormNoRing → apart ≡ true) → (e ≡ errors.DataCorrupted corrupt.ItemDoesNotDecode → list_any is_none (items_within form s at.floor at.size) ≡ true)
       → IsRebuildError members old new e ⊎ ((form.ordered ≡ true) × (e ≡ errors.DataCorrupted corrupt.LinksFormNoRing)) → IsDue e content
@@ -73,7 +73,7 @@ module _ (form : Form) (shape : Shape) (size : ℕ) (s : Stored) (start : ℕ) (
   links-due members old new e long whole none lost (inl (inr item)) = let no : true ≡ false = sym (lost item) ∙ whole in absurd cc
   links-due members old new e long whole none lost (inr (kind, links)) = subst (λ e. IsDue e content) (sym links) (links-refused long whole (none links))
 
--- what was opened is still what it was, behind reads
+-- what was opened is still what it was, after reads
 pub opened-read : {C D : Type 0} (members : store.Ghosts C) (shape : Shape) (bytes : D → Bytes) (hash : Bytes → Bytes) (form : Form) (index_key : Bytes → ℕ) (n : ℕ) (old new : Log C D) (entries : List (ℕ × List ℕ)) (live_keys : ℕ) (activity : Bitmap) (root : Bytes)
     (meta : Option Bytes) (list : List Operation) → KeepsLog members shape bytes hash old new → IsOpened members shape bytes hash form index_key n old entries live_keys activity root meta list
     → IsOpened members shape bytes hash form index_key n new entries live_keys activity root meta list
@@ -86,13 +86,13 @@ opened-read members shape bytes hash form index_key n old new entries live_keys 
   metadata_is = is.metadata_is;
 }
 
--- an error of the look at the links tells of the store only where its count of faults rose
+-- an error of the look at the links tells of the store only if its count of faults rose
 pub links-caused : {C D K : Type 0} (members : store.Ghosts C) (first : C) (old new : Log C D) (e : Error) → members.faults first ≤ members.faults old.store → members.faults old.store ≤ members.faults new.store
     → IsRebuildError members old new e ⊎ (K × (e ≡ errors.DataCorrupted corrupt.LinksFormNoRing)) → IsCause (members.faults first) (members.faults new.store) (e ≡ errors.Journal journal.Store)
 links-caused members first old new e before after (inl failed) = caused members (record { store = first; tree = old.tree }) old new e before after failed
 links-caused members first old new e before after (inr (kind, links)) = record { later = omega (arith, before, after); failed = λ fault. absurd cc }
 
--- what holds of what is told, where that is known
+-- what holds of what is told, if that is known
 pub each-known : {X : Type 0} (o : Option X) {Q : X → Type 0} → ((x : X) → o ≡ Some x → Q x) → IfSome o Q
 each-known None all = tt
 each-known (Some x) all = all x refl

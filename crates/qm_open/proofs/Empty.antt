@@ -67,7 +67,7 @@ log-none members shape births family peaked bytes hash log whole start leaves fi
     nothing None = tt
     nothing (Some held) = refl
 
--- the head of a store that starts at 0 has no byte, where it is as long as it should be
+-- the head of a store that starts at 0 has no byte, if it is as long as it should be
 module _ (shape : Shape) (births : Births) (family : IsFamily shape births) (peaked : HasPeaks shape) (start size : ℕ) (first : start ≡ 0) where
   none-long : length (peaks shape start) * size ≡ 0
   none-long = ap (λ n. length (peaks shape n) * size) first ∙ ap (λ ps. length ps * size) (peaks-none shape births family peaked) ∙ omega arith

@@ -1,4 +1,4 @@
--- What the checks of an opening come to, where the commit that is selected is known.
+-- What the checks of an opening come to, if the commit that is selected is known.
 use Rattle.std.proofs.Common.{◌≡◌, ◌∙◌, refl, sym, ap, arith, ◌-◌, ◌*◌, ◌/◌, ◌^◌, ◌≤◌, ℕ, zero, suc, Bool, true, false, Option, Some, None, length}
 use Rattle.std.specs.Prelude.{◌==◌, ◌&&◌, not, nat_lt, if◌then◌else◌, option_map, IfSome}
 use Rattle.std.specs.Option.{option_or, option_map_or}

@@ -46,7 +46,7 @@ pub record IsMadeOf {C D : Type 0} (members : store.Ghosts C) (chunk : ℕ) (old
   pub pruned : activity.pruned ≡ chunks
   pub bits : (bit_count chunk activity ≡ size) × (live_keys ≤ size)
 
--- A store is opened only where there is no cause to refuse it; a named refusal is this one, and gives back the store.
+-- A store is opened only if there is no cause to refuse it; a named refusal is this one, and gives back the store.
 pub record IsJudged {C X A : Type 0} (members : store.Ghosts C) (old : C) (due : Stored → Option Refused) (result : Result A (Refusal X C)) : Type 0 where
   pub accepted : IfSome (members.told old) (λ s. OnOk result (due s ≡ None))
   pub refused : IfSome (members.told old) (λ s. IfErr result (λ r. IsDue r.error (due s)))
@@ -56,7 +56,7 @@ pub record IsJudged {C X A : Type 0} (members : store.Ghosts C) (old : C) (due :
 abbrev pub HasLongHead : {C : Type 0} → store.Ghosts C → Shape → ℕ → C → Stored → Type 0
 HasLongHead members shape digest_size old s = length s.head ≡ length (peaks shape (members.start old)) * digest_size
 
--- A store was not read: it is given back, for want of memory, by a fault, or as its head has another length, or, where that is right, an
+-- A store was not read: it is given back, for want of memory, by a fault, or as its head has another length, or, if that is right, an
 -- item from the selected floor on spells no operation.
 pub record IsUnread {C X : Type 0} (members : store.Ghosts C) (shape : Shape) (digest_size : ℕ) (form : Form) (old : C) (at : Selected) (r : Refusal X C) : Type 0 where
   pub back : GivesBack members old r

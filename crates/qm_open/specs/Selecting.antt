@@ -17,7 +17,7 @@ use Rattle.qm_open.specs.declared.select.Selected.{Selected}
 abbrev pub selected_view : Selected → opening.Selected
 selected_view s = record { size = s.size; floor = s.floor }
 
--- the items that a store keeps as operations, none where one spells none
+-- the items that a store keeps as operations, none if one spells none
 abbrev pub kept_items : Form → Stored → List (Option Operation)
 kept_items form s = map (decoded form) s.items
 
@@ -58,7 +58,7 @@ layout_of form shape digest_size pruned = record { form = form; shape = shape; d
 abbrev pub found_of : Form → Stored → Option Pruned → Found
 found_of form s pruned = record { start = s.start; items = kept_items form s; head = s.head; metadata = None; count = count_of pruned }
 
--- the same where there are no chunks
+-- the same if there are no chunks
 abbrev pub any_layout : Form → Shape → ℕ → Layout
 any_layout form shape digest_size = layout_of form shape digest_size None
 

@@ -68,7 +68,7 @@ fn last_commit<F, C: Store, U: Update>(
     Ok(None)
 }
 
-// The commit that was found in a store with these bounds, where it is not refused. None is for an empty store alone.
+// The commit that was found in a store with these bounds, if it is not refused. None is for an empty store alone.
 fn checked(
     start: u64,
     end: u64,
@@ -112,8 +112,8 @@ fn is_zero(bound: Option<u64>) -> bool
     }
 }
 
-/// The commit that an opening up to a bound selects, where neither the bound nor the commit is refused. None is for an empty
-/// store alone, which an opening makes the fresh list of. Where chunks of activity bits are pruned, the commit is also refused
+/// The commit that an opening up to a bound selects, if neither the bound nor the commit is refused. None is for an empty
+/// store alone, which an opening makes the fresh list of. If chunks of activity bits are pruned, the commit is also refused
 /// for these. It reads the items after the commit, from the last one on, and its own. Head, items and links of the store are
 /// not looked at.
 pub fn select_commit<F, C: Store, U: Update>(

@@ -5,7 +5,7 @@ use Rattle.std.specs.Option.{option_and_then}
 use Rattle.qm_model.specs.Forms.{tested}
 use Rattle.qm_model.specs.Operations.{Bytes}
 
--- a field and what is behind it, where the field passes the test, or not
+-- a field and what follows it, if the field passes the test, or not
 pub taken : (is : Bytes → Bool) (found : Option (Bytes × Bytes)) (p : Bytes × Bytes) → Some p ≡ found → is p.0 ≡ true → Some p ≡ option_and_then (tested is) found
 taken is found p here passes = subst (λ o. Some p ≡ option_and_then (tested is) o) here (ap (λ b. if b then Some p else None) (sym passes))
 

@@ -53,7 +53,7 @@ fn number_of_eight(bytes: [u8; 8]) -> u64
     u64::from_be_bytes(bytes)
 }
 
-// A key or a value, and what is behind it.
+// A key or a value, and what follows it.
 fn read_field(size: Option<u32>, bytes: &[u8]) -> Option<(&[u8], &[u8])>
     ensures value { option_map (λ p. (p.0.now, p.1.now)) result ≡ model.read_field size bytes.now }
     ensures sized { IfSome result (λ p. model.IsSized size p.0.now) }
@@ -67,7 +67,7 @@ fn read_field(size: Option<u32>, bytes: &[u8]) -> Option<(&[u8], &[u8])>
     }
 }
 
-// A key, and what is behind it.
+// A key, and what follows it.
 fn read_key<U: Update>(bytes: &[u8]) -> Option<(&[u8], &[u8])>
     ensures value { option_map (λ p. (p.0.now, p.1.now)) result ≡ model.read_key U.form bytes.now }
     ensures known { IfSome result (λ p. U.form.is_key p.0.now ≡ true) }
@@ -82,7 +82,7 @@ fn read_key<U: Update>(bytes: &[u8]) -> Option<(&[u8], &[u8])>
     }
 }
 
-// A value, and what is behind it.
+// A value, and what follows it.
 fn read_value<U: Update>(bytes: &[u8]) -> Option<(&[u8], &[u8])>
     ensures value { option_map (λ p. (p.0.now, p.1.now)) result
         ≡ model.read_value U.form bytes.now }
@@ -98,7 +98,7 @@ fn read_value<U: Update>(bytes: &[u8]) -> Option<(&[u8], &[u8])>
     }
 }
 
-// The key behind the tag of updates.
+// The key after the tag of updates.
 fn read_update_key<U: Update>(bytes: &[u8]) -> Option<&[u8]>
     ensures { option_map (λ key. key.now) result ≡ parts.read_update_key U.form bytes.now }
 {
@@ -111,7 +111,7 @@ fn read_update_key<U: Update>(bytes: &[u8]) -> Option<&[u8]>
     }
 }
 
-// The next key, in an ordered database, and what is behind it.
+// The next key, in an ordered database, and what follows it.
 fn read_next<U: Update>(bytes: &[u8]) -> Option<(Option<&[u8]>, &[u8])>
     ensures value { option_map (λ p. (option_map (λ next. next.now) p.0, p.1.now)) result
         ≡ model.read_next U.form bytes.now }
@@ -128,7 +128,7 @@ fn read_next<U: Update>(bytes: &[u8]) -> Option<(Option<&[u8]>, &[u8])>
     }
 }
 
-// The metadata behind its mark, and what is behind it.
+// The metadata after its mark, and what follows it.
 fn read_metadata<U: Update>(bytes: &[u8]) -> Option<(Option<&[u8]>, &[u8])>
     ensures value { option_map (λ p. (option_map (λ value. value.now) p.0, p.1.now)) result
         ≡ model.read_metadata U.form bytes.now }
@@ -144,7 +144,7 @@ fn read_metadata<U: Update>(bytes: &[u8]) -> Option<(Option<&[u8]>, &[u8])>
     }
 }
 
-// A floor of at most 2^62, and what is behind it.
+// A floor of at most 2^62, and what follows it.
 fn read_floor(bytes: &[u8]) -> Option<(u64, &[u8])>
     ensures { option_map (λ p. (p.0, p.1.now)) result ≡ model.read_floor bytes.now }
 {
@@ -189,7 +189,7 @@ fn is_long(ordered: bool, sizes: Option<(u32, u32)>, bytes: &[u8]) -> bool
     }
 }
 
-// An update from the bytes behind its tag.
+// An update from the bytes after its tag.
 fn update<F, U: Update>(alloc: Global, bytes: &[u8]) -> Result<Option<Operation<F, U>>, AllocError>
     ensures { IfOk result (λ found.
         option_map (operation_view U.view U.Key.bytes U.Value.bytes) found
@@ -211,7 +211,7 @@ fn update<F, U: Update>(alloc: Global, bytes: &[u8]) -> Result<Option<Operation<
     Ok(Some(Operation::Update(update)))
 }
 
-// A delete from the bytes behind its tag.
+// A delete from the bytes after its tag.
 fn delete<F, U: Update>(alloc: Global, bytes: &[u8]) -> Result<Option<Operation<F, U>>, AllocError>
     ensures { IfOk result (λ found.
         option_map (operation_view U.view U.Key.bytes U.Value.bytes) found
@@ -239,7 +239,7 @@ fn metadata<V: ByteString>(alloc: Global, bytes: Option<&[u8]>) -> Result<Option
     }
 }
 
-// A commit from the bytes behind its tag.
+// A commit from the bytes after its tag.
 fn commit<F, U: Update>(alloc: Global, bytes: &[u8]) -> Result<Option<Operation<F, U>>, AllocError>
     ensures { IfOk result (λ found.
         option_map (operation_view U.view U.Key.bytes U.Value.bytes) found

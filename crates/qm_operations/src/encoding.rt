@@ -10,10 +10,10 @@ use std::marker::PhantomData;
 pub trait ValueEncoding<K: ByteString> {
     type Value: ByteString;
 
-    /// The sizes of keys and of values, where these are fixed.
+    /// The sizes of keys and of values, if these are fixed.
     ghost fixed: { Option (ℕ × ℕ) };
 
-    /// The sizes of keys and of values, where these are fixed.
+    /// The sizes of keys and of values, if these are fixed.
     fn sizes() -> Option<(u32, u32)>
         ensures { result ≡ fixed };
 

@@ -52,7 +52,7 @@ fn feed_field<H: Hasher, B: ByteString>(hasher: &mut H, size: Option<u32>, field
     }
 }
 
-// Adds the mark of metadata, and the value where there is one.
+// Adds the mark of metadata, and the value if there is one.
 fn feed_metadata<H: Hasher, B: ByteString>(
     hasher: &mut H,
     size: Option<u32>,
@@ -75,7 +75,7 @@ fn feed_metadata<H: Hasher, B: ByteString>(
     }
 }
 
-// Adds the next key, where there is one.
+// Adds the next key, if there is one.
 fn feed_next<H: Hasher, B: ByteString>(hasher: &mut H, size: Option<u32>, next: Option<&B>) -> u64
     ensures holds { (m : List ℕ) → H.holds hasher.old m
         → H.holds hasher.new

@@ -19,7 +19,7 @@ pub enum Operation<F, U: Update> {
     CommitFloor(Option<U::Value>, Location<F>),
 }
 
-/// The size of keys, where it is fixed.
+/// The size of keys, if it is fixed.
 pub(crate) fn key_size(sizes: Option<(u32, u32)>) -> Option<u32>
     ensures { result ≡ forms.key_size sizes }
 {
@@ -29,7 +29,7 @@ pub(crate) fn key_size(sizes: Option<(u32, u32)>) -> Option<u32>
     }
 }
 
-/// The size of values, where it is fixed.
+/// The size of values, if it is fixed.
 pub(crate) fn value_size(sizes: Option<(u32, u32)>) -> Option<u32>
     ensures { result ≡ forms.value_size sizes }
 {
@@ -71,7 +71,7 @@ fn add_field<B: ByteString>(
     }
 }
 
-// Adds the mark of metadata, and the value where there is one.
+// Adds the mark of metadata, and the value if there is one.
 fn add_metadata<B: ByteString>(
     out: &mut Vec<u8>,
     size: Option<u32>,

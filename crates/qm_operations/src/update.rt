@@ -29,7 +29,7 @@ pub trait Update: Sized + Drop {
     fn is_ordered() -> bool
         ensures { result ≡ form.ordered };
 
-    /// The sizes of keys and of values, where these are fixed.
+    /// The sizes of keys and of values, if these are fixed.
     fn sizes() -> Option<(u32, u32)>
         ensures { result ≡ form.sizes };
 
@@ -175,7 +175,7 @@ pub struct Ordered<K: ByteString, V: ValueEncoding<K>> {
     pub key: K,
     /// Its value.
     pub value: V::Value,
-    /// The next key, or the first of all where it is the last.
+    /// The next key, or the first of all if it is the last.
     pub next_key: K,
 }
 

@@ -15,7 +15,7 @@ below_start size base i low =
     let front = length-replicate {A = Bool} (start size base) false in
     get_or_append_left (replicate (start size base) false) base.kept false i (omega arith) ∙ get_or-replicate (start size base) i false false low
 
--- there are none behind the last one
+-- there are none after the last one
 past_all : (size : ℕ) (base : Bitmap) (i : ℕ) → bit_count size base ≤ i → get_or (all_bits size base) i false ≡ false
 past_all size base i past = let long = length-all size base in get_or_past (all_bits size base) i false (omega arith)
 
@@ -35,7 +35,7 @@ same_bitmap size old new pruned count same = ap₂ (λ p k. record { pruned = p;
         ext_get_or false new.kept old.kept (omega arith) (λ i lt.
         sym (at_kept new i) ∙ same (start size new + i) ∙ ap (λ n. get_or (all_bits size old) (n * (8 * size) + i) false) pruned ∙ at_kept old i)
 
--- clear bits behind the others
+-- clear bits after the others
 extended_same : (size : ℕ) (old new : Bitmap) (n : ℕ) → new ≡ record { pruned = old.pruned; kept = old.kept ++ replicate n false } → (i : ℕ) → get_or (all_bits size new) i false ≡ get_or (all_bits size old) i false
 extended_same size old new n is i = ap (λ m. get_or (all_bits size m) i false) is ∙ by (cases_lt i (start size old))
   where

@@ -48,7 +48,7 @@ zeros_packed n bs clear = same_bytes n (replicate n 0) bs (length-replicate {A =
     zero_at : (k : ℕ) → get_or {A = ℕ} (replicate n 0) k 0 ≡ 0
     zero_at k = ⊎_elim (λ (low : k < n). get_or-replicate n k 0 0 low) (λ (past : n ≤ k). let long = length-replicate {A = ℕ} n 0 in get_or_past (replicate n 0) k 0 (omega arith)) (cases_lt k n)
 
--- zeros are a chunk behind the last bit
+-- zeros are a chunk after the last bit
 pub zeros_behind : (n : ℕ) (bs : List Bool) (c : ℕ) → length bs ≤ c * (8 * n) → replicate n 0 ≡ chunk n bs c
 zeros_behind n bs c past = zeros_packed n (drop (c * (8 * n)) bs) (λ i lt. get_or-drop (c * (8 * n)) bs i false ∙ get_or_past bs (c * (8 * n) + i) false (omega (arith, past)))
 

@@ -1,4 +1,4 @@
--- Bits behind a step.
+-- Bits after a step.
 use Rattle.std.proofs.Common.{◌≡◌, ◌≢◌, ℕ, ◌+◌, ◌-◌, ◌*◌, ◌/◌, ◌%◌, ◌<◌, ◌≤◌, ◌⊎◌, Bool, false, List, length, drop, get_or, set, replicate, arith, ap, ap₂, sym, subst, ◌∙◌, refl, ⊎_elim, Option, Some, None, IsSome, IfSome, map, Result, Ok, Err, OnOk, OnErr}
 use Rattle.std.specs.List.{range_with_len}
 use Rattle.std.specs.Option.{is_some}
@@ -37,7 +37,7 @@ length-all size base =
     let both = length-append (replicate (start size base) false) base.kept in
     omega arith
 
--- a chunk behind the one that the bits end in has none of them
+-- a chunk after the one that the bits end in has none of them
 pub behind_all : (size : ℕ) (base : Bitmap) (c : ℕ) → 0 < 8 * size → bit_count size base / (8 * size) < c → length (all_bits size base) ≤ c * (8 * size)
 behind_all size base c some past =
     let long = length-all size base in
@@ -188,7 +188,7 @@ module _ (size : ℕ) (base : Bitmap) (old new : Overlay) (c : ℕ) (bits : List
       (λ (away : d ≢ c). clear d held (sym (other d away) ∙ is) i lt (subst (λ n. n ≤ d * (8 * size) + i) count past))
       (cases_eq d c)
 
--- A chunk behind a step.
+-- A chunk after a step.
 module _ (size : ℕ) (overlay : Overlay) (base : Bitmap) (c : ℕ) (least : bit_count size base ≤ overlay.count) (kept : base.pruned ≤ c) where
   from : (i : ℕ) → start size base ≤ c * (8 * size) + i
   from i = let low : base.pruned * (8 * size) ≤ c * (8 * size) = mul-le-mul_right (8 * size) kept in omega arith
@@ -257,7 +257,7 @@ module _ (size : ℕ) (base : Bitmap) (old new : Overlay) (whole : Laid) (is : r
   pub changed-bits : (at : ℕ) (value : Bool) → all_bits size (laid size new base) ≡ set (all_bits size (laid size old base)) at value → all_bits size (laid size new base) ≡ set (all_bits size (laid size whole.overlay whole.base)) at value
   changed-bits at value bits = bits ∙ ap (λ m. set (all_bits size m) at value) same_laid
 
-  -- where there is no bit none is changed
+  -- if there is no bit none is changed
   pub unchanged-past : (at : ℕ) (value : Bool) → old.count ≤ at → all_bits size (laid size whole.overlay whole.base) ≡ set (all_bits size (laid size whole.overlay whole.base)) at value
   unchanged-past at value past =
       let long = length-all size (laid size whole.overlay whole.base) in

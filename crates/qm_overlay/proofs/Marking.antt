@@ -1,4 +1,4 @@
--- Bits where keys stand: those of a list, and what becomes of them where a key moves.
+-- Bits where keys stand: those of a list, and what becomes of them when a key moves.
 use Rattle.std.proofs.Common.{◌≡◌, ◌≢◌, ℕ, suc, ◌-◌, ◌<◌, ◌≤◌, Bool, true, false, List, [], ◌∷◌, ◌++◌, length, map, set, get_or, replicate, refl, ap, sym, ◌∙◌, Option, Some, None, arith, ⊎_elim, ◌||◌, true≢false}
 use Rattle.std.specs.Prelude.{◌==◌, Contains, IfSome, bytes_eq, option_map}
 use Rattle.std.specs.List.{list_any}
@@ -47,7 +47,7 @@ place-within list key i at =
     let place = e.3 in
     omega (arith, high, place)
 
--- a key that more operations touch stands behind the list
+-- a key that more operations touch stands after the list
 pub place-behind : (list made : List Operation) (key : Bytes) (i : ℕ) → touched key made ≡ true → place_in (list ++ made) key ≡ Some i → length list ≤ i
 place-behind list made key i again at =
     let own = ap (λ o. option_map (λ (p : ℕ × Bytes). p.0) (option_map (λ (e : Live). (e.location, e.value)) o)) (own-live list made key again) in
@@ -128,7 +128,7 @@ no-bit n k = ⊎_elim
     (λ (past : n ≤ k). let long = length-replicate {A = Bool} n false in get_or_past (replicate n false) k false (omega arith))
     (cases_lt k n)
 
--- its bits, without that of the commit, and with clear ones behind them
+-- its bits, without that of the commit, and with clear ones after them
 module _ (list : List Operation) (n : ℕ) (ended : IsCommitEnded list) where
   abbrev all : List Bool
   all = bits list ++ replicate n false

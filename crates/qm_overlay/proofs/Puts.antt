@@ -76,7 +76,7 @@ module _ (span size at : ℕ) (span_is : span ≡ 8 * size) (some : 0 < 8 * size
       inr (subst (λ s. at * s + 8 * size ≤ i) (sym span_is) (omega (arith, from))))
       (cases_lt (i / (8 * size)) at)
 
-  -- a chunk with a bit behind pruned ones is behind them
+  -- a chunk with a bit after pruned ones is after them
   pub chunk_kept : (p i : ℕ) → i / (8 * size) ≡ at → p * (8 * size) ≤ i → p ≤ at
   chunk_kept p i is from = subst (λ a. p ≤ a) is ((le-div_iff_mul-le some).1 from)
 

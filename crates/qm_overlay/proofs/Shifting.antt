@@ -46,7 +46,7 @@ module _ (all : Changes) (base tip : List Operation) (are : AreChanges all base 
   stands-now : (key : Bytes) (c : Change) (i : ℕ) → change_in all key ≡ Some c → option_map (λ (p : ℕ × Bytes). p.0) c.now ≡ Some i → place_in tip key ≡ Some i
   stands-now key c i is at = ap (option_map (λ (p : ℕ × Bytes). p.0)) (changed all base tip are key c is).0 ∙ at
 
-  -- behind the base list
+  -- after the base list
   stands-behind : (key : Bytes) (c : Change) (i : ℕ) → change_in all key ≡ Some c → place_in tip key ≡ Some i → length base ≤ i
   stands-behind key c i is at = by (touched key (drop (length base) tip)) refl (sym (are.each key) ∙ is)
     where
@@ -77,7 +77,7 @@ module _ (all : Changes) (base tip : List Operation) (are : AreChanges all base 
     stood : place_in base key ≡ c.before
     stood = (changed all base tip are key c own).1
 
-    -- where it stands now there is a bit, behind the base list
+    -- where it stands now there is a bit, after the base list
     pub now-within : IfSome now (λ i. (length base ≤ i) × (i < length tip))
     now-within = by now refl
       where
@@ -139,7 +139,7 @@ extended-count size old more len enough is =
     let rest = length-replicate (len - bit_count size old) false in
     omega (arith, same, both, rest, enough)
 
--- a list's bits, with clear ones behind them and without that of its last commit
+-- a list's bits, with clear ones after them and without that of its last commit
 pub bits-begun : (size : ℕ) (old more new : Bitmap) (len before last : ℕ) (from : List Operation) → all_bits size old ≡ bits from → IsCommitEnded from
     → more ≡ record { pruned = old.pruned; kept = old.kept ++ replicate (len - bit_count size old) false } → before ≡ bit_count size old → last ≡ before - 1 → new.pruned ≡ more.pruned → all_bits size new ≡ set (all_bits size more) last false → HasLive size new from
 bits-begun size old more new len before last from same ended is before_is last_is pruned cleared_is =

@@ -44,7 +44,7 @@ module _ {R : Type 0} (value : R → Overlay) (size : ℕ) (xs : List R) (base :
       let least : start size below + length below.kept ≤ (value r).count = there.0 in
       ap (bit_count size) there.1 ∙ count-laid size (value r) below (omega (arith, least))
 
-  -- how many bits there are behind the last step
+  -- how many bits there are after the last step
   pub count_last : suc k ≡ length xs → bit_count size (layered size (map value xs) base) ≡ (value r).count
   count_last last = ap (λ os. bit_count size (layered size os base)) (sym (whole xs k last)) ∙ count
     where
@@ -107,7 +107,7 @@ module _ {R : Type 0} (value : R → Overlay) (size : ℕ) (xs : List R) (base :
 pub bit_kept : (size : ℕ) (base : Bitmap) (i : ℕ) → start size base ≤ i → get_or base.kept (i - start size base) false ≡ get_or (all_bits size base) i false
 bit_kept size base i from = sym (get_or-append_right (replicate (start size base) false) base.kept (start size base) i false (length-replicate {A = Bool} (start size base) false) from)
 
--- where a bitmap has a bit, it is a candidate by that
+-- if a bitmap has a bit, it is a candidate by that
 pub candidate_kept : (size : ℕ) (base : Bitmap) (i : ℕ) → i < bit_count size base → is_candidate (all_bits size base) i ≡ get_or (all_bits size base) i false
 candidate_kept size base i lt = get_or_default (all_bits size base) i true false (let long = length-all size base in omega (arith, long, lt))
 

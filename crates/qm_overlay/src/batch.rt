@@ -85,7 +85,7 @@ impl<'a, N: Chunks> BitmapBatch<'a, N> {
         self.layers
     }
 
-    // The bytes of a chunk that is not pruned, zeros behind the last bit.
+    // The bytes of a chunk that is not pruned, zeros after the last bit.
     fn chunk(&self, alloc: Global, at: usize) -> Result<Vec<u8>, AllocError>
         requires { (seen N.LEN self.now).pruned ≤ at }
         ensures { IfOk result (λ bytes.
@@ -159,7 +159,7 @@ impl<'a, F, N: Chunks> Candidates<F> for BitmapBatch<'a, N> {
     }
 }
 
-// The bytes of a chunk that is not pruned, behind these steps over a bitmap.
+// The bytes of a chunk that is not pruned, after these steps over a bitmap.
 fn chunk_over<N: Chunks>(
     alloc: Global,
     base: &Prunable<N>,
@@ -182,7 +182,7 @@ fn chunk_over<N: Chunks>(
     chunk_of(alloc, base, at)
 }
 
-// The bit at a place that is not pruned, behind these steps over a bitmap.
+// The bit at a place that is not pruned, after these steps over a bitmap.
 fn bit_behind<N: Chunks>(base: &Prunable<N>, layers: &[Rc<ChunkOverlay<N>>], at: u64) -> bool
     requires stacked { AreStacked N.LEN (map (λ r. r.value) layers.now) base.now }
     requires kept { start N.LEN base.now ≤ at }

@@ -64,7 +64,7 @@ impl<N: Chunks> Chunk<N> {
         (self.bytes[at / 8] >> (at % 8)) & 1 == 1
     }
 
-    // A chunk of other bits that is not pruned there, of clear ones where they have none. Want of memory is the only error.
+    // A chunk of other bits that is not pruned there, of clear ones if they have none. Want of memory is the only error.
     pub(crate) fn read<B: Readable<N>>(
         alloc: Global,
         base: &B,

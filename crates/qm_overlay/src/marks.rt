@@ -1,4 +1,4 @@
-//! Bits that a step is put into: those of a bitmap, or those that it leaves behind it over one that is lent.
+//! Bits that a step is put into: those of a bitmap, or those that it leaves over one that is lent.
 
 ghost use Rattle.std.specs.Prelude.{◌≡◌, ◌^◌, ◌≤◌, true, false, ⊤, set, OnOk, OnErr};
 ghost use Rattle.qm_bits.specs.Bitmaps.{Bitmap, start, bit_count, all_bits};
@@ -25,7 +25,7 @@ pub trait Marks<N: Chunks> {
     fn len(&self) -> u64
         ensures { result ≡ bit_count N.LEN (bitmap self.now) };
 
-    /// Puts clear bits behind the others until there are `len`. Want of memory is the only error, and leaves them as they were.
+    /// Puts clear bits after the others until there are `len`. Want of memory is the only error, and leaves them as they were.
     fn extend_to(&mut self, len: u64) -> Result<(), AllocError>
         requires not_below { bit_count N.LEN (bitmap self.old) ≤ len }
         requires bounded { len ≤ 2 ^ 62 }
@@ -43,7 +43,7 @@ pub trait Marks<N: Chunks> {
         ensures below { below self.new ≡ below self.old }
         ensures err { OnErr result wants };
 
-    /// Clears the bit at a place. Where none is kept nothing changes: pruned bits are clear. Want of memory is the only error.
+    /// Clears the bit at a place. If none is kept nothing changes: pruned bits are clear. Want of memory is the only error.
     fn unmark(&mut self, at: u64) -> Result<(), AllocError>
         ensures pruned { (bitmap self.new).pruned ≡ (bitmap self.old).pruned }
         ensures count { bit_count N.LEN (bitmap self.new) ≡ bit_count N.LEN (bitmap self.old) }

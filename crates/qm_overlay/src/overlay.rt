@@ -13,7 +13,7 @@ use std::alloc::{AllocError, Global};
 use std::collections::BTreeMap;
 use std::marker::Model;
 
-/// What one step does to bits: each chunk that it changes, whole, and how many bits there are behind it. It takes the bytes of a chunk for each changed one, and none for the others.
+/// What one step does to bits: each chunk that it changes, whole, and how many bits there are after it. It takes the bytes of a chunk for each changed one, and none for the others.
 #[derive(Drop)]
 pub struct ChunkOverlay<N: Chunks> {
     changed: BTreeMap<usize, Chunk<N>>,
@@ -32,7 +32,7 @@ impl<N: Chunks> Model for ChunkOverlay<N> {
 }
 
 impl<N: Chunks> ChunkOverlay<N> {
-    /// No changes but clear bits behind those of a bitmap, up to so many. It takes no memory yet.
+    /// No changes but clear bits after those of a bitmap, up to so many. It takes no memory yet.
     pub fn new<B: Readable<N>>(alloc: Global, base: &B, len: u64) -> Self
         requires not_below { bit_count N.LEN (B.bitmap base.now) ≤ len }
         requires bounded { len ≤ 2 ^ 62 }
@@ -50,7 +50,7 @@ impl<N: Chunks> ChunkOverlay<N> {
         }
     }
 
-    /// How many bits there are behind the step.
+    /// How many bits there are after the step.
     pub fn len(&self) -> u64
         ensures value { result ≡ self.now.count }
         ensures bounded { result ≤ 2 ^ 62 }
@@ -58,7 +58,7 @@ impl<N: Chunks> ChunkOverlay<N> {
         self.len
     }
 
-    // Puts clear bits behind the others until there are `len`.
+    // Puts clear bits after the others until there are `len`.
     pub(crate) fn extend_to(&mut self, len: u64)
         requires not_below { self.old.count ≤ len }
         requires bounded { len ≤ 2 ^ 62 }
@@ -70,14 +70,14 @@ impl<N: Chunks> ChunkOverlay<N> {
         self.len = len;
     }
 
-    /// How many chunks have all their bits behind the step.
+    /// How many chunks have all their bits after the step.
     pub fn complete_chunks(&self) -> usize
         ensures { result ≡ self.now.count / (8 * N.LEN) }
     {
         (self.len / N::span()) as usize
     }
 
-    /// The bytes of a chunk, where the step changes it.
+    /// The bytes of a chunk, if the step changes it.
     pub fn get(&self, chunk: usize) -> Option<&[u8]>
         ensures value { option_map (λ bytes. bytes.now) result
             ≡ option_map (packed N.LEN) (changed_at self.now.changed chunk) }
@@ -101,7 +101,7 @@ impl<N: Chunks> ChunkOverlay<N> {
         Ok(found)
     }
 
-    // The bit at a place, where the step changes its chunk.
+    // The bit at a place, if the step changes its chunk.
     pub(crate) fn bit(&self, at: u64) -> Option<bool>
         ensures value { result
             ≡ option_map (λ bits. slice_index_or bits (at % (8 * N.LEN)) false)
@@ -172,7 +172,7 @@ impl<N: Chunks> ChunkOverlay<N> {
         insert_in(&mut self.changed, chunk, bits)
     }
 
-    // Sets or clears a bit, where its chunk is not pruned. Want of memory is the only error, and leaves all as it was.
+    // Sets or clears a bit, if its chunk is not pruned. Want of memory is the only error, and leaves all as it was.
     fn change<B: Readable<N>>(
         &mut self,
         alloc: Global,
@@ -200,7 +200,7 @@ impl<N: Chunks> ChunkOverlay<N> {
         Ok(())
     }
 
-    /// Sets the bit at a place, over the bitmap that the changes were begun over. Where its chunk is pruned nothing is done. Want of memory is the only error, and leaves all as it was.
+    /// Sets the bit at a place, over the bitmap that the changes were begun over. If its chunk is pruned nothing is done. Want of memory is the only error, and leaves all as it was.
     pub fn set_bit<B: Readable<N>>(
         &mut self,
         alloc: Global,
@@ -221,7 +221,7 @@ impl<N: Chunks> ChunkOverlay<N> {
         self.change(alloc, base, at, true)
     }
 
-    /// Clears the bit at a place, over the bitmap that the changes were begun over. Where its chunk is pruned nothing is done: pruned bits are clear. Want of memory is the only error, and leaves all as it was.
+    /// Clears the bit at a place, over the bitmap that the changes were begun over. If its chunk is pruned nothing is done: pruned bits are clear. Want of memory is the only error, and leaves all as it was.
     pub fn clear_bit<B: Readable<N>>(
         &mut self,
         alloc: Global,

@@ -20,7 +20,7 @@ use std::rc::Rc;
 
 /// Brings the bits of a list up to those of the list, of so many operations, that steps lead to, by their diffs, newest
 /// first: the bit of each live update that they supersede is cleared, and so is that of the old commit, and those of the
-/// new live updates and of the last operation are set. Want of memory is the only error; where a change of one bit wants
+/// new live updates and of the last operation are set. Want of memory is the only error; if a change of one bit wants
 /// none it leaves the bits as they were.
 pub fn apply_bits<F, K: ByteString, V: ByteString, N: Chunks, M: Marks<N>>(
     activity: &mut M,

@@ -69,7 +69,7 @@ wrong-size size (Some b) there none = elim (true_or_false (length b == size)) [
   | inr wrong ↦ ap not wrong
 ]
 
--- one that is there and has not a digest's size, where none is missing
+-- one that is there and has not a digest's size, if none is missing
 pub invalid : (size : ℕ) (es : List Entry) (n m : ℕ) → n < m → list_any is_none (numbered es m) ≡ false → digest_in size (entry_of es (metadata_key 0 n)) ≡ None → pins_refusal size (numbered es m) ≡ Some InvalidPin
 invalid size es n m low there none =
     let here : is_none (entry_of es (metadata_key 0 n)) ≡ false = elim (true_or_false (is_none (entry_of es (metadata_key 0 n)))) [
@@ -189,7 +189,7 @@ pub count-refused : (shape : Shape) (size height : ℕ) (layout : Layout) (es : 
 count-refused shape size height layout es laid c is =
     inr (c, refl, refusal-split shape size height layout es laid ∙ ap (λ r. option_or r (pins_refusal size (numbered es (length (peaks shape (count_in es)))))) is)
 
--- where the count can be read, why the pins can't is why the metadata can't
+-- if the count can be read, why the pins can't is why the metadata can't
 pub pins-refused : (shape : Shape) (size height k : ℕ) (layout : Layout) (es : List Entry) → IsLaidOut shape size height layout → count_refusal height es ≡ None → k ≡ length (peaks shape (count_in es)) → (e : Error)
     → TellsWhy e (pins_refusal size (numbered es k)) → TellsWhy e (metadata_refusal layout es)
 pins-refused shape size height k layout es laid count peaked e (inl memory) = inl memory

@@ -24,7 +24,7 @@ pub record IsLaidOut (shape : Shape) (size height : ℕ) (layout : Layout) : Typ
   pub digests : layout.digest_size ≡ size
   pub chunks : option_map (λ (c : Chunks). c.height) layout.chunks ≡ Some height
 
--- the first pins, each where it is there
+-- the first pins, each if it is there
 abbrev pub numbered : List Entry → ℕ → List (Option Bytes)
 numbered entries zero = []
 numbered entries (suc n) = numbered entries n ++ entry_of entries (metadata_key 0 n) ∷ []

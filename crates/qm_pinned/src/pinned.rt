@@ -25,7 +25,7 @@ pub struct Pinned<D> {
 }
 
 impl<D> Pinned<D> {
-    /// The number of pruned chunks of 2^height locations, with the least size of a list from which they may go, where that is
+    /// The number of pruned chunks of 2^height locations, with the least size of a list from which they may go, if that is
     /// more than their own: what `init_with` of `qm_any` takes.
     pub fn pruned<F: Family>(&self, height: u32) -> (u64, Option<u64>)
         requires low { height < 62 }
@@ -63,7 +63,7 @@ fn number_of_eight(bytes: &[u8; 8]) -> u64
     u64::from_be_bytes(*bytes)
 }
 
-// How many chunks are pruned, where that is told by 8 bytes.
+// How many chunks are pruned, if that is told by 8 bytes.
 fn count_of(entries: &[MetaEntry]) -> Option<u64>
     ensures { SomeIff result (length (count_bytes entries.now) ≡ 8) (count_in entries.now) }
 {
@@ -85,7 +85,7 @@ fn has_pins(entries: &[MetaEntry], count: u32) -> bool
     true
 }
 
-// The pin of this number, where it is there and has a digest's size.
+// The pin of this number, if it is there and has a digest's size.
 fn read_pin<D: Digest>(entries: &[MetaEntry], number: u32) -> Option<D>
     ensures { option_map D.bytes result
         ≡ digest_in D.SIZE (entry_of entries.now (metadata_key 0 number)) }

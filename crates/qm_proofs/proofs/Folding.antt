@@ -8,7 +8,7 @@ use Rattle.qm_model.proofs.MmrPeaks.{test_true}
 use Rattle.qm_model.proofs.Proving.{less_true}
 use Rattle.qm_model.specs.Proofs.{Proof, has_root, verdict, Taken, rebuilt, rebuilt_peaks}
 
--- what a row of digests folds to behind one, the first n of them from the left
+-- what a row of digests folds to after one, the first n of them from the left
 abbrev pub folded_onto : (Bytes → Bytes) → Bytes → ℕ → List Bytes → Bytes
 folded_onto hash x n ds = fold_right hash (fold_left hash x (take n ds) ∷ drop n ds)
 
@@ -66,7 +66,7 @@ module _ (hash : Bytes → Bytes) (shape : Shape) (items : List Bytes) (a : ℕ)
       ap (λ k. option_map (folded hash k) (option_map (λ rest. d ∷ rest) o)) is
       ∙ mapped_twice (folded hash (suc n)) (λ rest. d ∷ rest) (folded_onto hash d n) (λ rest. refl) o
 
-  -- the steps of the folds, where a peak is the first of those that are left
+  -- the steps of the folds, if a peak is the first of those that are left
   module _ (qs : List Node) (p : Node) (ps : List Node) (ds : List Bytes) (is : qs ≡ p ∷ ps) where
     pub none_behind : (f : List Bytes → Bytes) → None ≡ rebuilt hash shape items a p.height p.index ds → None ≡ option_map f (rows qs ds)
     none_behind f none = sym (ap (λ xs. option_map f (rows xs ds)) is ∙ ap (option_map f) (rows_none p ps ds none))
@@ -117,7 +117,7 @@ module _ (hash : Bytes → Bytes) (shape : Shape) (items : List Bytes) (a : ℕ)
       at [] (d ∷ ds) last all part = part (omega arith)
       at (q ∷ qs) ds last all part = absurd (omega arith)
 
-  -- the verdict, where the numbers fit and the proof has a root
+  -- the verdict, if the numbers fit and the proof has a root
   pub verdict_is : (proof : Proof) (d expected : Bytes) → proof.leaves ≤ 2 ^ 62 → 0 < length items → a + length items ≤ proof.leaves → proof.inactive ≤ length (peaks shape proof.leaves) →
       Some d ≡ option_map (root_of hash proof.leaves proof.inactive) (rows (peaks shape proof.leaves) proof.digests) → verdict hash shape items a proof expected ≡ bytes_eq d expected
   verdict_is proof d expected few some within inactive is =
@@ -130,7 +130,7 @@ module _ (hash : Bytes → Bytes) (shape : Shape) (items : List Bytes) (a : ℕ)
       at None e = cc
       at (Some out) e = let same : d ≡ root_of hash proof.leaves proof.inactive out = cc in ap (λ x. bytes_eq x expected) (sym same)
 
-  -- it is no where the proof has no root, and where the numbers don't fit
+  -- it is no if the proof has no root, and if the numbers don't fit
   pub verdict_none : (proof : Proof) (expected : Bytes) → None ≡ option_map (root_of hash proof.leaves proof.inactive) (rows (peaks shape proof.leaves) proof.digests) → false ≡ verdict hash shape items a proof expected
   verdict_none proof expected is =
       none (nat_le proof.leaves (2 ^ 62)) (nat_lt 0 (length items)) (nat_le (a + length items) proof.leaves) (nat_le proof.inactive (length (peaks shape proof.leaves)))

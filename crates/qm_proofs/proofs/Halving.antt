@@ -75,7 +75,7 @@ needed_halves a b x l r high met left right =
         ∙ ap (λ k. needed a b k (2 * i) ++ needed a b k (2 * i + 1)) same
 
 module _ (hash : Bytes → Bytes) (shape : Shape) (items : List Bytes) (a : ℕ) where
-  -- a node over halves, from a left half and what is behind it
+  -- a node over halves, from a left half and what follows it
   abbrev over_left : ℕ → ℕ → ℕ → Bytes × List Bytes → Taken
   over_left number h i l = option_map (λ r. (node_digest hash number l.0 r.0, r.1)) (rebuilt hash shape items a h i l.1)
 

@@ -32,7 +32,7 @@ met : (a b s e : ℕ) → max a s < min b e → a < e
 met a b s e lt = grind (arith)
 
 module _ (shape : Shape) (births : Births) (family : IsFamily shape births) where
-  -- the nodes that a proof of leaves behind some needs of a node have nodes over them that were not there then
+  -- the nodes that a proof of leaves after some needs of a node have nodes over them that were not there then
   needed_bare : (from a b h i : ℕ) → from ≤ a → from < shape.birth (over (record { height = h; index = i })) → Each (λ x. from < shape.birth (over x)) (needed a b h i)
   needed_bare from a b zero i low bare = at (meets a b (leaf i))
     where
@@ -60,7 +60,7 @@ module _ (shape : Shape) (births : Births) (family : IsFamily shape births) wher
 
   module _ (peaked : HasPeaks shape) {D : Type 0} (kept : Kept D) where
     module _ (layers : List (Layer D)) (base : ℕ) (few : base ≤ 2 ^ 62) (there : AreThere shape layers kept base) where
-      -- layers over a tree have all nodes of a proof of leaves behind those that the tree forgot
+      -- layers over a tree have all nodes of a proof of leaves after those that the tree forgot
       pub needed_seen : (n a b : ℕ) → kept.start ≤ a → a ≤ n → n ≤ base → first_lacked (λ p. option_or (layers_at shape layers p) (node_at shape kept p)) (needed_positions shape n a b) ≡ None
       needed_seen n a b from within all =
           let small : n ≤ 2 ^ 62 = omega (arith, few) in
@@ -95,7 +95,7 @@ module _ (shape : Shape) (births : Births) (family : IsFamily shape births) wher
       kept_there : AreThere shape [] kept kept.leaves
       kept_there x born late = (held shape births family peaked kept whole (shape.position x) (node_at shape kept (shape.position x)) refl).1 (node_held shape births family peaked kept whole x born late)
 
-      -- so it holds all nodes of a proof of leaves behind those that it forgot
+      -- so it holds all nodes of a proof of leaves after those that it forgot
       pub needed_kept : (n a b : ℕ) → kept.start ≤ a → a ≤ n → n ≤ kept.leaves → first_lacked (node_at shape kept) (needed_positions shape n a b) ≡ None
       needed_kept = needed_seen [] kept.leaves whole.few kept_there
 

@@ -20,7 +20,7 @@ module _ {D : Type 0} (at : ℕ → Option D) where
       let tail : map Some ds ≡ map at xs = cc in
       ap (λ o. cond (is_none o) (Some x) (first_lacked at xs)) (sym head) ∙ none_lacked ds xs tail
 
-  -- nodes that were listed behind others are not lacked
+  -- nodes that were listed after others are not lacked
   pub none_lacked_more : (ds more : List D) (xs : List ℕ) → map Some more ≡ map Some ds ++ map at xs → first_lacked at xs ≡ None
   none_lacked_more [] more xs same = none_lacked more xs same
   none_lacked_more (d ∷ ds) [] xs same = cc
@@ -33,14 +33,14 @@ module _ {D : Type 0} (at : ℕ → Option D) where
   lacks_as xs ys e keeps = ⊎_elim (λ (memory : e ≡ Memory). inl memory)
       (λ (lack : (p : ℕ) × (first_lacked at xs ≡ Some p) × (e ≡ ElementPruned p)). inr (lack.0, keeps lack.0 lack.1, lack.2))
 
-  -- what is lacked of nodes is lacked of those and others, and of others behind those that are not
+  -- what is lacked of nodes is lacked of those and others, and of others after those that are not
   pub lacks_first : (xs ys zs : List ℕ) (e : MerkleError) → zs ≡ xs ++ ys → Lacks at xs e → Lacks at zs e
   lacks_first xs ys zs e same = lacks_as xs zs e (λ p is. ap (first_lacked at) same ∙ lacked_first xs ys p is)
 
   pub lacks_later : (xs ys zs : List ℕ) (e : MerkleError) → zs ≡ xs ++ ys → first_lacked at xs ≡ None → Lacks at ys e → Lacks at zs e
   lacks_later xs ys zs e same none = lacks_as ys zs e (λ p is. ap (first_lacked at) same ∙ lacked_later xs ys p none is)
 
-  -- a row behind others
+  -- a row after others
   pub listed_row : (old left right : List (Option D)) (xs ys : List ℕ) → left ≡ old ++ map at xs → right ≡ left ++ map at ys → right ≡ old ++ map at (xs ++ ys)
   listed_row old left right xs ys first then = then ∙ ap (λ z. z ++ map at ys) first ∙ append_assoc old (map at xs) (map at ys) ∙ ap (λ z. old ++ z) (sym (map-append at xs ys))
 
@@ -63,7 +63,7 @@ module _ {X A : Type 0} (f : X → List A) where
       ap (λ z. f y ++ z) (rows_around xs k x is) ∙ sym (append_assoc (f y) (flat_map f (take k xs)) (f x ++ flat_map f (drop (k + 1) xs)))
       ∙ ap (λ j. (f y ++ flat_map f (take k xs)) ++ (f x ++ flat_map f (drop j (y ∷ xs)))) next
 
-  -- where nodes are listed row by row
+  -- if nodes are listed row by row
   pub positions_next : (position : A → ℕ) {D : Type 0} (at : ℕ → Option D) (old new : List (Option D)) (xs : List X) (k : ℕ) (x : X) → slice_get xs k ≡ Some x →
       old ≡ map at (map position (flat_map f (take k xs))) → new ≡ old ++ map at (map position (f x)) → new ≡ map at (map position (flat_map f (take (k + 1) xs)))
   positions_next position at old new xs k x is before then =

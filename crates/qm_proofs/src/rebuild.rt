@@ -74,7 +74,7 @@ impl<D: Digest> Proof<D> {
         self.fold_onto(hasher, elements, start, 1, first, used)
     }
 
-    // The digest that the peaks from a number on fold to from the right, where so many digests are used.
+    // The digest that the peaks from a number on fold to from the right, if so many digests are used.
     fn fold_right<F: Family, H: Hasher<Digest = D>, E: Spelled>(
         &self,
         hasher: &mut StandardHasher<H>,
@@ -139,7 +139,7 @@ impl<D: Digest> Proof<D> {
         self.fold_onto(hasher, elements, start, number + 1, folded, used)
     }
 
-    // A node's digest, where so many digests are used, and how many are used with it.
+    // A node's digest, if so many digests are used, and how many are used with it.
     fn rebuild<F: Family, H: Hasher<Digest = D>, E: Spelled>(
         &self,
         hasher: &mut StandardHasher<H>,

@@ -59,7 +59,7 @@ module _ (shape : Shape) (births : Births) (family : IsFamily shape births) (siz
       whole n zero low = omega arith
       whole n (suc k) low = omega (arith, family.inside (chunk_node (grafting size) k), grafted_born shape (grafting size) n k prompt low)
 
-  -- what a step does to chunks, where those before one are inactive
+  -- what a step does to chunks, if those before one are inactive
   pub step-of : (hash : Bytes → Bytes) (form : Form) (overlay : Overlay) (base tip : List Operation) (count start : ℕ) → IsOverlay size overlay base tip → Begins base tip → count * (8 * size) ≤ length base
       → ((c : ℕ) → c < start → chunk size (bits base) c ≡ chunk size (bits tip) c)
       → IsStep (grafting size) count (filter (nat_le start) (map (λ e. e.0) overlay.changed)) (leaves_from hash shape form 0 base) (leaves_from hash shape form 0 tip) (chunk_of (grafting size) base) (chunk_of (grafting size) tip)

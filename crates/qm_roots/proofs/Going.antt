@@ -44,7 +44,7 @@ module _ (shape : Shape) (g : ℕ) where
           (le_trans (rising fewer (most - 1) (omega (arith, next, within))) (subst (λ k. needed_size shape g k ≤ n) (sym last) there)))
           (cases_lt most c)
 
-  -- those that an opening finds pruned may go, where the list ends behind them and has the size that they wait for
+  -- those that an opening finds pruned may go, if the list ends after them and has the size that they wait for
   pub opened-goes : ((c : ℕ) → pair_absorption_threshold shape g (suc c) ≡ None → shape.birth (chunk_node g c) ≤ suc c * 2 ^ g) → (n c : ℕ) → c * 2 ^ g ≤ n
       → ((least : ℕ) → pair_absorption_threshold shape g c ≡ Some least → least ≤ n) → MayGo shape g c n
   opened-goes ready n zero inside waits more = absurd (omega (arith, more))

@@ -16,7 +16,7 @@ module _ {D : Type 0} (shape : Shape) (births : Births) (family : IsFamily shape
     (prompt : (c : ℕ) → shape.birth (chunk_node (grafting size) c) ≤ suc (suc c) * 2 ^ grafting size)
     (mem : Kept D) (whole : IsWhole shape mem) (layers : List (Layer D)) (n : ℕ) (linked : AreLinked shape n layers) (stop : Contains (stops n layers) mem.leaves)
     (held : ℕ → Option D) (is : (x : Node) → held (shape.position x) ≡ seen_at shape layers mem x) where
-  -- over the chunks from the pruned ones on, where the tree is kept from the first of these
+  -- over the chunks from the pruned ones on, if the tree is kept from the first of these
   pub chunks-held : (pruned c : ℕ) → mem.start < suc pruned * (8 * size) → pruned ≤ c → c < grafted_chunks shape (grafting size) n → IsSome (node_over held shape (grafting size) c)
   chunks-held pruned c low from to =
       let x = chunk_node (grafting size) c in

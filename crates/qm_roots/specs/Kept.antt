@@ -25,7 +25,7 @@ pub record Kept (D : Type 0) : Type 0 where
   pub layers : List (Layer D)
   pub root : Bytes
 
--- the layers of a tree's batch, where there is one
+-- the layers of a tree's batch, if there is one
 abbrev pub layers_of : {D : Type 0} → Option (Batch D) → List (Layer D)
 layers_of None = []
 layers_of (Some batch) = all_layers batch

@@ -121,7 +121,7 @@ impl<F: Graftable, N: Chunks, D: Digest> Canonical<F, N, D> {
         Ok(kept)
     }
 
-    /// Takes a batch, where the list is one that the batch leads through: nothing is hashed. Want of memory is the only error, and
+    /// Takes a batch, if the list is one that the batch leads through: nothing is hashed. Want of memory is the only error, and
     /// leaves all as it was.
     pub fn apply(&mut self, batch: &Kept<F, N, D>) -> Result<(), AllocError>
         requires { Contains (sizes_of batch.now) self.old.size }

@@ -114,7 +114,7 @@ impl<F: Graftable, N: Chunks, D: Digest> Kept<F, N, D> {
         self.root
     }
 
-    /// How many of the newest steps a database of this size lacks, where one of the lists that they lead through has it: the fewest.
+    /// How many of the newest steps a database of this size lacks, if one of the lists that they lead through has it: the fewest.
     pub fn lacking(&self, size: u64) -> usize
         ensures { (n : ℕ) → n < length (sizes_of self.now) → get_or (sizes_of self.now) n 0 ≡ size
             → (result ≤ n) × (get_or (sizes_of self.now) result 0 ≡ size) }

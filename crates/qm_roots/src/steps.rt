@@ -61,7 +61,7 @@ pub(crate) fn stepped<F, K: ByteString, V: ByteString, N: Chunks>(
         → IfOk result (λ r. IsOverlay N.LEN r.value base tip) }
 {
     let overlay = overlay_of::<F, K, V, N, _>(alloc, bits, size, diffs)?;
-    // its clauses say that no bit is set behind the last one
+    // its clauses say that no bit is set after the last one
     overlay.get(0);
     let overlay = Rc::new(alloc, overlay)?;
     bits.push(overlay.clone()?)?;

@@ -166,7 +166,7 @@ counted-head (own ∷ owns) index_key p ps =
     by true = omega arith
     by false = omega arith
 
--- where each index key of a place is in one part, the parts have as many places as there are
+-- if each index key of a place is in one part, the parts have as many places as there are
 pub counted : (owns : List (ℕ → Bool)) (index_key : Bytes → ℕ) (ps : Places) → All (λ p. sum_by (λ own. tick (own (index_key p.0))) owns ≡ 1) ps
     → sum_by (λ own. length (filter (λ p. own (index_key p.0)) ps)) owns ≡ length ps
 counted owns index_key [] one = none owns
@@ -193,7 +193,7 @@ push_update true b e test xs tail h = refl
 push_update false true e test xs tail h = ap (λ t. cond t (e ∷ filter test xs) (filter test xs) ++ tail) (sym h)
 push_update false false e test xs tail h = ap (λ t. cond t (e ∷ filter test xs) (filter test xs) ++ tail) (sym h)
 
--- what a worker's live updates become by its next operation: those that it does not touch, and itself where it is an update
+-- what a worker's live updates become by its next operation: those that it does not touch, and itself if it is an update
 pub live-push : (rs : Routed) (at : ℕ) (op : Operation) →
     live_routed (rs ++ (at, op) ∷ []) ≡ filter (λ e. not (touches e.key op)) (live_routed rs) ++ option_to_list (live_at at op [])
 live-push [] at op = cons_option-nil (live_at at op [])

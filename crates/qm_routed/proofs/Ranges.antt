@@ -12,7 +12,7 @@ begins-later partitions workers w some =
     let more : w * partitions ≤ suc w * partitions = mul-le-mul_right partitions (omega arith) in
     le-div (begin_of partitions workers w) (suc w * partitions) workers some (omega (arith, whole, more))
 
--- as many as there are where the partition is below where the next one begins: one, else none
+-- as many as there are if the partition is below where the next one begins: one, else none
 pub owners-are : (partitions workers p n : ℕ) → 0 < workers → owners partitions workers p n ≡ tick (nat_lt p (begin_of partitions workers n))
 owners-are partitions workers p zero some = sym (ap tick (ap (nat_lt p) (none workers some) ∙ le-ltb p 0 (omega arith)))
   where

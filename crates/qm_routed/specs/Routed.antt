@@ -68,7 +68,7 @@ abbrev pub has_partition : ℕ → ℕ → ℕ → ℕ → Bool
 has_partition partitions workers w p =
     nat_le (begin_of partitions workers w) p && nat_lt p (begin_of partitions workers (suc w))
 
--- 1 where it is, else 0
+-- 1 if it is, else 0
 abbrev pub tick : Bool → ℕ
 tick true = 1
 tick false = 0

@@ -25,7 +25,7 @@ pub fn an_operation_moves_its_key()
         ≡ moved (places_routed rs) key (then_some (is_update op) at) }
 {}
 
-/// Where the index key of each place is in exactly one part, the parts have as many places as there are.
+/// If the index key of each place is in exactly one part, the parts have as many places as there are.
 pub fn counts_add_up()
     ensures { (parts : List (ℕ → Bool)) (index_key : Bytes → ℕ) (ps : Places)
         → All (λ p. sum_by (λ own. tick (own (index_key p.0))) parts ≡ 1) ps

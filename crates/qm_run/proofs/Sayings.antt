@@ -131,7 +131,7 @@ both None i p r h = tt
 both (Some x) None p r h = tt
 both (Some x) (Some y) p r h = h x y p r
 
--- where no kind is named
+-- if no kind is named
 pub at_none : (kind : Option Named) (Q : Scheme → Type 0) → kind ≡ None → IfSome (option_map machine_of kind) Q
 at_none kind Q is = subst (λ k. IfSome (option_map machine_of k) Q) (sym is) tt
 

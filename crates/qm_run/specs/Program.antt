@@ -95,8 +95,8 @@ module _ (m : Scheme) (log : Log) (choices : List ℕ) (input : Bytes) where
   abbrev pub IsLeftAt : Option Stored → ℕ → Type 0
   IsLeftAt left k = IsOwnLeft m policies left (state k).log (state (suc k)).log
 
-  -- k commands answered: a first part of their replies; of these and the fault, where the store's count rose and not all are answered; of
-  -- these and the bad line, where there is one behind them
+  -- k commands answered: a first part of their replies; of these and the fault, if the store's count rose and not all are answered; of
+  -- these and the bad line, if there is one after them
   pub record IsPartial (rose : Type 0) (written : Bytes) (left : Option Stored) (k : ℕ) : Type 0 where
     pub few : k ≤ count
     pub part : IsApart k → IsPartOf written (model_text k)
@@ -118,7 +118,7 @@ module _ (m : Scheme) (log : Log) (choices : List ℕ) (input : Bytes) where
     pub nothing : (status ≡ 1) ⊎ ((status ≡ 3) ⊎ (status ≡ 7)) → written ≡ []
 
 -- It says so of a store that such databases left, or of the empty one, by the log that it has. The ends
--- that its restarts chose are those that it tells behind those that it told before.
+-- that its restarts chose are those that it tells after those that it told before.
 abbrev pub Says : Scheme → Stored → Bytes → ℕ → Type 0 → Bytes → Option Stored → Type 0
 Says m stored input status rose written left =
     (log : Log) → IsOwn (engine_of m policies) log stored

@@ -321,7 +321,7 @@ pub fn qmdb_main<C: Store + Drop, S: Source, K: Sink, G: Gate>(
         → (result.0 ≡ 1) ⊎ ((result.0 ≡ 3) ⊎ ((result.0 ≡ 5) ⊎ (result.0 ≡ 7)))) }
     ensures codes { result.0 ≤ 7 }
 
-    // Where nothing failed, an input has all its replies, unless memory ran out.
+    // If nothing failed, an input has all its replies, unless memory ran out.
     ensures complete { are_words (map string_bytes words.now) ≡ true
         → IfSome (S.left source.old) (λ input. length input ≤ LIMIT → bad_in input ≡ None
         → ¬ Rose (S.faults source.old) (S.faults source.new)

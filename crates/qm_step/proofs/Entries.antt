@@ -34,7 +34,7 @@ place-of_link list key = by (live_of (live list) key)
     by None = refl
     by (Some e) = refl
 
--- the change of a key, where the first entry is its own or not
+-- the change of a key, whether the first entry is its own or not
 pub change_in-cons : (k key : Bytes) (what : Change) (rest : Changes) → change_in ((k, what) ∷ rest) key ≡ cond (bytes_eq k key) (Some what) (change_in rest key)
 change_in-cons k key what rest = by (bytes_eq k key)
   where

@@ -135,7 +135,7 @@ module _ (limit : Limit) (front behind : List Bytes) (m : Bytes) (asc : Ascends 
   over : (x : Bytes) → Has behind x → key_lt m x ≡ true
   over x h = each-of (λ later. key_lt m later ≡ true) behind x (back-ascends front (m ∷ behind) asc).0 h
 
-  -- where the middle is before the limit, the last key is behind it, or else it is the middle
+  -- if the middle is before the limit, the last key is after it, or else it is the middle
   pub last-behind : is_before limit m ≡ true → last_key limit (front ++ m ∷ behind) ≡ option_or (last_key limit behind) (Some m)
   last-behind before = last-append limit front (m ∷ behind) ∙ ap (later_key (last_key limit front)) (last-append limit (m ∷ []) behind ∙ ap (λ o. later_key o (last_key limit behind)) alone) ∙ cases (last_key limit behind) refl (last_key limit front) refl
     where
@@ -156,7 +156,7 @@ module _ (limit : Limit) (front behind : List Bytes) (m : Bytes) (asc : Ascends 
           let up = over b (last-is limit behind b e).0 in
           ap (later_key f) (ap (λ t. Some (if t then b else m)) up) ∙ later-above f b (raised f b up (lower f g))
 
-  -- where it is not, the last key is in front of it
+  -- if it is not, the last key is in front of it
   pub last-front : is_before limit m ≡ false → last_key limit (front ++ m ∷ behind) ≡ last_key limit front
   last-front past = last-append limit front (m ∷ behind) ∙ ap (later_key (last_key limit front)) (cases (last_key limit (m ∷ behind)) refl) ∙ later-none (last_key limit front)
     where

@@ -23,7 +23,7 @@ use Rattle.qm_step.specs.Nearest.{last_key, later_at, lent_before, only_within, 
 use Rattle.qm_step.proofs.LastKeys.{last-is, last-same}
 use Rattle.qm_step.proofs.Standing.{live-stands, live-of_key, of_key-within}
 
--- the greatest of the keys and of one more, where there is one
+-- the greatest of the keys and of one more, if there is one
 abbrev greatest_from : Option Bytes → List Bytes → Option Bytes
 greatest_from None ks = greatest ks
 greatest_from (Some a) ks = Some (fold greater a ks)
@@ -126,7 +126,7 @@ module _ (list : List Operation) where
         (All-map IsLiveAt (λ (e : Live). e.location) of_bucket (All-filter (λ (e : Live). index_key e.key == n) (λ e. IsLiveAt e.location) (live list)
         (All-weaker (Contains (live list)) (λ e. IsLiveAt e.location) (λ e within. (e, within, refl)) (live list) (All-contains_itself (live list)))))
 
-    -- so none stands below the log's start where no live update does
+    -- so none stands below the log's start if no live update does
     pub bucket-above : (start : ℕ) → NoneBelow start list → All (λ at. start ≤ at) (bucket_at entries n)
     bucket-above start none =
         All-weaker IsLiveAt (λ at. start ≤ at) (λ at h. subst (λ m. start ≤ m) h.2 (All-contains (λ (e : Live). start ≤ e.location) (live list) h.0 none h.1)) (bucket_at entries n) bucket-live
@@ -174,7 +174,7 @@ module _ (list : List Operation) where
             no : {X : Type 0} {x : X} → None ≡ Some x → ⊥
             no same = cc
 
-  -- what is found in a key's own bucket, and where nothing is, in the bucket before it
+  -- what is found in a key's own bucket, and if nothing is, in the bucket before it
   module _ (index_key : Bytes → ℕ) (entries : List (ℕ × List ℕ)) (indexed : IsIndexed index_key entries list) (key : Bytes) where
     abbrev prev : Option (ℕ × Bool)
     prev = prev_key (keys_of entries) (index_key key)

@@ -147,7 +147,7 @@ module _ (base : List Operation) where
   pub before-changed : (w : Write) → is_changed (live base) w ≡ true → option_and_then before_of (neighbour_in base w) ≡ predecessor (live_keys base) w.key
   before-changed w is = ap (λ t. option_and_then before_of (if t then Some (w.key, previous_of base w.key) else None)) is ∙ previous-key w.key
 
-  -- the key before a key that changes, where a neighbour has it
+  -- the key before a key that changes, if a neighbour has it
   pub before-is : (w : Write) (q : Bytes) → option_and_then before_of (neighbour_in base w) ≡ Some q → (predecessor (live_keys base) w.key ≡ Some q) × (is_changed (live base) w ≡ true)
   before-is w q h = by (is_changed (live base) w) refl h
     where
@@ -312,7 +312,7 @@ own-writes (u ∷ us) single = (
       (λ w other is. ap (λ t. cond t (Some u) (write_of us w.key)) (bytes-turned u.key w.key ∙ other) ∙ is) us single.0 (own-writes us single.1),
 )
 
--- updates of keys behind which the same key comes
+-- updates of keys after which the same key comes
 pub named-linked : {X : Type 0} (get : X → Bytes) (find : Bytes → Option X) (afters many keys : List Bytes) → ((k : Bytes) → Has keys k → Some (key_after afters k) ≡ successor many k) →
     map (named afters) (filter_map (λ k. option_map (λ x. update k (get x) None) (find k)) keys) ≡ map (linked many) (filter_map (λ k. option_map (λ x. update k (get x) None) (find k)) keys)
 named-linked get find afters many [] same = refl

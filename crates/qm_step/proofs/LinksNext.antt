@@ -1,11 +1,11 @@
--- The nearest keys among those that stay, by what stood before and behind keys that go or come.
+-- The nearest keys among those that stay, by what stood before and after keys that go or come.
 use Rattle.std.proofs.Common.{◌≡◌, Bool, true, false, List, [], ◌∷◌, ◌++◌, ap, sym, ◌∙◌, refl, Option, Some, None, ◌⊎◌, inl, inr, ◌&&◌}
 use Rattle.std.specs.Prelude.{not, if◌then◌else◌}
 use Rattle.qm_model.specs.Operations.{Bytes}
 use Rattle.qm_model.specs.Keys.{successor, predecessor, contains_key, without, IsNext, IsPrevious}
 use Rattle.qm_model.proofs.KeyOrder.{Has, Has-first, Has-later, or-left, or-right, or-either, and-true, and-both, not-true, apart, contains-append, contains-without, successor-is, is-successor, successor-some, predecessor-is, is-predecessor, predecessor-some, predecessor-none, before-fewer, after-fewer, successor-predecessor, predecessor-successor, successor-only, predecessor-only, successor-append, predecessor-append, predecessor-new, successor-skips}
 
--- where keys go, the key before one among those kept is its own neighbour or that of a key that went
+-- if keys go, the key before one among those kept is its own neighbour or that of a key that went
 before-kept : (all kept : List Bytes) → ((x : Bytes) → Has kept x → Has all x) → (x q : Bytes) → predecessor kept x ≡ Some q →
     (predecessor all x ≡ Some q) ⊎ ((s : Bytes) × Has all s × (contains_key kept s ≡ false) × (predecessor all s ≡ Some q))
 before-kept all kept part x q h = cases (contains_key kept next.0) refl
@@ -23,7 +23,7 @@ before-kept all kept part x q h = cases (contains_key kept next.0) refl
         let first = successor-is (x ∷ all) q x both in
         inl (is-predecessor all x q (record { has = part q is.has; near = λ y at. first.near y (Has-later x all y at) }))
 
--- and a key that stays is named by the key itself behind which it comes, or by one that went
+-- and a key that stays is named by the key itself after which it comes, or by one that went
 after-kept : (all kept more : List Bytes) → ((x : Bytes) → Has kept x → Has all x) → ((x : Bytes) → Has kept x → Has more x) → (k s : Bytes) → Has kept s → successor more k ≡ Some s →
     (successor all k ≡ Some s) ⊎ ((t : Bytes) × Has all t × (contains_key kept t ≡ false) × (successor all t ≡ Some s))
 after-kept all kept more part into k s stays h = cases (contains_key kept back.0) refl
@@ -41,7 +41,7 @@ after-kept all kept more part into k s stays h = cases (contains_key kept back.0
         let first = predecessor-is (k ∷ all) s k both in
         inl (is-successor all k s (record { has = part s stays; near = λ y at. first.near y (Has-later k all y at) }))
 
--- the key before one that is not there names the key behind it
+-- the key before one that is not there names the key after it
 pub neighbour-names : (all : List Bytes) (k p s : Bytes) → contains_key all k ≡ false → predecessor all k ≡ Some p → successor all k ≡ Some s → successor all p ≡ Some s
 neighbour-names all k p s none before behind =
     let alone = successor-is (k ∷ []) p k (successor-only k p) in
@@ -82,7 +82,7 @@ module _ (all gone new : List Bytes) where
           ] in
           sym (is-predecessor befores x t (before-fewer stay befores x t within has is)) ∙ q
 
-  -- and the key behind one is the nearest that is new or is named by a key that goes, or by the key itself
+  -- and the key after one is the nearest that is new or is named by a key that goes, or by the key itself
   pub after-among : (afters : List Bytes) → ((x : Bytes) → Has afters x → Has (stay ++ new) x) → ((t s : Bytes) → Has gone t → successor all t ≡ Some s → Has stay s → Has afters s) → ((s : Bytes) → Has new s → Has afters s) →
       (k s : Bytes) → (successor all k ≡ Some s → Has stay s → Has afters s) → successor (stay ++ new) k ≡ Some s → successor afters k ≡ Some s
   after-among afters within named fresh k s own h =

@@ -46,7 +46,7 @@ module _ {X : Type 0} where
           ∙ ap (λ t. bytes_eq e.0.now x || t) (sym (contains-append (keys_in es) (k.now ∷ []) x))
       by Greater is later = ap (λ t. bytes_eq e.0.now x || t) later
 
-  -- what holds of keys with values holds where one is put for which it does
+  -- what holds of keys with values holds if one is put for which it does
   put-all : (Q : Bytes → X → Type 0) (es : List (Bor Bytes × X)) (k : Bor Bytes) (v : X) → Q k.now v → All (λ e. Q e.0.now e.1) es → All (λ e. Q e.0.now e.1) (insert_entry by_bytes es k v)
   put-all Q [] k v here all = All-cons (λ e. Q e.0.now e.1) (k, v) [] here (All-nil (λ e. Q e.0.now e.1))
   put-all Q (e ∷ es) k v here all = by (by_bytes k e.0) refl (put-all Q es k v here (All-tail P e es all))
@@ -59,7 +59,7 @@ module _ {X : Type 0} where
       by Equal is later = All-cons (λ e. Q e.0.now e.1) (e.0, v) es (subst (λ b. Q b v) (equal_keys k.now e.0.now is) here) (All-tail (λ e. Q e.0.now e.1) e es all)
       by Greater is later = All-cons (λ e. Q e.0.now e.1) e (insert_entry by_bytes es k v) (All-head (λ e. Q e.0.now e.1) e es all) later
 
-  -- a key is looked up where it is among the keys
+  -- a key is looked up if it is among the keys
   lookup-has : (es : List (Bor Bytes × X)) (x : Bytes) → is_some (lookup (λ k. is_eq (slice_cmp nat_cmp x k.now)) es) ≡ contains_key (keys_in es) x
   lookup-has [] x = refl
   lookup-has (e ∷ es) x =
@@ -84,7 +84,7 @@ module _ {X : Type 0} where
   pub gone-none : (es : List (Bor Bytes × X)) (gone : List Bytes) (key : Bytes) → contains_key gone key ≡ true → SameKeys (keys_in es) (keys_in es ++ without gone (key ∷ []))
   gone-none es gone key is x = ap (λ t. contains_key t x) (sym (append-nil (keys_in es))) ∙ ap (λ t. contains_key (keys_in es ++ cond (not t) (key ∷ []) []) x) (sym is)
 
--- what comes behind keys that are the same
+-- what comes after keys that are the same
 pub same-more : (old mid new front more back : List Bytes) → SameKeys old (front ++ mid) → SameKeys new (old ++ more) → mid ++ more ≡ back → SameKeys new (front ++ back)
 same-more old mid new front more back so_far step is x =
     step x ∙ contains-append old more x ∙ ap (λ t. t || contains_key more x) (so_far x ∙ contains-append front mid x) ∙ regroup (contains_key front x) (contains_key mid x) (contains_key more x)
@@ -134,7 +134,7 @@ module _ {A B : Type 0} (view : A → B) where
       by None = refl
       by (Some k) = refl
 
-  -- one key more behind those that are made
+  -- one key more after those that are made
   pub made-next : (gone : List Bytes) (f : B → Option Bytes) (xs : List A) (i : ℕ) (d : A) → i < length xs → d ≡ get_or xs i d → (front old new : List Bytes) (o : Option Bytes) →
       SameKeys old (front ++ without gone (filter_map f (map view (take i xs)))) → SameKeys new (old ++ without gone (option_to_list o)) → o ≡ f (view d) → SameKeys new (front ++ without gone (filter_map f (map view (take (i + 1) xs))))
   made-next gone f xs i d within here front old new o so_far step is =

@@ -55,7 +55,7 @@ module _ {K V : Type 0} (key : K → Bytes) (value : V → Bytes) where
   keys-shown [] = refl
   keys-shown (d ∷ ds) = ap (λ ks. key d.key ∷ ks) (keys-shown ds)
 
--- where none goes none is evicted
+-- if none goes none is evicted
 pub none-gone : {K V : Type 0} (key : K → Bytes) (value : V → Bytes) (ds : List (declared.Decided K V)) → count_by (λ d. is_none d.value) ds ≡ 0 → passing is_none (decided_views key value ds) ≡ []
 none-gone {K} {V} key value ds none =
     sym (gone-shown key value ds) ∙ ap (map (λ (d : declared.Decided K V). key d.key)) (empty (filter (λ d. is_none d.value) ds) (length-filter (λ (d : declared.Decided K V). is_none d.value) ds ∙ none))
@@ -199,7 +199,7 @@ module _ (list : List Operation) (made : List Touch) (size : ℕ) (long : size �
             ∙ sym (map-append (touch_in list) (map (linked remaining) ms) (map (linked remaining) bs))
             ∙ ap (map (touch_in list)) (sym (map-append (linked remaining) ms bs))
 
-  -- where no key is evicted each moved key keeps its next one
+  -- if no key is evicted each moved key keeps its next one
   module _ (none : passing is_none ds ≡ []) where
     all_kept : (keys : List Bytes) → without [] keys ≡ keys
     all_kept [] = refl

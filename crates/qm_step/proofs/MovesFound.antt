@@ -77,7 +77,7 @@ module _ (mid : List Operation) where
           ∙ ap (cons_option (predecessor (live_keys mid) d.key)) later
       by false later = later
 
-  -- before none, where none goes
+  -- before none, if none goes
   pub none-before : (ds : List Decided) → passing is_none ds ≡ [] → filter_map (before_evicted mid) ds ≡ []
   none-before [] none = refl
   none-before (d ∷ ds) none = by (is_none d.value) none (none-before ds)
@@ -87,7 +87,7 @@ module _ (mid : List Operation) where
       by true none later = absurd (cc)
       by false none later = later none
 
--- where a test holds of the same as another
+-- if a test holds of the same as another
 alike : (a b : Bool) → (a ≡ true → b ≡ true) → (b ≡ true → a ≡ true) → a ≡ b
 alike true b p q = sym (p refl)
 alike false true p q = q refl

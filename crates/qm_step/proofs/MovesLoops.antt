@@ -77,7 +77,7 @@ pub taken-more : {A Y : Type 0} (f : A → Y) (xs : List A) (i : ℕ) (d : A) (m
 taken-more f xs i d made made' y l here pushed shown so_far =
     pushed ∙ ap₂ (λ ys z. ys ++ z ∷ []) so_far (shown ∙ ap f here) ∙ sym (ap (map f) (take_more xs i d l) ∙ map-append f (take i xs) (get_or xs i d ∷ []))
 
--- an update written again, and none where it would name no key
+-- an update written again, and none if it would name no key
 pub rewritten-some : (next : Option Bytes) (key value : Bytes) (said : Operation) (before at : Option ℕ) → Some said ≡ update_naming next key (Some value) → before ≡ at → Some (record { operation = said; before = before }) ≡ rewritten_naming next at key value
 rewritten-some None key value said before at is there = cc
 rewritten-some (Some n) key value said before at is there = ap₂ (λ op b. Some (record { operation = op; before = b })) (same_Some said (update key value (Some n)) is) there

@@ -143,7 +143,7 @@ pub moved-not-evicted : (ds : List Decided) (d : Decided) → IsDistinct bytes_e
 unfolding Stays
 moved-not-evicted ds d distinct within some = All-contains (Stays (passing is_none ds)) ds d (All-from_recursion (Stays (passing is_none ds)) ds (moved-stay ds distinct)) within some
 
--- where decisions name the successors of their keys, the keys that they name without those that are evicted have the same
+-- if decisions name the successors of their keys, the keys that they name without those that are evicted have the same
 -- successors of moved and of broken keys as the remaining keys
 module _ (before : List Bytes) (ds : List Decided) (names : List Bytes) (here : Each (λ d. Has before d.key × (d.next ≡ successor before d.key)) ds)
     (are : (x : Bytes) → contains_key names x ≡ (contains_key (nexts ds) x && not (contains_key (evicted_keys (map write_for ds)) x))) where

@@ -19,7 +19,7 @@ below a b h = grind (arith, nat_tests, h)
 not_below : (a b : ℕ) → b ≤ a → nat_lt a b ≡ false
 not_below a b h = grind (arith, nat_tests, h)
 
--- a place in the base list, one of an operation behind it, and one behind all
+-- a place in the base list, one of an operation after it, and one after all
 pub placed-low : (size : ℕ) (made : List Touch) (at : ℕ) → at < size → Some at ≡ place_before size made at
 placed-low size made at low = ap (λ t. if t then Some at else option_and_then (λ (t : Touch). t.before) (slice_get made (at - size))) (sym (below at size low))
 

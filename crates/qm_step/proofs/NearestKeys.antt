@@ -17,7 +17,7 @@ use Rattle.qm_model.specs.Keys.{key_lt, successor, predecessor, contains_key}
 use Rattle.qm_model.proofs.KeyOrder.{Has, Has-either}
 use Rattle.qm_model.proofs.KeySorts.{successor-cut, successor-wraps, predecessor-cut, predecessor-wraps}
 
--- a list cut at an element, where no key of one part passes
+-- a list cut at an element, if no key of one part passes
 record Cut {E : Type 0} (name : E → Bytes) (test : Bytes → Bool) (es : List E) (e : E) : Type 0 where
   front : List E
   back : List E
@@ -139,7 +139,7 @@ module _ {X : Type 0} where
         let keys = cut-keys cut.front e cut.back cut.whole in
         sym (ap (λ ks. successor ks key) keys ∙ successor-cut (key_list cut.front) key e.0.now (key_list cut.back) (up (key_list cut.front ++ e.0.now ∷ key_list cut.back) keys) found.1 cut.here)
 
-    -- the first of all, where none is above
+    -- the first of all, if none is above
     pub behind-wraps : (e : Entry X) → filter (λ e. is_lt (slice_cmp nat_cmp key e.0.now) && true) es ≡ [] → slice_get es 0 ≡ Some e → Some e.0.now ≡ successor (key_list es) key
     behind-wraps e h first = by es refl first
       where
@@ -161,7 +161,7 @@ module _ {X : Type 0} where
           ap (λ ks. predecessor ks key) keys ∙ predecessor-cut (key_list cut.front) key e.0.now (key_list cut.back) (up (key_list cut.front ++ e.0.now ∷ key_list cut.back) keys) cut.here found.1,
         )
 
-    -- the last of all, where none is below
+    -- the last of all, if none is below
     pub before-wraps : (e : Entry X) → filter (λ e. not (is_le (slice_cmp nat_cmp key e.0.now))) es ≡ [] → slice_get es (length es - 1) ≡ Some e → Contains es e × (predecessor (key_list es) key ≡ Some e.0.now)
     before-wraps e h last =
         let split = last-split es e last in
@@ -172,7 +172,7 @@ module _ {X : Type 0} where
           ap (λ ks. predecessor ks key) keys ∙ predecessor-wraps (key_list front) key e.0.now (up (key_list front ++ e.0.now ∷ []) keys) (λ y has. none y (ap (λ ks. contains_key ks y) keys ∙ has)),
         )
 
--- no entries where none can be taken
+-- no entries if none can be taken
 pub none-left : {E : Type 0} (es : List E) → (0 < length es → false ≡ true) → es ≡ []
 none-left [] none = refl
 none-left (e ∷ es) none = absurd (true≢false (sym (none (omega arith))))

@@ -1,4 +1,4 @@
--- What an ordered database appends: each operation of a key, of each key one, and how many keys are live behind what a walk decided.
+-- What an ordered database appends: each operation of a key, of each key one, and how many keys are live after what a walk decided.
 use Rattle.std.proofs.Common.{◌≡◌, ◌+◌, Bool, true, false, true≢false, cond, List, [], ◌∷◌, ◌++◌, length, map, count_by, refl, ap, sym, ◌∙◌, subst, Option, Some, None, arith, append_assoc, ◌||◌, ◌&&◌}
 use Rattle.std.specs.Prelude.{if◌then◌else◌, not, filter, filter_map, option_map, option_and_then, bytes_eq, is_some, is_none}
 use Rattle.std.specs.List.{cons_option, AllByRecursion as Each, IsDistinct}
@@ -304,7 +304,7 @@ in-evicted (d ∷ ds) key one = by (is_none d.value) refl (bytes_eq d.key key) r
         later ∙ ap (λ o. is_some (option_and_then goes o)) none ∙ sym (ap (λ t. is_some {T = Write} (cond t (Some d) None)) stays)
     by false stays false other later = later
 
--- behind what a walk decided as many keys are live as before, without those that go
+-- after what a walk decided as many keys are live as before, without those that go
 pub counts-ordered : CountsMoves ordered.moves
 counts-ordered list ds distinct alive =
     let whole : length (filter (contains_key evicted) (live_keys list)) + length remaining ≡ length (live_keys list) = filter-length (contains_key evicted) (live_keys list) in

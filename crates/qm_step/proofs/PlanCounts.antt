@@ -1,4 +1,4 @@
--- How many keys are live behind operations, and behind what a walk decided.
+-- How many keys are live after operations, and after what a walk decided.
 use Rattle.std.proofs.Common.{◌≡◌, ℕ, ◌+◌, ◌-◌, Bool, true, false, true≢false, cond, refl, List, [], ◌∷◌, ◌++◌, length, map, count_by, ap, sym, ◌∙◌, Option, Some, None, arith, ◌||◌, append_assoc, append-nil, length-append}
 use Rattle.std.specs.Prelude.{not, filter, bytes_eq, is_some, is_none}
 use Rattle.std.specs.List.{AllByRecursion as Each, IsDistinct}
@@ -45,7 +45,7 @@ one-decided list d alive = by d.value
         let one = dropped in
         omega (arith, parts, sizes, one)
 
--- a key that is live stays so behind what is decided of another
+-- a key that is live stays so after what is decided of another
 stays-live : (list : List Operation) (d : Write) (key : Bytes) → bytes_eq key d.key ≡ false → Has (live_keys list) key → Has (live_keys (list ++ operation_of d ∷ [])) key
 stays-live list d key other alive =
     let op = operation_of d in
@@ -64,7 +64,7 @@ decided-counts list (d ∷ ds) single alive =
     let sum = sum_by-cons (λ (u : Write). cond (is_none u.value) 1 0) d ds in
     omega (arith, later, one, all, sum)
 
--- an entry less for each key that an operation touches, where it has one
+-- an entry less for each key that an operation touches, if it has one
 kept-apart : (k : Bytes) (es : List Live) → live_of es k ≡ None → Each (λ u. bytes_eq k u.key ≡ false) es
 kept-apart k [] h = tt
 kept-apart k (u ∷ us) h = by (bytes_eq u.key k) refl h (kept-apart k us)
@@ -81,7 +81,7 @@ kept-length k es apart false none = by (live_of es k) refl none
     by None is h = let all = all-kept k es (kept-apart k es is) in omega (arith, all)
     by (Some e) is h = absurd (true≢false (sym h))
 
--- an operation is of a key that is live in this list where one stood before it
+-- an operation is of a key that is live in this list if one stood before it
 abbrev pub Stood : List Operation → Touch → Type 0
 Stood list t = (key : Bytes) → touches key t.operation ≡ true → is_some t.before ≡ is_some (live_of (live list) key)
 
@@ -103,7 +103,7 @@ one-made list (delete k) s keyed stood =
     omega (arith, parts, sizes, one)
 one-made list (commit m f) s keyed stood = cc
 
--- how many keys are live behind operations, of each key one at most
+-- how many keys are live after operations, of each key one at most
 pub count-made : (list : List Operation) (made : List Touch) → Each IsKeyed made → Each (Stood list) made → Once (operations_of made) →
     length (live (list ++ operations_of made)) + count_by (λ t. is_some t.before) made ≡ length (live list) + count_by (λ t. is_update t.operation) made
 count-made list [] keyed stood once = let same = ap (λ ops. length (live ops)) (append-nil list) in omega (arith, same)
@@ -120,7 +120,7 @@ count-made list (t ∷ ts) keyed stood once =
     away key later true here = absurd (true≢false (sym later ∙ once.0 key here))
     away key later false here = refl
 
-    -- a key of a later one is live behind this one where it was before it
+    -- a key of a later one is live after this one if it was before it
     still : (us : List Touch) → Each (Stood list) us → ((key : Bytes) → touched key (operations_of us) ≡ true → touched key (operations_of ts) ≡ true) → Each (Stood (list ++ t.operation ∷ [])) us
     still [] stood within = tt
     still (u ∷ us) stood within = (

@@ -93,7 +93,7 @@ no-change base q = sym (ap (λ ops. if touched q ops then Some (record { now = s
 pub are-changes : (changes : Changes) (base own : List Operation) → ((q : Bytes) → change_in changes q ≡ change_of base (base ++ own) q) → AreChanges changes base (base ++ own)
 are-changes changes base own each = record { begins = take_at base own (length base) refl; each = each }
 
--- one more operation of a key, where the answers are those of the step so far
+-- one more operation of a key, if the answers are those of the step so far
 module _ (base own : List Operation) (touch : Touch) (from : IsFrom base touch) (k : Bytes) (only : (q : Bytes) → touches q touch.operation ≡ bytes_eq k q)
     (old new : Bytes → Option Change) (change : Change) (now : change.now ≡ given_at (length (base ++ own)) touch.operation) (before : change.before ≡ touch.before)
     (put : (q : Bytes) → new q ≡ cond (bytes_eq k q) (Some change) (old q)) (so_far : (q : Bytes) → old q ≡ change_of base (base ++ own) q) where

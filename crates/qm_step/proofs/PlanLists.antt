@@ -13,7 +13,7 @@ use Rattle.qm_step.specs.Touches.{is_there}
 use Rattle.qm_step.proofs.Appends.{own-live}
 use Rattle.qm_step.proofs.Standing.{of_key-within}
 
--- where an update of a key is in front of others, the key's live update is among them
+-- if an update of a key is in front of others, the key's live update is among them
 pub last_of : (front : List Operation) (op : Operation) (rest : List Operation) (key : Bytes) → touches key op ≡ true → live_of (live (front ++ op ∷ rest)) key ≡ live_of (live_from (length front) (op ∷ rest)) key
 last_of front op rest key h = own-live front (op ∷ rest) key (ap (λ t. t || touched key rest) h)
 
@@ -30,7 +30,7 @@ elsewhere i n es key within = by (live_of es key) refl
         let within_it = All-contains (Within (suc i) n) es e (All-from_recursion (Within (suc i) n) es within) (of_key-within es key e is).0 in
         apart e within_it.0 (e.location == i) refl
 
--- the key of an update stands at its location where nothing behind touches it
+-- the key of an update stands at its location if nothing after it touches the key
 module _ (front : List Operation) (k v : Bytes) (n : Option Bytes) (rest : List Operation) where
   abbrev list : List Operation
   list = front ++ update k v n ∷ rest

@@ -187,7 +187,7 @@ pub all-mapped : {A X : Type 0} (P : X → Type 0) (f : A → X) (xs : List A) (
 all-mapped P f xs i d all within here =
     subst P (get_or-map f xs i d (f d) within ∙ ap f (sym here)) (all i (f d) (omega (arith, within, length-map xs f)))
 
--- one operation more behind a base list
+-- one operation more after a base list
 module _ {A : Type 0} (f : A → Touch) (base : List Operation) (xs : List A) (i : ℕ) where
   pub own-more : (d : A) → i < length xs → d ≡ get_or xs i d → (base ++ operations_of (map f (take i xs))) ++ (f d).operation ∷ [] ≡ base ++ operations_of (map f (take (i + 1) xs))
   own-more d within here =
@@ -206,7 +206,7 @@ insert-kept {K} {X} P cmp es new k x is here all = All-same (λ (e : K × X). P 
 pub none-kept : {K X : Type 0} (P : K → Type 0) (es : List (K × X)) → es ≡ [] → All (λ e. P e.0) es
 none-kept {K} {X} P es is = All-same (λ (e : K × X). P e.0) es [] is (All-nil (λ (e : K × X). P e.0))
 
--- one more of what is put behind others
+-- one more of what is put after others
 pub pushed-more : {A B Y : Type 0} (f : A → Y) (h : B → Y) (made made' : List A) (front : List Y) (seen : List B) (a : A) (b : B) → made' ≡ made ++ a ∷ [] → f a ≡ h b → map f made ≡ front ++ map h seen → map f made' ≡ front ++ map h (seen ++ b ∷ [])
 pushed-more f h made made' front seen a b pushed same so_far =
     ap (map f) pushed ∙ map-append f made (a ∷ []) ∙ ap₂ (λ xs y. xs ++ y ∷ []) so_far same ∙ append_assoc front (map h seen) (h b ∷ []) ∙ ap (λ xs. front ++ xs) (sym (map-append h seen (b ∷ [])))

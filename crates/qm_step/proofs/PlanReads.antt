@@ -12,7 +12,7 @@ use Rattle.qm_step.proofs.PlanLists.{there-touched}
 use Rattle.qm_step.proofs.PlanWalks.{drop-here}
 use Rattle.std.proofs.Math.Bool.{or-true}
 
--- an update, where nothing behind touches its key
+-- an update, if nothing after it touches its key
 abbrev pub unless_touched : List Operation → Operation → Option Operation
 unless_touched rest (update k v n) = if touched k rest then None else Some (update k v n)
 unless_touched rest (delete k) = None
@@ -27,7 +27,7 @@ update-at at (update k v n) rest = by (touched k rest)
 update-at at (delete k) rest = refl
 update-at at (commit m f) rest = refl
 
--- the live update at a location is the update there, where nothing behind touches its key
+-- the live update at a location is the update there, if nothing after it touches its key
 pub live_update-update : (list : List Operation) (at : ℕ) → live_update_at list at ≡ option_and_then (unless_touched (drop (at + 1) list)) (update_at list at)
 live_update-update list at = by (slice_get list at)
   where
@@ -51,7 +51,7 @@ module _ (list : List Operation) (at : ℕ) (op : Operation) (is : slice_get lis
   pub front-long : length (take at list) ≡ at
   front-long = omega (arith, length-take at list, slice_get_within list at op is)
 
--- the key of an update stands there where nothing behind touches it
+-- the key of an update stands there if nothing after it touches the key
 pub there-here : (list : List Operation) (at : ℕ) (k v : Bytes) (n : Option Bytes) → update_at list at ≡ Some (update k v n) → is_there (stands_at list k) at ≡ not (touched k (drop (at + 1) list))
 there-here list at k v n h =
     let op = update k v n in

@@ -75,7 +75,7 @@ stands-key base key k v n at here is = by (live_of (live base) key) refl is
         let same : update e.key e.value e.next ≡ update k v n = same_Some (update e.key e.value e.next) (update k v n) (sym (live-stands base e within.0) ∙ ap (update_at base) place ∙ here) in
         sym within.1 ∙ same_Some e.key k (ap update_key same)
 
--- a key that stands at a location is touched by the operations where they replace its live update there
+-- a key that stands at a location is touched by the operations if they replace its live update there
 module _ (base : List Operation) (k v : Bytes) (n : Option Bytes) (at : ℕ) (here : update_at base at ≡ Some (update k v n)) (place : place_in base k ≡ Some at) where
   one-replaced : (t : Touch) → IsFrom base t → IsKeyed t → touches k t.operation ≡ is_at at t.before
   one-replaced t from keyed = by (touches k t.operation) refl t.before refl

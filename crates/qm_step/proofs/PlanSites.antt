@@ -39,7 +39,7 @@ module _ {K V : Type 0} (key : K → Bytes) (value : V → Bytes) where
   pub sites-placed : (base : List Operation) (sites : List (Site K V)) (ws : List Write) → map (linked_view key value) sites ≡ map (linked_in base) ws → map (site_view key value) sites ≡ map (site_in base) ws
   sites-placed base sites ws are = sym (placed-views sites) ∙ ap (map placed) are ∙ placed-in base ws
 
--- one thing more, where there is one, as it is shown
+-- one thing more, if there is one, as it is shown
 pub pushed-shown : {X Y : Type 0} (f : X → Y) (new old : List X) (x : Option X) → new ≡ old ++ option_to_list x → map f new ≡ map f old ++ option_to_list (option_map f x)
 pushed-shown {X} {Y} f new old x pushed = ap (map f) pushed ∙ map-append f old (option_to_list x) ∙ ap (λ ys. map f old ++ ys) (by x)
   where

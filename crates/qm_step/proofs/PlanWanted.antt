@@ -12,7 +12,7 @@ use Rattle.qm_model.specs.Writes.{Write}
 use Rattle.qm_step.specs.Views.{keys_of, write_view}
 use Rattle.qm_step.specs.declared.wanted.Read.{Read}
 
--- where nothing was read the recorded writes are wanted
+-- if nothing was read the recorded writes are wanted
 pub slotted-none : (ws : List Write) → slotted ws [] [] [] ≡ ws
 slotted-none ws = append-nil (ws ++ []) ∙ append-nil ws
 

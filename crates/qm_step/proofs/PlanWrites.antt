@@ -163,7 +163,7 @@ said-once (op ∷ rest) (suc i) once =
     let next : suc i + 1 ≡ suc (i + 1) = omega arith in
     ap (λ n. option_and_then (unless_touched (drop n (op ∷ rest))) (update_at rest i)) next ∙ said-once rest i once.1
 
--- no entry goes, or one, where those of a key are dropped
+-- no entry goes, or one, if those of a key are dropped
 pub all-kept : (k : Bytes) (es : List Live) → Each (λ u. bytes_eq k u.key ≡ false) es → length (filter (λ u. not (bytes_eq k u.key || false)) es) ≡ length es
 all-kept k [] h = refl
 all-kept k (e ∷ es) h = ap (λ t. length (cond (not (t || false)) (e ∷ filter (λ u. not (bytes_eq k u.key || false)) es) (filter (λ u. not (bytes_eq k u.key || false)) es))) h.0 ∙ ap suc (all-kept k es h.1)

@@ -14,7 +14,7 @@ spelled-there form (op ∷ rest) zero bs all is =
     (op, refl, record { of = All-head (IsOf form) op rest all; spelled = same })
 spelled-there form (op ∷ rest) (suc i) bs all is = spelled-there form rest i bs (All-tail (IsOf form) op rest all) is
 
--- where no bytes are, no operation is
+-- if no bytes are, no operation is
 pub unspelled-there : (form : Form) (list : List Operation) (i : ℕ) → slice_get (map (spelling form) list) i ≡ None → slice_get list i ≡ None
 unspelled-there form list i is = by (slice_get list i) (sym (slice_get-map (spelling form) list i) ∙ is)
   where

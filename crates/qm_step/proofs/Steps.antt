@@ -11,7 +11,7 @@ use Rattle.qm_step.specs.Layers.{Layer, LeadThrough, LeadOver, IsStep, nearest_l
 use Rattle.qm_step.proofs.Appends.{live_of-append}
 use Rattle.qm_index.proofs.Members.{Contains-first, first_or_later}
 
--- what a step does to a key, where its own operations touch it, and where they don't
+-- what a step does to a key, if its own operations touch it, and if they don't
 module _ (changes : Changes) (base tip : List Operation) (is : AreChanges changes base tip) (key : Bytes) where
   abbrev done : Change
   done = record { now = stands_at tip key; before = option_map (λ p. p.0) (stands_at base key) }

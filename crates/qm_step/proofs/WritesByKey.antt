@@ -90,7 +90,7 @@ slice_get-end [] w = refl
 slice_get-end (u ∷ us) w = slice_get-end us w
 
 module _ {K : Type 0} (bytes : K → Bytes) where
-  -- places stay where writes come behind
+  -- places stay if more writes come after them
   places-longer : (es : List (K × ℕ)) (us ws more : List Write) → map (entry_shown bytes (slice_get ws) Some) es ≡ map (marked bytes (slice_get ws) Some) us →
       map (entry_shown bytes (slice_get (ws ++ more)) Some) es ≡ map (marked bytes (slice_get ws) Some) us
   places-longer [] [] ws more same = refl

@@ -8,7 +8,7 @@ use Rattle.qm_chain.specs.declared.walk.Walk.{Walk}
 use Rattle.qm_step.specs.Changes.{place_in}
 use Rattle.qm_step.specs.Touches.{Touch, live_update_at}
 
--- a decision: the key, its new value or none where it goes, the key that its live update names, and where its live update
+-- a decision: the key, its new value or none if it goes, the key that its live update names, and where its live update
 -- stands in the base list
 pub record Decided : Type 0 where
   pub key : Bytes
@@ -28,7 +28,7 @@ write_for d = record { key = d.key; value = d.value }
 abbrev pub touch_for : Decided → Touch
 touch_for d = record { operation = operation_of (write_for d); before = d.before }
 
--- what an answer has for a key: its new value, or none where it goes; nothing where the walk ends
+-- what an answer has for a key: its new value, or none if it goes; nothing if the walk ends
 abbrev pub value_for : Action → Option (Option Bytes)
 value_for (write value) = Some (Some value)
 value_for stop = None
@@ -56,7 +56,7 @@ module _ {P : Type 0} where
   abbrev pub resumed : List Write → Walked P → Walked P
   resumed before walked = record walked { decisions = before ++ walked.decisions }
 
-  -- these were decided over a base list, each with where its key stands there, on a walk to a list behind it that has come
+  -- these were decided over a base list, each with where its key stands there, on a walk to a list after it that has come
   -- here; what is left of it makes this whole
   pub record IsGoing {F : Type 0} (rules : Rules P) (base list : List Operation) (decided : List Decided) (walk : Walk F) (policy : P) (whole : Walked P) : Type 0 where
     pub from : All (IsDecided base list) decided

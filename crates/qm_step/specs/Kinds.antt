@@ -26,7 +26,7 @@ pub record AreWritten (kind : Kind) (base : List Operation) (ws : List Write) (t
   pub keyed : All IsKeyed touches
   pub once : Once (operations_of touches)
 
--- behind what is decided of live keys, of each once, as many keys are live as before, without those that go
+-- after what is decided of live keys, of each once, as many keys are live as before, without those that go
 abbrev pub CountsMoves : (List Operation → List Write → List Operation) → Type 0
 CountsMoves moves = (list : List Operation) (ds : List Write) → IsDistinct bytes_eq (map (λ d. d.key) ds) → All (λ d. contains_key (live_keys list) d.key ≡ true) ds →
     length (live (list ++ moves list ds)) + count_by (λ d. is_none d.value) ds ≡ length (live list)

@@ -4,7 +4,7 @@ use Rattle.qm_model.specs.Operations.{Bytes, Operation}
 use Rattle.qm_step.specs.Changes.{Change, Changes, AreChanges, change_in, update_at}
 use Rattle.std.specs.Option.{option_or}
 
--- a kept step: the size of its base list, the operations that it puts behind that, and what it does to keys
+-- a kept step: the size of its base list, the operations that it appends to that, and what it does to keys
 pub record Layer : Type 0 where
   pub base : ℕ
   pub operations : List Operation

@@ -24,6 +24,6 @@ pub record IsWhole {L : Type 0} (reads : ItemsTold L) (form : Form) (index_key :
   pub none : NoneBelow (reads.start log) list
 
 -- A call read what an index and a log lend: it left the log as it was. It failed for memory, for a read of its store, or at an item
--- below the start, and not so where the log has all live updates.
+-- below the start, and not so if the log has all live updates.
 abbrev pub ReadsLent : {L A : Type 0} → ItemsTold L → Form → (Bytes → ℕ) → List (ℕ × List ℕ) → L → L → Result A Error → Type 0
 ReadsLent reads form index_key entries old new result = ReadsItems reads old new result (IsWhole reads form index_key entries old)

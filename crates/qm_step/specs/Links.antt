@@ -35,11 +35,11 @@ of_kind kind ls = filter (is_kind kind) ls
 abbrev pub keys_of_kind : Kind → List Linked → List Bytes
 keys_of_kind kind ls = map (λ l. l.0.key) (of_kind kind ls)
 
--- the key behind this one, or itself where there is none
+-- the key after this one, or itself if there is none
 abbrev pub key_after : List Bytes → Bytes → Bytes
 key_after keys key = unwrap_or (successor keys key) key
 
--- an update names the key behind its own
+-- an update names the key after its own
 abbrev pub named : List Bytes → Operation → Operation
 named keys (update k v n) = update k v (Some (key_after keys k))
 named keys (delete k) = delete k
@@ -58,7 +58,7 @@ module _ {K E V : Type 0} (key : K → Bytes) (value : V → Bytes) where
 abbrev pub touch_of : List Bytes → Linked → Touch
 touch_of keys l = record { operation = named keys (operation_of l.0); before = option_map (λ p. p.0) l.1 }
 
--- the key that a written key's live update names, or the key itself where it is created
+-- the key that a written key's live update names, or the key itself if it is created
 abbrev pub after_of : Linked → Option Bytes
 after_of l = elim l.1 [ Some p ↦ p.1 | None ↦ if is_some l.0.value then Some l.0.key else None ]
 
@@ -95,7 +95,7 @@ SameKeys xs ys = (x : Bytes) → contains_key xs x ≡ contains_key ys x
 abbrev pub relinked_touches : List Operation → List Bytes → List Bytes → List Bytes → List Touch
 relinked_touches base afters written keys = map (touch_in base) (map (named afters) (filter_map (rewritten (live base)) (without written (once keys))))
 
--- behind the touches in front they are written again, and those keys are written then
+-- after the touches in front they are written again, and those keys are written then
 pub record AreRelinked (base : List Operation) (afters : List Bytes) (front : List Touch) (before keys : List Bytes) (made : List Touch) (done : List Bytes) : Type 0 where
   pub touches : made ≡ front ++ relinked_touches base afters before keys
   pub written : SameKeys done (before ++ keys)

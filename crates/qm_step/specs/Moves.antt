@@ -17,7 +17,7 @@ before_evicted list d = if is_none d.value then previous_of list d.key else None
 abbrev pub update_naming : Option Bytes → Bytes → Option Bytes → Option Operation
 update_naming next key value = option_and_then (λ v. option_map (λ n. update key v (Some n)) next) value
 
--- that of a decision, or the delete of its key where there is none
+-- that of a decision, or the delete of its key if there is none
 abbrev pub touch_naming : Option Bytes → Decided → Touch
 touch_naming next d = record { operation = elim (update_naming next d.key d.value) [ Some op ↦ op | None ↦ delete d.key ]; before = d.before }
 

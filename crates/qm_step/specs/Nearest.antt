@@ -24,7 +24,7 @@ limit_view Unbounded = unlimited
 abbrev pub last_key : Limit → List Bytes → Option Bytes
 last_key limit keys = greatest (filter (is_before limit) keys)
 
--- the greater of two keys, where there are two
+-- the greater of two keys, if there are two
 abbrev pub later_key : Option Bytes → Option Bytes → Option Bytes
 later_key None b = b
 later_key (Some a) None = Some a
@@ -50,17 +50,17 @@ left_keys layers = filter (is_left layers) (changed_keys layers)
 abbrev pub said_key : Operation → Bytes
 said_key op = unwrap_or (key_of op) []
 
--- a key comes behind one, where that is given, and before a limit
+-- a key comes after one, if that is given, and before a limit
 abbrev pub is_within : Option Bytes → Limit → Bytes → Bool
 is_within None limit key = is_before limit key
 is_within (Some above) limit key = key_lt above key && is_before limit key
 
--- the update, where its key does
+-- the update, if its key does
 abbrev pub only_within : Option Bytes → Limit → Option Operation → Option Operation
 only_within above limit None = None
 only_within above limit (Some op) = if is_within above limit (said_key op) then Some op else None
 
--- the update at a location, where its key comes behind that of the last one and before a limit, or else the last one
+-- the update at a location, if its key comes after that of the last one and before a limit, or else the last one
 abbrev pub later_at : Limit → List Operation → Option (ℕ × Operation) → ℕ → Option (ℕ × Operation)
 later_at limit list last at = option_or (option_map (λ op. (at, op)) (only_within (option_map (λ p. said_key p.1) last) limit (update_at list at))) last
 
@@ -72,7 +72,7 @@ lent_before index_key entries list key limit =
     option_and_then (update_of list)
     (option_or (last_key limit (keys_at index_key keys (index_key key))) (option_and_then (λ n. last_key unlimited (keys_at index_key keys n.0)) (prev_key (keys_of entries) (index_key key))))
 
--- layers do nothing to a key, and leave none live between it and the key behind it
+-- layers do nothing to a key, and leave none live between it and the key after it
 abbrev pub is_nearest : List Layer → Bytes → Option Bytes → Bytes → Bool
 is_nearest layers key None own = is_none (nearest_layer layers own)
 is_nearest layers key (Some left) own = is_none (nearest_layer layers own) && between left key own
@@ -84,12 +84,12 @@ nearer_of layers key (Some found) =
     let left = predecessor (left_keys layers) key in
     if is_nearest layers key left (said_key found.1) then Some found else option_and_then (left_by layers) left
 
--- the same, where the lent list's update may be the key's own
+-- the same, if the lent list's update may be the key's own
 abbrev pub own_or_nearer : List Layer → Bytes → Option (ℕ × Operation) → Option (ℕ × Operation)
 own_or_nearer layers key None = nearer_of layers key None
 own_or_nearer layers key (Some found) = if bytes_eq (said_key found.1) key then Some found else nearer_of layers key (Some found)
 
--- the key, where it passes
+-- the key, if it passes
 abbrev pub kept : (Bytes → Bool) → Option Bytes → Option Bytes
 kept test None = None
 kept test (Some k) = if test k then Some k else None

@@ -52,7 +52,7 @@ is_replaced touches at = list_any (λ t. is_at at t.before) touches
 abbrev pub AreReplaced : BTreeSet ℕ → List Touch → Type 0
 AreReplaced replaced touches = (at : ℕ) → contains nat_cmp replaced at ≡ is_replaced touches at
 
--- this moves the live update at a location of a list, where one is there
+-- this moves the live update at a location of a list, if one is there
 pub record IsMoveAt (moved : Option Touch) (base list : List Operation) (at : ℕ) : Type 0 where
   pub operation : option_map (λ t. t.operation) moved ≡ live_update_at list at
   pub from : IfSome moved (IsFrom base)

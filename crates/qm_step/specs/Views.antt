@@ -52,7 +52,7 @@ abbrev pub wanted_view : {F U K V : Type 0} → (K → Bytes) → (V → Bytes) 
 wanted_view key value w =
     slotted (map (write_view key value) w.writes.now) (keys_of key w.reads.now) (slot_views value w.slots.now) (map (write_view key value) w.others.now)
 
--- what a batch makes of its base list: the operations that it puts behind it, what these do to keys, and floor and
+-- what a batch makes of its base list: the operations that it appends to it, what these do to keys, and floor and
 -- count of live keys afterwards
 pub record Plan : Type 0 where
   pub operations : List Operation

@@ -9,7 +9,7 @@ use qm_base::ByteString;
 use qm_operations::{Operation, Unordered, ValueEncoding};
 use std::alloc::AllocError;
 
-/// What a walk decides of a key: a value to write, or none where the key goes; the key that its live update names, in an
+/// What a walk decides of a key: a value to write, or none if the key goes; the key that its live update names, in an
 /// ordered database; and where the key's live update stands in the base list.
 #[derive(Drop)]
 pub struct Decided<K, V> {

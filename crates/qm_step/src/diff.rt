@@ -15,7 +15,7 @@ use qm_operations::{Operation, Update};
 use std::alloc::{AllocError, Global};
 use std::collections::BTreeMap;
 
-/// What a step does to a key: where its last update stands and the value of that, none where the key is deleted, and
+/// What a step does to a key: where its last update stands and the value of that, none if the key is deleted, and
 /// where its live update stood before.
 #[derive(Drop)]
 struct Noted<'a, V> {
@@ -56,7 +56,7 @@ fn note<'a, F, U: Update>(
     }
 }
 
-// What the operations behind a base list of this size do to keys.
+// What the operations after a base list of this size do to keys.
 fn notes_of<'a, F, U: Update>(
     alloc: Global,
     size: u64,
@@ -76,7 +76,7 @@ fn notes_of<'a, F, U: Update>(
     Ok(notes)
 }
 
-// The location of this number, where there is one.
+// The location of this number, if there is one.
 fn location_of<F>(at: Option<u64>) -> Option<Location<F>>
     ensures { result ≡ at }
 {
@@ -127,7 +127,7 @@ fn diff_of<F, K: ByteString, V: ByteString>(
     Ok(Diff::new(entries))
 }
 
-/// What the operations behind a base list of this size do to keys.
+/// What the operations after a base list of this size do to keys.
 pub fn diff_of_touches<F, U: Update>(
     alloc: Global,
     size: u64,

@@ -1,4 +1,4 @@
-//! What live updates say of keys: where these stand, and which come before and behind them.
+//! What live updates say of keys: where these stand, and which come before and after them.
 
 ghost use Rattle.std.specs.Prelude.{◌≡◌, Some, option_and_then, option_map, IfOk};
 ghost use Rattle.qm_model.specs.Forms.{IsSpelling};
@@ -62,7 +62,7 @@ pub fn stands_of<F, U: Update>(
     }
 }
 
-/// A copy of the next key of an update, where it is above the key.
+/// A copy of the next key of an update, if it is above the key.
 pub fn next_above<F, U: Update>(
     alloc: Global,
     found: Option<(Location<F>, U)>,
@@ -85,7 +85,7 @@ pub fn next_above<F, U: Update>(
     }
 }
 
-/// The key of an update, where it is below the key.
+/// The key of an update, if it is below the key.
 pub fn key_under<F, U: Update>(found: Option<(Location<F>, U)>, key: &[u8]) -> Option<U::Key>
     ensures { option_map U.Key.bytes result
         ≡ kept (λ k. key_lt k key.now)

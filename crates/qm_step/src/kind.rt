@@ -34,7 +34,7 @@ use std::alloc::{AllocError, Global};
 /// An update of a kind of database over this index. Only here do the kinds differ; all else is over any of them.
 pub trait Steps<F, I: qm_index::Unordered<Value = Location<F>>>: Update {
     /// In an ordered database the bucket of the greatest index key below the key's, or else, flagged as wrapped, of the
-    /// greatest of all; none only where the index is empty.
+    /// greatest of all; none only if the index is empty.
     fn bucket_before<'a>(index: &'a I, key: &[u8]) -> Option<(&'a [Location<F>], bool)>
         ensures { Self.form.ordered ≡ true
             → option_map (λ b. (b.0.now, b.1)) result
@@ -42,7 +42,7 @@ pub trait Steps<F, I: qm_index::Unordered<Value = Location<F>>>: Update {
             (prev_key (keys_of (I.entries index.now)) (I.index_key key.now)) };
 
     /// In an ordered database the bucket of the least index key above the key's, or else, flagged as wrapped, of the least
-    /// of all; none only where the index is empty.
+    /// of all; none only if the index is empty.
     fn bucket_behind<'a>(index: &'a I, key: &[u8]) -> Option<(&'a [Location<F>], bool)>
         ensures value { Self.form.ordered ≡ true
             → option_map (λ b. (b.0.now, b.1)) result
@@ -50,7 +50,7 @@ pub trait Steps<F, I: qm_index::Unordered<Value = Location<F>>>: Update {
             (next_key (keys_of (I.entries index.now)) (I.index_key key.now)) }
         ensures index { Self.form.ordered ≡ true → IsIndex (I.entries index.now) };
 
-    /// In an ordered database the bucket of the least index key; none only where the index is empty.
+    /// In an ordered database the bucket of the least index key; none only if the index is empty.
     fn first_bucket(index: &I) -> Option<&[Location<F>]>
         ensures value { Self.form.ordered ≡ true
             → option_map (λ b. b.now) result
@@ -75,7 +75,7 @@ pub trait Steps<F, I: qm_index::Unordered<Value = Location<F>>>: Update {
             → AreWritten (kind_of Self.form) base ws
             (touch_views Self.view Self.Key.bytes Self.Value.bytes touches.items)) };
 
-    /// The operations of writes, and behind them those of what was decided of the list with them. In an ordered database
+    /// The operations of writes, and after them those of what was decided of the list with them. In an ordered database
     /// the live updates before the keys that go were found.
     fn moved(
         alloc: Global,

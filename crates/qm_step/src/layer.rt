@@ -9,7 +9,7 @@ use qm_operations::{Operation, Update};
 use std::marker::Model;
 use std::rc::Rc;
 
-/// A kept step of a list: what it put behind its base list, and what that does to keys.
+/// A kept step of a list: what it appended to its base list, and what that does to keys.
 #[derive(Drop)]
 pub struct Layer<F, U: Update> {
     base: u64,
@@ -28,7 +28,7 @@ impl<F, U: Update> Model for Layer<F, U> {
 }
 
 impl<F, U: Update> Layer<F, U> {
-    /// The step that put these operations behind a base list of this size.
+    /// The step that appended these operations to a base list of this size.
     pub fn new(
         base: u64,
         operations: Vec<Operation<F, U>>,
@@ -56,7 +56,7 @@ impl<F, U: Update> Layer<F, U> {
         self.base
     }
 
-    /// The operations behind the base list.
+    /// The operations after the base list.
     pub fn operations(&self) -> &[Operation<F, U>]
         ensures { operation_views U.view U.Key.bytes U.Value.bytes result.now
             ≡ self.now.operations }

@@ -1,4 +1,4 @@
-//! What a step puts behind its base list, made of writes and decisions where it is known where their keys stand.
+//! What a step appends to its base list, made of writes and decisions once it is known where their keys stand.
 #![tactic(auto)]
 
 pub mod base;

@@ -112,7 +112,7 @@ fn befores_of<'a, F, K: ByteString, V: ValueEncoding<K>>(
     Ok(befores)
 }
 
-// Adds a key, where there is one that is not deleted.
+// Adds a key, if there is one that is not deleted.
 fn add_kept<'a, K: ByteString>(
     keys: &mut Keys<'a>,
     deleted: &Keys<'_>,
@@ -134,7 +134,7 @@ fn add_kept<'a, K: ByteString>(
     }
 }
 
-// The key that a written key's live update names, or the key itself where it is created.
+// The key that a written key's live update names, or the key itself if it is created.
 fn named_by<'a, K: ByteString, V: ByteString>(linked: &'a Site<'a, K, V>) -> Option<&'a K>
     ensures { option_map (λ k. K.bytes k.now) result
         ≡ after_of (linked_view K.bytes V.bytes linked.now) }
@@ -193,7 +193,7 @@ fn add_next<'a, F, K: ByteString, V: ValueEncoding<K>>(
     Ok(())
 }
 
-// The keys of which one comes behind a key that is updated, created or written again.
+// The keys of which one comes after a key that is updated, created or written again.
 fn afters_of<'a, F, K: ByteString, V: ValueEncoding<K>>(
     alloc: Global,
     deleted: &Keys<'_>,
@@ -213,7 +213,7 @@ fn afters_of<'a, F, K: ByteString, V: ValueEncoding<K>>(
     Ok(keys)
 }
 
-// The key behind this one, or itself where there is none.
+// The key after this one, or itself if there is none.
 fn next_key<'a, K: ByteString>(
     alloc: Global,
     afters: &Keys<'a>,
@@ -229,7 +229,7 @@ fn next_key<'a, K: ByteString>(
     }
 }
 
-// The update of a key, which names the key behind it.
+// The update of a key, which names the key after it.
 fn update_with<'a, F, K: ByteString, V: ValueEncoding<K>>(
     alloc: Global,
     afters: &Keys<'a>,

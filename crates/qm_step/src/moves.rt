@@ -257,7 +257,7 @@ fn undecided<'a, F, K: ByteString, V: ValueEncoding<K>>(
     Ok(all)
 }
 
-// The update of a key with a value, which names the key behind it among these, where there is one.
+// The update of a key with a value, which names the key after it among these, if there is one.
 fn relinked<'a, K: ByteString, V: ValueEncoding<K>>(
     alloc: Global,
     keys: &Keys<'a>,
@@ -282,7 +282,7 @@ fn relinked<'a, K: ByteString, V: ValueEncoding<K>>(
     }))
 }
 
-// The update of a decision, which names the key behind its own among these.
+// The update of a decision, which names the key after its own among these.
 fn moved<'a, K: ByteString, V: ValueEncoding<K>>(
     alloc: Global,
     keys: &Keys<'a>,
@@ -299,7 +299,7 @@ fn moved<'a, K: ByteString, V: ValueEncoding<K>>(
     }
 }
 
-// The operation of a decision, whose update names the key behind its own among these.
+// The operation of a decision, whose update names the key after its own among these.
 fn moved_touch<'a, F, K: ByteString, V: ValueEncoding<K>>(
     alloc: Global,
     keys: &Keys<'a>,
@@ -320,7 +320,7 @@ fn moved_touch<'a, F, K: ByteString, V: ValueEncoding<K>>(
     })
 }
 
-// The operations of decisions, whose updates name the keys behind their own among these.
+// The operations of decisions, whose updates name the keys after their own among these.
 fn moved_touches<'a, F, K: ByteString, V: ValueEncoding<K>>(
     alloc: Global,
     keys: &Keys<'a>,
@@ -352,7 +352,7 @@ fn place_before<F, U: Update>(size: u64, made: &[Touch<F, U>], at: u64) -> Optio
     }
 }
 
-// A live update written again, which names the key behind its own among these, where there is one.
+// A live update written again, which names the key after its own among these, if there is one.
 fn rewritten<'a, F, K: ByteString, V: ValueEncoding<K>>(
     alloc: Global,
     keys: &Keys<'a>,
@@ -376,7 +376,7 @@ fn rewritten<'a, F, K: ByteString, V: ValueEncoding<K>>(
     }
 }
 
-// Adds live updates written again, by key, each of which names the key behind its own among these.
+// Adds live updates written again, by key, each of which names the key after its own among these.
 fn add_rewritten<'a, F, K: ByteString, V: ValueEncoding<K>>(
     alloc: Global,
     touches: &mut Vec<Touch<F, Ordered<K, V>>>,
@@ -402,7 +402,7 @@ fn add_rewritten<'a, F, K: ByteString, V: ValueEncoding<K>>(
     Ok(())
 }
 
-// The operations of decisions, then those by which the updates of remaining keys name others where theirs go. These live
+// The operations of decisions, then those by which the updates of remaining keys name others if theirs go. These live
 // updates were found before the keys that go.
 fn linked_moves<'a, F, K: ByteString, V: ValueEncoding<K>>(
     alloc: Global,
@@ -435,7 +435,7 @@ fn linked_moves<'a, F, K: ByteString, V: ValueEncoding<K>>(
     Ok(touches)
 }
 
-/// The operations of writes, and behind them those of what was decided of the list with them. These live updates were found
+/// The operations of writes, and after them those of what was decided of the list with them. These live updates were found
 /// before the keys that go.
 pub fn moved_behind<F, K: ByteString, V: ValueEncoding<K>>(
     alloc: Global,

@@ -6,7 +6,7 @@ ghost use Rattle.qm_model.specs.Keys.{predecessor, successor};
 use std::collections::BTreeMap;
 use std::ops::Bound;
 
-/// The key behind this one, or else the first of all.
+/// The key after this one, or else the first of all.
 pub(crate) fn key_behind<'a, X>(keys: &BTreeMap<&'a [u8], X>, key: &'a [u8]) -> Option<&'a [u8]>
     ensures { option_map (λ k. k.now) result
         ≡ successor (map (λ e. e.0.now) keys.now.entries) key.now }

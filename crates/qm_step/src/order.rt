@@ -25,7 +25,7 @@ pub fn is_before(limit: Bound<&[u8]>, key: &[u8]) -> bool
     }
 }
 
-/// Whether a key comes behind one, where that is given, and before a limit.
+/// Whether a key comes after one, if that is given, and before a limit.
 pub fn is_within(above: Option<&[u8]>, limit: Bound<&[u8]>, key: &[u8]) -> bool
     ensures { result
         ≡ is_within (option_map (λ k. k.now) above.entry) (limit_view limit.entry) key.now }
@@ -47,7 +47,7 @@ pub fn is_between(key: &[u8], next: &[u8], other: &[u8]) -> bool
     }
 }
 
-/// The greater of two keys, where there are two.
+/// The greater of two keys, if there are two.
 pub fn later<'a>(first: Option<&'a [u8]>, second: Option<&'a [u8]>) -> Option<&'a [u8]>
     ensures { option_map (λ k. k.now) result
         ≡ later_key (option_map (λ k. k.now) first.entry) (option_map (λ k. k.now) second.entry) }

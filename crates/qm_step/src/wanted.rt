@@ -3,7 +3,7 @@
 use qm_base::{Location, Slot, Write};
 use qm_operations::Update;
 
-/// A key that was read, and what the batch's base list has of it: its live update with its location, or none where it is
+/// A key that was read, and what the batch's base list has of it: its live update with its location, or none if it is
 /// not live there. It says so of that list alone, whatever list a database has meanwhile.
 #[derive(Drop)]
 pub struct Read<F, U: Update> {

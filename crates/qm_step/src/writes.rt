@@ -1,4 +1,4 @@
-//! What writes put behind a base list: the writes to live keys by location, then the creates by key.
+//! What writes append to a base list: the writes to live keys by location, then the creates by key.
 
 ghost use Rattle.std.specs.Prelude.{◌≡◌, ◌++◌, ◌∷◌, [], ℕ, List, map, zip, filter_map, Some, None, option_map, option_to_list, IfOk, OnOk};
 ghost use Rattle.std.specs.BTreeMap.{insert_entry};
@@ -26,7 +26,7 @@ use std::collections::BTreeMap;
 pub struct LastWrite<'a, K, V> {
     /// The key.
     pub key: &'a K,
-    /// The value, or none where the key is deleted.
+    /// The value, or none if the key is deleted.
     pub value: Option<&'a V>,
 }
 
@@ -48,7 +48,7 @@ pub type Last<'a, K, V> = BTreeMap<&'a [u8], LastWrite<'a, K, V>>;
 /// Operations by the location where their keys' live updates stand.
 type ByLocation<F, U> = BTreeMap<u64, Operation<F, U>>;
 
-// Adds a write behind those of which these are the last.
+// Adds a write after those of which these are the last.
 fn add_write<'a, K: ByteString, V: ByteString>(
     last: &mut Last<'a, K, V>,
     key: &'a K,
@@ -211,7 +211,7 @@ fn moved_touches<F, K: ByteString, V: ValueEncoding<K>>(
     Ok(touches)
 }
 
-// What a write creates: an update, where its key is not live.
+// What a write creates: an update, if its key is not live.
 fn create_of<F, K: ByteString, V: ValueEncoding<K>>(
     alloc: Global,
     site: &Site<'_, K, V::Value>,
@@ -234,7 +234,7 @@ fn create_of<F, K: ByteString, V: ValueEncoding<K>>(
     }))
 }
 
-/// Adds the thing, where there is one.
+/// Adds the thing, if there is one.
 pub fn push_some<T: Drop>(things: &mut Vec<T>, thing: Option<T>) -> Result<(), AllocError>
     ensures { OnOk result (things.new.items ≡ things.old.items ++ option_to_list thing) }
 {

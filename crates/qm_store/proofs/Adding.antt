@@ -1,4 +1,4 @@
--- What layers that add nodes alone have: the nodes that are born behind the oldest of their lists, and no others.
+-- What layers that add nodes alone have: the nodes that are born after the oldest of their lists, and no others.
 use Rattle.std.proofs.Common.{◌≡◌, ◌↔◌, ℕ, ◌-◌, ◌<◌, ◌≤◌, true, false, List, [], ◌∷◌, length, arith, ap, subst, sym, ◌∙◌, refl, Option, Some, None, IsSome, Contains, All, ⊎_elim}
 use Rattle.std.specs.Prelude.{is_some, IfSome, MatchOption}
 use Rattle.std.specs.Option.{option_or}
@@ -71,7 +71,7 @@ module _ (shape : Shape) (births : Births) (family : IsFamily shape births) {D :
       (cases_lt p (shape.size leaves)))
       (cases_lt p (shape.size start))
 
-  -- where layers go through a list of so many leaves and through none of fewer, they have the nodes from its size on, up to that of the newest
+  -- if layers go through a list of so many leaves and through none of fewer, they have the nodes from its size on, up to that of the newest
   pub added-between : (layers : List (Layer D)) (leaves boundary : ℕ) → AreLinked shape leaves layers → All (IsAdding shape) layers → Contains (stops leaves layers) boundary → All (λ n. boundary ≤ n) (stops leaves layers)
       → (p : ℕ) → IsSome (layers_at shape layers p) ↔ ((shape.size boundary ≤ p) × (p < shape.size leaves))
   added-between [] leaves boundary linked adding reach above p =

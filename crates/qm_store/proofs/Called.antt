@@ -16,7 +16,7 @@ use Rattle.qm_store.specs.declared.log.LogRefusal.{LogRefusal}
 use Rattle.qm_store.specs.Log.{Log, IsLog, HasBecome, HasLeft, IsRefused, log_error}
 use Rattle.qm_store.proofs.Stores.{after-ok, ok-both, log-become, refused-after}
 
--- of a log whose store was made this where the call came off, and else is one of these
+-- of a log whose store was made this if the call came off, and else is one of these
 pub record IsCalled {C D : Type 0} (members : store.Ghosts C) (shape : Shape) (bytes : D → Bytes) (hash : Bytes → Bytes) (f : Stored → Stored) (R : Stored → Stored → Type 0) (made : Result (Log C D) (LogRefusal (Log C D) C)) (old : Log C D) : Type 0 where
   pub stands : (list : List Bytes) → IsLog members shape bytes hash old list → IfOk made (λ log. IsLog members shape bytes hash log list)
   pub tree : IfOk made (λ log. log.tree ≡ old.tree)

@@ -23,7 +23,7 @@ joined_next bytes digests k d lt is =
     ap (λ l. concat (map bytes (take k digests)) ++ l) (sym (append-nil (bytes d))) ∙ sym (concat-append (map bytes (take k digests)) (bytes d ∷ []))
     ∙ ap concat (sym (map-append bytes (take k digests) (d ∷ [])) ∙ ap (map bytes) (sym next))
 
--- one digest more, where there is one
+-- one digest more, if there is one
 one_found : {D : Type 0} (at : ℕ → Option D) (p : ℕ) (ps : List ℕ) (o : Option D) → at p ≡ o → cond (is_none o) (Some p) (first_lacked at ps) ≡ None →
     (first_lacked at ps ≡ None → (ds : List D) × (map Some ds ≡ map at ps)) → (ds : List D) × (map Some ds ≡ map at (p ∷ ps))
 one_found at p ps None is none rest = absurd cc

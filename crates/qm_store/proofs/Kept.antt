@@ -32,7 +32,7 @@ rest-of {D = D} tree leaves held view is =
     let made : Option (Batch D) → KeptTree D = λ o. record { leaves = leaves; layers = layers_of o } in
     view ∙ ap made is
 
--- the stops of a first batch behind it
+-- the stops of a first batch after it
 pub rest-stops : {D E : Type 0} (shape : Shape) (made : Result (Batch D) E) (tree : KeptTree D) (n boundary : ℕ) → tree.layers ≡ [] → tree.leaves ≡ n → boundary ≤ n
     → IfOk made (λ b. b.older ≡ []) → IfOk made (λ b. b.newest.tree.start ≡ n) → IfOk made (λ b. stops b.newest.tree.leaves (all_layers b) ≡ b.newest.tree.leaves ∷ stops_since boundary (stops tree.leaves tree.layers))
 rest-stops shape (Err e) tree n boundary none last within older start = tt
@@ -40,14 +40,14 @@ rest-stops {D = D} shape (Ok b) tree n boundary none last within older start =
     ap (λ ns. b.newest.tree.leaves ∷ ns) (ap₂ stops start older ∙ stops-since shape {D = D} boundary n [] tt within ∙ ap (stops_since boundary) (sym (ap₂ stops last none)))
 
 module _ (hash : Bytes → Bytes) (shape : Shape) where
-  -- lists of the same leaves have the same leaves with more behind them
+  -- lists of the same leaves have the same leaves with more after them
   behind-same : (xs ys more : List Bytes) → digests_from hash shape 0 xs ≡ digests_from hash shape 0 ys → digests_from hash shape 0 (xs ++ more) ≡ digests_from hash shape 0 (ys ++ more)
   behind-same xs ys more same =
       let long : length xs ≡ length ys = sym (length-digests_from hash shape 0 xs) ∙ ap length same ∙ length-digests_from hash shape 0 ys in
       digests_from-append hash shape 0 xs more ∙ ap₂ (λ ds n. ds ++ digests_from hash shape (0 + n) more) same long ∙ sym (digests_from-append hash shape 0 ys more)
 
   module _ {D : Type 0} (bytes : D → Bytes) where
-    -- where there are no layers there is one list
+    -- if there are no layers there is one list
     one-list : (leaves : List Bytes) (lists : List (List Bytes)) → IsHistory {D = D} shape bytes hash [] (leaves ∷ lists) → lists ≡ []
     one-list leaves [] history = refl
     one-list leaves (more ∷ lists) history = absurd history
@@ -101,7 +101,7 @@ module _ (hash : Bytes → Bytes) (shape : Shape) where
             through = All-weaker (Contains older) through (λ l found. All-contains through older l kept.through found) fewer among;
           }
 
-      -- the tree with items' leaves behind it, that leads through the lists of as many items as a boundary or more
+      -- the tree with items' leaves after it, that leads through the lists of as many items as a boundary or more
       pub kept-grown : (next : KeptTree D) (more : List Bytes) (boundary : ℕ) → next.leaves ≡ tree.leaves + length more
           → IsHistory shape bytes hash next.layers (leaves_of hash shape (list ++ more) ∷ lists_since boundary (leaves_of hash shape list ∷ kept.lists)) → All (IsAdding shape) next.layers
           → IsKeptTree bytes hash shape next (list ++ more) (lists_since boundary (list ∷ older))

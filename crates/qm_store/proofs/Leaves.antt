@@ -11,7 +11,7 @@ use Rattle.qm_model.specs.Forms.{Form, spelling}
 use Rattle.qm_model.specs.Trees.{Shape, digest, leaf, leaf_digest, leaves_from}
 use Rattle.qm_store.specs.Log.{digests_from}
 
--- lists of pieces of one size are the same where the joined bytes are
+-- lists of pieces of one size are the same if the joined bytes are
 pub pieces-same : (size : ℕ) (xs ys : List Bytes) → All (λ x. length x ≡ size) xs → All (λ y. length y ≡ size) ys → length xs ≡ length ys → concat xs ≡ concat ys → xs ≡ ys
 pieces-same size [] [] sized alike long same = refl
 pieces-same size [] (y ∷ ys) sized alike long same = absurd (omega (arith, long))

@@ -37,7 +37,7 @@ module _ {C D : Type 0} (members : store.Ghosts C) (shape : Shape) (bytes : D �
   pub error-then : (a b c : Log C D) (e : Error) → IsRead members shape bytes hash a b → IsReadError members b c e → IsReadError members a c e
   error-then = reading.error-then reads (λ a b c before rose. let later = before.later in omega (arith, later, rose))
 
--- why the read of an item failed, which does not lie below the start where the log begins before it
+-- why the read of an item failed, which does not lie below the start if the log begins before it
 pub failed-read : {C D T : Type 0} (members : store.Ghosts C) (old new : Log C D) (at : ℕ) (done : Result T Error) (e : Error) → done ≡ Err e →
     (e ≡ errors.Memory) ⊎ ((e ≡ errors.Journal journal.Store) ⊎ (e ≡ errors.Journal (journal.ItemPruned at))) → (done ≡ Err (errors.Journal (journal.ItemPruned at))) ↔ (at < old.tree.start) →
     IsCause (members.faults old.store) (members.faults new.store) (IsErrOf done (errors.Journal journal.Store)) → IsReadError members old new e × (old.tree.start ≤ at → IsOfKeptItem e)

@@ -29,7 +29,7 @@ told_row shape bytes hash at list tells (x ∷ xs) (d ∷ ds) same born =
     let is : bytes d ≡ digest_of hash shape list x = subst (λ o. IfSome o (λ d. bytes d ≡ digest_of hash shape list x)) (sym head) (tells x (born 0 x (omega arith))) in
     ap₂ (λ y ys. y ∷ ys) is (told_row shape bytes hash at list tells xs ds tail (λ k e lt. born (suc k) e (omega arith)))
 
--- where no digest is lacked, only memory is
+-- if no digest is lacked, only memory is
 pub only_memory : {D : Type 0} (at : ℕ → Option D) (positions : List ℕ) (error : Error) → first_lacked at positions ≡ None → IsLacked at positions error → error ≡ errors.Memory
 only_memory at positions error none = ⊎_elim (λ (memory : error ≡ errors.Memory). memory)
     (λ (lack : (p : ℕ) × (first_lacked at positions ≡ Some p) × (error ≡ _)). absurd (apart (first_lacked at positions) lack.0 none lack.1))
@@ -38,7 +38,7 @@ only_memory at positions error none = ⊎_elim (λ (memory : error ≡ errors.Me
     apart None p e1 e2 = cc
     apart (Some q) p e1 e2 = cc
 
--- the first position without a digest, behind those that were read
+-- the first position without a digest, after those that were read
 pub lacked_at : {D : Type 0} (at : ℕ → Option D) (ps : List ℕ) (ds : List D) (k p : ℕ) → map Some ds ≡ map at (take k ps) → k < length ps → p ≡ get_or ps k p → at p ≡ None → first_lacked at ps ≡ Some p
 lacked_at at [] ds k p same lt is none = absurd (omega arith)
 lacked_at at (q ∷ ps) ds zero p same lt is none =
@@ -59,7 +59,7 @@ module _ (shape : Shape) (births : Births) (family : IsFamily shape births) (pea
   pub over_tells : Tells shape bytes hash (over_at shape batch tree) new
   over_tells = layers_tell shape births family peaked bytes hash tree (all_layers batch) list new lists history found stands
 
-  -- and each node of it is there, where the node over it was not there at the kept start
+  -- and each node of it is there, if the node over it was not there at the kept start
   pub over_there : IsWhole shape tree → AreThere shape (all_layers batch) tree batch.newest.tree.leaves
   over_there whole =
       subst (AreThere shape (all_layers batch) tree) (sym over_count)

@@ -92,7 +92,7 @@ refused-store members Left old new error left cause = record {
   };
 }
 
--- a log over a store that was called, where the call failed
+-- a log over a store that was called, if the call failed
 pub refused-after : {C D X : Type 0} (members : store.Ghosts C) (Left : C → C → Type 0) (old : Log C D) (new : C) (done : Result ⊤ StoreError) (made : Result X (LogRefusal (Log C D) C)) →
     IfErr made (λ r. (r.given ≡ variants.Store new) × IfErr done (λ e. r.error ≡ log_error e) × (done ≢ Ok tt)) → OnErr done (Left old.store new) → IsCause (members.faults old.store) (members.faults new) (IsErrOf done stores.Failed) →
     IfErr made (λ r. IsRefused members Left old r.given r.error)
@@ -107,12 +107,12 @@ made-then None new f S is p q r give = subst (λ o. IfSome o S) (sym is) tt
 made-then (Some s) None f S is p q r give = absurd is
 made-then (Some s) (Some t) f S is p q r give = subst S (sym is) (give s p q r)
 
--- what follows where a call came off
+-- what follows if a call came off
 pub ok-both : {T E P Q R : Type 0} (done : Result T E) → OnOk done P → OnOk done Q → (P → Q → R) → OnOk done R
 ok-both (Ok x) p q give = give p q
 ok-both (Err e) p q give = tt
 
--- what holds of a log over a store that was called, where the call came off
+-- what holds of a log over a store that was called, if the call came off
 pub after-ok : {C D E G : Type 0} (done : Result ⊤ E) (made : Result (Log C D) G) (new : C) (tree : Kept D) (P : Log C D → Type 0) →
     IfOk made (λ log. (done ≡ Ok tt) × (log.store ≡ new) × (log.tree ≡ tree)) → OnOk done (P (record { store = new; tree = tree })) → IfOk made P
 after-ok done (Ok log) new tree P is p =

@@ -63,7 +63,7 @@ module _ {C : Type 0} (members : store.Ghosts C) (old new : C) where
   pub unchanged-appended-part : (more : List Bytes) → IsUnchanged members old new → AppendedPart members old new more
   unchanged-appended-part more is = record { start = is.start; told = subst (λ o. Grows (members.told old) o more) (sym is.told) (part-none (members.told old) more) }
 
-  -- what a store tells beside its items stays where these grow
+  -- what a store tells beside its items stays if these grow
   pub appended-beside : (more : List Bytes) → Appended members old new more → except_items (members.told new) ≡ except_items (members.told old)
   appended-beside more is = beside-grown (members.told old) (members.told new) more is.told
 

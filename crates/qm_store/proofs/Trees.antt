@@ -24,7 +24,7 @@ pub begins : {D : Type 0} (batch : Batch D) (n : ℕ) → batch.older ≡ [] →
 begins batch n alone start =
     subst (λ older. Contains (batch.newest.tree.leaves ∷ stops batch.newest.tree.start older) n) (sym alone) (1, omega arith, start)
 
--- where no leaf is replaced, no node is over one
+-- if no leaf is replaced, no node is over one
 not-over : (D : Type 0) (h index : ℕ) → IsOver {D = D} [] h index → ⊥
 not-over D zero index is = absurd (cc is)
 not-over D (suc h) index (inl is) = not-over D h _ is

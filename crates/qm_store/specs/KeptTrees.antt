@@ -12,7 +12,7 @@ pub record KeptTree (D : Type 0) : Type 0 where
   pub leaves : ℕ
   pub layers : List (Layer D)
 
--- the layers of a tree batch, where there is one
+-- the layers of a tree batch, if there is one
 abbrev pub layers_of : {D : Type 0} → Option (Batch D) → List (Layer D)
 layers_of None = []
 layers_of (Some batch) = all_layers batch

@@ -38,7 +38,7 @@ pub record IsHead {D : Type 0} (shape : Shape) (bytes : D → Bytes) (hash : Byt
   pub spelled : concat (map bytes pins) ≡ head
   pub digests : map bytes pins ≡ map (digest_of hash shape leaves) (peaks shape n)
 
--- a log stands for a list of items: its tree for their leaves, and its store, where it tells its items, has those from the start on
+-- a log stands for a list of items: its tree for their leaves, and its store, if it tells its items, has those from the start on
 pub record IsLog {C D : Type 0} (members : store.Ghosts C) (shape : Shape) (bytes : D → Bytes) (hash : Bytes → Bytes) (log : Log C D) (list : List Bytes) : Type 0 where
   pub tree : Stands shape bytes hash log.tree (digests_from hash shape 0 list)
   pub start : log.tree.start ≡ members.start log.store
@@ -81,7 +81,7 @@ pub record HasLeftPruned {C : Type 0} (members : store.Ghosts C) (to : ℕ) (hea
   pub within : members.«end» new ≤ members.«end» old
   pub told : Leaves (members.told old) (members.told new) (λ s. ReadsAs s.stable (IsOldOrNew (pruned to head) s))
 
--- why a log's call failed, where its store's did
+-- why a log's call failed, if its store's did
 abbrev pub log_error : StoreError → Error
 log_error stores.Memory = errors.Memory
 log_error stores.Failed = errors.Journal journal.Store
@@ -91,7 +91,7 @@ abbrev pub store_given : {C D : Type 0} → LogGiven (Log C D) C → C
 store_given (variants.Log log) = log.store
 store_given (variants.Store store) = store
 
--- what a call that takes a log by value leaves where it is refused: the log as it was, where memory lacked before its store was called, and
+-- what a call that takes a log by value leaves if it is refused: the log as it was, if memory lacked before its store was called, and
 -- else its store, as such a call leaves it
 pub record IsRefused {C D : Type 0} (members : store.Ghosts C) (Left : C → C → Type 0) (old : Log C D) (given : LogGiven (Log C D) C) (error : Error) : Type 0 where
   pub back : (log : Log C D) → given ≡ variants.Log log → (log ≡ old) × (error ≡ errors.Memory)
@@ -99,7 +99,7 @@ pub record IsRefused {C D : Type 0} (members : store.Ghosts C) (Left : C → C �
   pub never : (error ≡ errors.Memory) ⊎ (error ≡ errors.Journal journal.Store)
   pub cause : IsCause (members.faults old.store) (members.faults (store_given given)) (error ≡ errors.Journal journal.Store)
 
--- why a log's call failed, where its tree's did
+-- why a log's call failed, if its tree's did
 abbrev pub tree_error : MerkleError → Error
 tree_error merkle.Memory = errors.Memory
 tree_error error = errors.Merkle error

@@ -59,7 +59,7 @@ impl<F: Family, D: Digest> KeptTree<F, D> {
         self.leaves
     }
 
-    /// The tree with the leaves of these items behind this one's, and the root of its list, the first of whose peaks are
+    /// The tree with the leaves of these items after this one's, and the root of its list, the first of whose peaks are
     /// inactive. It leads through this tree's lists of as many items as the boundary or more, and keeps nothing of what led
     /// to the others.
     pub fn grown<C: Store, H: Hasher<Digest = D>>(
@@ -204,7 +204,7 @@ impl<F: Family, D: Digest> KeptTree<F, D> {
     }
 
     /// The digest of the node at this position, if the tree has it of its own: it has the nodes that its lists came to have
-    /// behind the oldest of them.
+    /// after the oldest of them.
     pub fn get_node(&self, position: Position<F>) -> Option<D>
         ensures exact { result ≡ layers_at F.shape self.now.layers position }
         ensures linked { AreLinked F.shape self.now.leaves self.now.layers }

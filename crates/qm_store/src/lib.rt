@@ -83,10 +83,10 @@ impl Model for MetaEntry {
 }
 
 /// A list of items, each a string of bytes, that grows at its end, with a head, metadata by name, and a stable length: the
-/// location up to which its items outlive a crash. An item goes by its location, which may begin above 0, where the items before
+/// location up to which its items outlive a crash. An item goes by its location, which may begin above 0, if the items before
 /// are gone.
 ///
-/// After `Ok` a call leaves what it does not name as it was. Each call but `bounds` and `faults` may answer `Failed`, only where the
+/// After `Ok` a call leaves what it does not name as it was. Each call but `bounds` and `faults` may answer `Failed`, only if the
 /// count of faults rose, or `Memory`, which leaves what `Failed` may leave: the store reads as a crash inside the call might
 /// have left it, and its stable length is no less than before.
 pub trait Store {
@@ -96,7 +96,7 @@ pub trait Store {
     /// The location after the last item.
     ghost end: { Self → ℕ };
 
-    /// What it holds, where it tells that: one in memory does, one over files does not.
+    /// What it holds, if it tells that: one in memory does, one over files does not.
     ghost told: { Self → Option Stored };
 
     /// How often it has failed. The count never falls, and stands still at its greatest value.
@@ -137,7 +137,7 @@ pub trait Store {
         ensures cause { IsCause (faults self.old) (faults self.new)
             (IsErrOf result StoreError.Failed) };
 
-    /// The metadata of a name, none where none was put.
+    /// The metadata of a name, none if none was put.
     fn meta(&mut self, name: &str) -> Result<Vec<MetaEntry>, StoreError>
         ensures value { IfOk result (λ v.
             IfSome (told self.old) (λ s. v.items ≡ metadata_in s.metadata name.now)) }
@@ -147,7 +147,7 @@ pub trait Store {
         ensures cause { IsCause (faults self.old) (faults self.new)
             (IsErrOf result StoreError.Failed) };
 
-    /// Puts these behind the last item. After an error a first part of them may be there.
+    /// Puts these after the last item. After an error a first part of them may be there.
     fn append(&mut self, added: &[Vec<u8>]) -> Result<(), StoreError>
         requires room { end self.old + length added.now ≤ 2 ^ 62 }
         ensures ok { OnOk result
@@ -243,7 +243,7 @@ pub trait Store {
         ensures cause { IsCause (faults self.old) (faults self.new)
             (IsErrOf result StoreError.Failed) };
 
-    /// The start is not behind the end.
+    /// The start is not after the end.
     ghost ordered: { (s : Self) → start s ≤ end s };
 
     /// What is told has this start.

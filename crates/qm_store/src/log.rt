@@ -38,7 +38,7 @@ impl From<StoreError> for Error {
     }
 }
 
-/// What a call that takes a log or a store by value gives back where it refuses: the log as it was, or the store.
+/// What a call that takes a log or a store by value gives back if it refuses: the log as it was, or the store.
 #[derive(Drop)]
 pub enum LogGiven<L, C> {
     Log(L),
@@ -115,7 +115,7 @@ impl<F: Family, C: Store, H: Hasher + Drop> AuthLog<F, C, H> {
         }
     }
 
-    /// Puts these behind the last item, and their leaves behind the last leaf. Where memory lacks
+    /// Puts these after the last item, and their leaves after the last leaf. If memory lacks
     /// before the store is called, the log is given back as it was, and else the store.
     pub fn append_batch(self, alloc: Global, items: &[Vec<u8>]) -> Result<Self, LogRefusal<Self, C>>
         requires room { self.tree.leaves + length items.now ≤ 2 ^ 62 }
@@ -150,7 +150,7 @@ impl<F: Family, C: Store, H: Hasher + Drop> AuthLog<F, C, H> {
         }
     }
 
-    /// Puts these behind the last item, and behind the last leaf the leaves that a tree has for them: nothing is hashed. Where
+    /// Puts these after the last item, and after the last leaf the leaves that a tree has for them: nothing is hashed. If
     /// memory lacks before the store is called, the log is given back as it was, and else the store.
     pub fn append_tree(
         self,
@@ -292,7 +292,7 @@ impl<F: Family, C: Store, H: Hasher + Drop> AuthLog<F, C, H> {
     }
 
     /// Takes the items before a location away, and keeps the digests of the peaks there as the store's head: the log stands for
-    /// the same list, from a later start. Where memory lacks for these digests, the log is given back as it was.
+    /// the same list, from a later start. If memory lacks for these digests, the log is given back as it was.
     pub fn prune(self, alloc: Global, to: u64) -> Result<Self, LogRefusal<Self, C>>
         requires start { self.tree.start ≤ to }
         requires size { to ≤ self.tree.leaves }
@@ -389,7 +389,7 @@ impl<F: Family, C: Store, H: Hasher> AuthLog<F, C, H> {
         self.tree.root(alloc, &mut self.hasher, inactive)
     }
 
-    /// The batch of the tree that puts the leaves of these items behind the tree's own.
+    /// The batch of the tree that puts the leaves of these items after the tree's own.
     pub fn tree_with(
         &mut self,
         alloc: Global,
@@ -412,7 +412,7 @@ impl<F: Family, C: Store, H: Hasher> AuthLog<F, C, H> {
         grown_by_items(alloc, &self.tree, &mut self.hasher, items)
     }
 
-    // The tree as these items leave it, behind the list of a batch on this tree, of whose layers it keeps those that begin at
+    // The tree as these items leave it, after the list of a batch on this tree, of whose layers it keeps those that begin at
     // a boundary or past it. Only the items' leaves, and the nodes over these, are hashed.
     pub(crate) fn tree_since(
         &mut self,
@@ -465,7 +465,7 @@ impl<F: Family, C: Store, H: Hasher> AuthLog<F, C, H> {
         batch.root(alloc, &mut self.hasher, inactive)
     }
 
-    /// The root that the tree would have with the leaves of these items behind its own, the first of whose peaks are inactive.
+    /// The root that the tree would have with the leaves of these items after its own, the first of whose peaks are inactive.
     pub fn root_with(
         &mut self,
         alloc: Global,
@@ -487,7 +487,7 @@ impl<F: Family, C: Store, H: Hasher> AuthLog<F, C, H> {
     }
 
     /// The proof of the items from `start` on, at most `max` of them, in the tree of the first `size` items, the first of
-    /// whose peaks are inactive; and these items. `inactive` counts only where the log has so many items.
+    /// whose peaks are inactive; and these items. `inactive` counts only if the log has so many items.
     pub fn historical_proof(
         &mut self,
         alloc: Global,
@@ -541,7 +541,7 @@ impl<F: Family, C: Store, H: Hasher> AuthLog<F, C, H> {
         Ok((proof, items))
     }
 
-    /// The digests of the peaks over the first `count` items, from left to right. Where the log is kept from there or from
+    /// The digests of the peaks over the first `count` items, from left to right. If the log is kept from there or from
     /// before, it has them all.
     pub fn pinned_nodes_at(&self, alloc: Global, count: u64) -> Result<Vec<H::Digest>, Error>
         ensures value { (list : List (List ℕ))
@@ -674,7 +674,7 @@ impl<F: Family, C: Store, H: Hasher> AuthLog<F, C, H> {
     }
 }
 
-// The log over a store that was called: where the call failed, the store alone is left.
+// The log over a store that was called: if the call failed, the store alone is left.
 fn log_after<F: Family, C: Store, H: Hasher + Drop>(
     store: C,
     tree: Mem<F, H::Digest>,
@@ -701,7 +701,7 @@ fn log_after<F: Family, C: Store, H: Hasher + Drop>(
     }
 }
 
-// Forgets what a tree holds before a location, and gives the digests of the peaks there, one after another. Where memory lacks,
+// Forgets what a tree holds before a location, and gives the digests of the peaks there, one after another. If memory lacks,
 // the tree is as it was.
 fn forget<F: Family, D: Digest>(
     alloc: Global,
@@ -954,7 +954,7 @@ fn add_leaves<F: Family, H: Hasher>(
     tree.apply_batch(&batch)
 }
 
-// The batch that puts the leaves of items behind a tree's own.
+// The batch that puts the leaves of items after a tree's own.
 fn grown_by_items<F: Family, H: Hasher>(
     alloc: Global,
     tree: &Mem<F, H::Digest>,
@@ -980,7 +980,7 @@ fn grown_by_items<F: Family, H: Hasher>(
     grown(alloc, tree, hasher, &digests)
 }
 
-// The batch that puts leaves with these digests behind a tree's own.
+// The batch that puts leaves with these digests after a tree's own.
 fn grown<F: Family, H: Hasher>(
     alloc: Global,
     tree: &Mem<F, H::Digest>,
@@ -1003,7 +1003,7 @@ fn grown<F: Family, H: Hasher>(
     grown_behind(alloc, tree, hasher, draft, digests)
 }
 
-// The batch that puts leaves with these digests behind the list that a draft over a tree stands on.
+// The batch that puts leaves with these digests after the list that a draft over a tree stands on.
 fn grown_behind<F: Family, H: Hasher>(
     alloc: Global,
     tree: &Mem<F, H::Digest>,

@@ -1,8 +1,8 @@
-//! What a call that takes a database or a store by value gives back where it refuses.
+//! What a call that takes a database or a store by value gives back if it refuses.
 
 use qm_base::Error;
 
-/// What a call that takes the database by value gives back where it refuses: the database as it was, or its store,
+/// What a call that takes the database by value gives back if it refuses: the database as it was, or its store,
 /// which can be opened again.
 #[derive(Drop)]
 pub enum Given<X, C> {

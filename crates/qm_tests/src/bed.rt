@@ -70,7 +70,7 @@ pub(crate) fn kept<T: Drop, X: Drop, C: Drop>(done: Result<T, Refusal<X, C>>) ->
     }
 }
 
-// A key or a value of these bytes. There is none where they are not of its size.
+// A key or a value of these bytes. There is none if they are not of its size.
 pub(crate) fn of_bytes<S: ByteString>(alloc: Global, bytes: &[u8]) -> Result<S, AllocError> {
     if !S::is_of(bytes) {
         return Err(AllocError);

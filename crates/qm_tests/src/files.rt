@@ -1,4 +1,4 @@
-//! That a store over files has in its folder what its format says, reads it again, and fails where the files do.
+//! That a store over files has in its folder what its format says, reads it again, and fails if the files do.
 
 ghost use Rattle.std.specs.Prelude.{◌≡◌, None};
 

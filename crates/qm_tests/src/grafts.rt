@@ -21,7 +21,7 @@ type GraftedTree<F> = Mem<Grafted<F, Chunk32>, Sha256Digest>;
 
 type TreeHasher = StandardHasher<Sha256>;
 
-// How many operations a list has, how many of its first ones write one key, where the others write a key each, and its canonical
+// How many operations a list has, how many of its first ones write one key, while the others write a key each, and its canonical
 // root, in mountain ranges and where merges are delayed. Its last operation is a commit whose floor is the last write of that key.
 // Made by `python3 docs/canonical_roots.py`.
 const ROOTS: &str = "\
@@ -85,7 +85,7 @@ fn bits_of(alloc: Global, count: u64, first: u64) -> Result<Prunable<Chunk32>, A
     Ok(bits)
 }
 
-// Puts leaves behind those of a tree.
+// Puts leaves after those of a tree.
 pub(crate) fn add_leaves<F: Family>(
     alloc: Global,
     hasher: &mut TreeHasher,
@@ -168,7 +168,7 @@ fn prune<F: Graftable>(
     Ok(pins)
 }
 
-// The text of the canonical root of a list, by a grafted tree that is built from another's pins where chunks may be pruned.
+// The text of the canonical root of a list, by a grafted tree that is built from another's pins if chunks may be pruned.
 fn pruned_root<F: Graftable>(
     alloc: Global,
     hasher: &mut TreeHasher,
@@ -208,7 +208,7 @@ pub(crate) fn number(word: Option<&str>) -> u64
     word.unwrap_or("").parse().unwrap_or(0).min(1000)
 }
 
-// Whether the lists have these roots in a family, which stand behind those of so many others.
+// Whether the lists have these roots in a family, which stand after those of so many others.
 fn are_rooted<F: Graftable>(alloc: Global, others: usize) -> Result<bool, MerkleError> {
     for row in ROOTS.lines() {
         let mut words = row.split_ascii_whitespace();

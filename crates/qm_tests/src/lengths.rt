@@ -37,7 +37,7 @@ impl Bed for Loose {
     }
 }
 
-// The length with which an update of a key of one byte is refused, whose value has so many bytes, or 0 where it is not.
+// The length with which an update of a key of one byte is refused, whose value has so many bytes, or 0 if it is not.
 fn refused<B: Bed>(alloc: Global, length: usize) -> Result<u64, Error> {
     let mut db = opened::<B>(alloc, B::store(alloc))?;
     let value = vec![in alloc; 0; length]?;

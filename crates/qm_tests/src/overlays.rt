@@ -54,7 +54,7 @@ fn end_with_two<B: Candidates<()>>(alloc: Global, bits: &B) -> Result<bool, Allo
     Ok(found.as_slice() == [Location::new(4), Location::new(5)].as_slice())
 }
 
-// The layers of two steps over the bits of an update and a commit, where those of the last list are seen through them.
+// The layers of two steps over the bits of an update and a commit, if those of the last list are seen through them.
 fn laid(
     alloc: Global,
     base: &Prunable<Chunk32>,

@@ -57,7 +57,7 @@ const ROOTS: &str = "
     3b45bebb011edcff406b5b8c1a13559a22bbf495ad109c08ba85f4350f6c5e1d
 ";
 
-// The same where merges are delayed, computed by an independent model.
+// The same if merges are delayed, computed by an independent model.
 const DELAYED_ROOTS: &str = "
     35cb85eadc748cc351ecef181772a776c6c7506b4e043d5ee7e9ad48fd16a6b9
     4fef60595f155c2c8d684c40dc2709fc238ef21f90f1aac39e474dbaaa08f922
@@ -80,7 +80,7 @@ const DELAYED_ROOTS: &str = "
 // The root over the digests of "first" and "second" as the peaks of three leaves.
 const REPLACED: &str = "c7c0a9870d3b8895eaa160724b08e36a5ad9bfd5c277bb033fce81c9617dc741";
 
-// Puts one more leaf behind those of a tree, and answers whether the digest of the tree's roots in a row has this text.
+// Puts one more leaf after those of a tree, and answers whether the digest of the tree's roots in a row has this text.
 fn has_row<F: Family>(
     alloc: Global,
     hasher: &mut TreeHasher,

@@ -146,7 +146,7 @@ fn tell<R: Eprint>(rt: &R, trouble: Trouble, damaged: &str) {
     };
 }
 
-// Says on standard error why a status is not 0. Where that can not be said the status is the same.
+// Says on standard error why a status is not 0. If that can not be said the status is the same.
 fn ended<R: Eprint>(rt: &R, status: u8) -> ExitCode {
     if status != 0 {
         let _ = eprintln!(rt; "qmdb: {}", reason(status));

@@ -21,7 +21,7 @@
 //! Empty lines and lines that begin with `#` say nothing.
 //!
 //! What is told of a case is `case NAME`, the bytes that the sink took, `status N`, then `store START COUNT` for the
-//! store that the program gave back, and where they are asked for its items, each as `item HEX`.
+//! store that the program gave back, and if they are asked for its items, each as `item HEX`.
 #![tactic(auto)]
 
 mod cases;

@@ -78,7 +78,7 @@ pub fn listed<F, U: Update>(
     Ok(list)
 }
 
-/// A live update that was found, as a reply lists it, where it names a next key.
+/// A live update that was found, as a reply lists it, if it names a next key.
 pub fn span_from<F, U: Update>(found: Option<(Location<F>, U)>) -> Option<Span<U::Key, U::Value>>
     ensures { U.form.ordered ≡ true
         → option_map located (option_map (span_view U.Key.bytes U.Value.bytes) result)

@@ -15,7 +15,7 @@ use std::alloc::Global;
 use std::ops::Bound;
 use std::rc::Rc;
 
-// The greatest key before a limit, where keys ascend. It is looked for by halves.
+// The greatest key before a limit, if the keys ascend. It is looked for by halves.
 fn last_before<'a, K: ByteString, E>(entries: &'a [(K, E)], limit: Bound<&[u8]>) -> Option<&'a [u8]>
     requires { IsAscending (map (λ e. K.bytes e.0) entries.now) }
     ensures { option_map (λ k. k.now) result

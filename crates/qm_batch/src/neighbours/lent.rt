@@ -71,7 +71,7 @@ fn last_at<F, L: Items, U: Update>(
     Ok(last)
 }
 
-// An update with its location, where there is one, or else the last one.
+// An update with its location, if there is one, or else the last one.
 fn or_last<F, U: Update>(
     at: u64,
     update: Option<U>,
@@ -87,7 +87,7 @@ fn or_last<F, U: Update>(
     }
 }
 
-// The key of an update, where there is one.
+// The key of an update, if there is one.
 fn key_in<F, U: Update>(found: &Option<(Location<F>, U)>) -> Option<&[u8]>
     ensures { option_map (λ k. k.now) result
         ≡ option_map (λ p. said_key p.1) (option_map (read_view U.view) found.now) }
@@ -98,7 +98,7 @@ fn key_in<F, U: Update>(found: &Option<(Location<F>, U)>) -> Option<&[u8]>
     }
 }
 
-// The update at a location of the log's list, where its key comes behind the one above it and before the limit. Another is
+// The update at a location of the log's list, if its key comes after the given one and before the limit. Another is
 // read, and not copied.
 fn read_within<L: Items, U: Update>(
     alloc: Global,
@@ -120,7 +120,7 @@ fn read_within<L: Items, U: Update>(
     }
 }
 
-// The update that the bytes spell, where its key comes behind the one above it and before the limit.
+// The update that the bytes spell, if its key comes after the given one and before the limit.
 fn update_within<U: Update>(
     alloc: Global,
     item: &[u8],

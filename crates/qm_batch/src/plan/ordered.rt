@@ -1,4 +1,4 @@
-//! What an ordered step is to know of its base list, where each update names the key behind its own.
+//! What an ordered step is to know of its base list, in which each update names the key after its own.
 
 mod moves;
 mod neighbours;

@@ -19,7 +19,7 @@ use qm_step::{Layer, Read};
 use std::alloc::Global;
 use std::rc::Rc;
 
-/// The operations of the last writes, found over a base list where the keys that were read are not looked up.
+/// The operations of the last writes, found over a base list; the keys that were read are not looked up.
 pub(crate) fn written_over<
     F,
     I: qm_index::Unordered<Value = Location<F>>,

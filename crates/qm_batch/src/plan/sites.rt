@@ -23,7 +23,7 @@ use std::rc::Rc;
 /// What was read of keys, by key.
 pub type Known<'a, F, U> = BTreeMap<&'a [u8], &'a Read<F, U>>;
 
-/// What was read, by key; of a key that was read twice, the later read. Where nothing was read it takes no memory.
+/// What was read, by key; of a key that was read twice, the later read. If nothing was read it takes no memory.
 pub(crate) fn known_of<'a, F, U: Update>(
     alloc: Global,
     reads: &'a [Read<F, U>],

@@ -1,4 +1,4 @@
-//! The walk from the floor, over a base list and the operations that are put behind it.
+//! The walk from the floor, over a base list and the operations that are put after it.
 
 ghost use Rattle.std.specs.Prelude.{◌≡◌, true, false, ◌≤◌, ◌<◌, ◌+◌, ◌-◌, ◌^◌, ◌++◌, ◌==◌, ℕ, min, nat_le, List, length, map, All, Option, option_map, slice_get, IfSome, IfOk, IfErr, MatchBool, MatchOption, OnOk, None, Some, option_to_list, is_some, if◌then◌else◌};
 ghost use Rattle.std.specs.List.{list_any};
@@ -38,7 +38,7 @@ use std::rc::Rc;
 /// How many candidates a walk takes at a time, at most.
 const ROUND: u64 = 1_024;
 
-// What a walk goes over: a base list, the operations that are put behind it, and the locations of the base list whose live
+// What a walk goes over: a base list, the operations that are put after it, and the locations of the base list whose live
 // updates these replace. The index is lent for the base list or one on the way to it.
 #[derive(Drop)]
 struct Path<'i, 'b, F, I, U: Update> {
@@ -69,7 +69,7 @@ struct Found<U> {
     before: Option<u64>,
 }
 
-// The operation at a location of the base list, where a layer has it; else the list that is lent has the same there.
+// The operation at a location of the base list, if a layer has it; else the list that is lent has the same there.
 fn in_layers<F, U: Update>(layers: &[Rc<Layer<F, U>>], at: u64) -> Option<&Operation<F, U>>
     ensures { (lent base : List model.Operation)
         → LeadOver (map (λ l. l.value) layers.now) lent base → at < length base
@@ -136,7 +136,7 @@ fn key_of_update<F, U: Update>(operation: &Operation<F, U>) -> Option<&[u8]>
     }
 }
 
-// Whether a walk moves the operation at this location of the base list: an update of this key that is live there, where
+// Whether a walk moves the operation at this location of the base list: an update of this key that is live there, if
 // it is not replaced.
 fn is_moved<F, I: qm_index::Unordered<Value = Location<F>>, U: Update>(
     index: &I,
@@ -206,7 +206,7 @@ fn unreplaced_at<F, I: qm_index::Unordered<Value = Location<F>>, L: Items, U: Up
     }
 }
 
-// The live update at a place among the operations behind the base list.
+// The live update at a place among the operations after the base list.
 fn made_at<F, U: Update>(
     alloc: Global,
     made: &[Touch<F, U>],
@@ -244,7 +244,7 @@ fn standing<U>(update: Option<U>, at: u64) -> Option<Found<U>>
     })
 }
 
-// The live update at a location of the base list and the operations behind it.
+// The live update at a location of the base list and the operations after it.
 fn live_at<F, I: qm_index::Unordered<Value = Location<F>>, L: Items, U: Update>(
     alloc: Global,
     path: &Path<'_, '_, F, I, U>,
@@ -265,7 +265,7 @@ fn live_at<F, I: qm_index::Unordered<Value = Location<F>>, L: Items, U: Update>(
     Ok(standing(update, at))
 }
 
-// What is to be noted of a key: its new value, or none where it goes; nothing where the walk ends.
+// What is to be noted of a key: its new value, or none if it goes; nothing if the walk ends.
 fn value_of<V>(action: Action<V>) -> Option<Option<V>>
     ensures { (bytes : V → model.Bytes)
         → option_map (λ value. option_map bytes value) result
@@ -457,7 +457,7 @@ fn visit_all<
     Ok(Some(next))
 }
 
-// How many candidates a round has where so many live updates may still be decided: one at least.
+// How many candidates a round has if so many live updates may still be decided: one at least.
 fn round_of(entries: u64) -> usize
     ensures { 0 < result }
 {
@@ -575,7 +575,7 @@ fn walk_on<
     Ok(())
 }
 
-/// Walks from the floor on, to the end of the operations behind the base list at most, as the policy decides, within these limits.
+/// Walks from the floor on, to the end of the operations after the base list at most, as the policy decides, within these limits.
 pub(crate) fn walk_from<
     F,
     I: qm_index::Unordered<Value = Location<F>>,

@@ -70,7 +70,7 @@ pub(crate) fn pairs_at<F, L: Items, U: Update>(
     Ok(pairs)
 }
 
-// Puts key and value of an update, where there is one, in their place among pairs by key.
+// Puts key and value of an update, if there is one, in their place among pairs by key.
 fn put<U: Update>(pairs: &mut Vec<(U::Key, U::Value)>, update: Option<U>) -> Result<(), AllocError>
     ensures { OnOk result (map (pair_view U.Key.bytes U.Value.bytes) pairs.new.items
         ≡ put_said (map (pair_view U.Key.bytes U.Value.bytes) pairs.old.items)
@@ -99,7 +99,7 @@ fn place_among<K: ByteString, V: ByteString>(pairs: &[(K, V)], key: &[u8]) -> us
     place
 }
 
-// The update at a location of the log's list, where its key is in a range. Another is read, and not copied.
+// The update at a location of the log's list, if its key is in a range. Another is read, and not copied.
 fn read_in<L: Items, U: Update>(
     alloc: Global,
     log: &mut L,
@@ -119,7 +119,7 @@ fn read_in<L: Items, U: Update>(
     }
 }
 
-// The update that the bytes spell, where its key is in a range.
+// The update that the bytes spell, if its key is in a range.
 fn said_in<U: Update>(
     alloc: Global,
     item: &[u8],

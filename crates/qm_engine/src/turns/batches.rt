@@ -119,7 +119,7 @@ fn write<X: Batching<C>, C: Store>(
     }
 }
 
-/// Writes a value for a key in a batch, or deletes the key where there is none.
+/// Writes a value for a key in a batch, or deletes the key if there is none.
 pub fn put<'a, X: Batching<C>, C: Store>(
     alloc: Global,
     session: &mut SessionOf<X, C>,

@@ -130,7 +130,7 @@ fn neighbour_from<X: Neighbours<C>, C: Store>(
     }
 }
 
-/// The nearest live key on a side of this one, through a merkleized batch where its number is given.
+/// The nearest live key on a side of this one, through a merkleized batch if its number is given.
 pub fn neighbour<X: Neighbours<C>, C: Store>(
     alloc: Global,
     session: &mut SessionOf<X, C>,

@@ -47,7 +47,7 @@ fn read_slot<X: Reading<C>, C: Store>(
     }
 }
 
-/// Reads the values of keys, through a batch where its number is given.
+/// Reads the values of keys, through a batch if its number is given.
 pub fn read<X: Reading<C>, C: Store>(
     alloc: Global,
     session: &mut SessionOf<X, C>,
@@ -87,7 +87,7 @@ fn alone<K: ByteString>(alloc: Global, key: &K) -> Result<Vec<K>, AllocError>
     Ok(keys)
 }
 
-/// Reads the value of a key, through a batch where its number is given.
+/// Reads the value of a key, through a batch if its number is given.
 pub fn read_key<X: Reading<C>, C: Store>(
     alloc: Global,
     session: &mut SessionOf<X, C>,

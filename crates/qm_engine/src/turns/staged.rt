@@ -126,7 +126,7 @@ fn resolve_batch<X: Staging<C>, C: Store, P: Policy<X::Family, X::Key, X::Value>
     database.resolve(alloc, batch, resolution, &mut policy, metadata)
 }
 
-/// Merkleizes a staged batch with what becomes of its keys; it keeps its number. Where there are not as many slots as keys it
+/// Merkleizes a staged batch with what becomes of its keys; it keeps its number. If there are not as many slots as keys it
 /// stays a staged one.
 pub fn resolve<X: Staging<C>, C: Store, P: Policy<X::Family, X::Key, X::Value> + Twin>(
     alloc: Global,

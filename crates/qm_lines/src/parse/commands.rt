@@ -1,4 +1,4 @@
-// Each command, of the words behind its name.
+// Each command, of the words after its name.
 ghost use Rattle.std.specs.Prelude.{◌≡◌, ℕ, Option, option_map};
 ghost use Rattle.qm_model.specs.Operations.{Bytes};
 ghost use Rattle.qm_model.specs.Policies.{Policy};

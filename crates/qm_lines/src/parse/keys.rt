@@ -85,7 +85,7 @@ impl Model for Reading {
     ghost view = { λ r. (r.keys.items, r.from) };
 }
 
-// Keys, and behind them a last word: the batch, or one more key.
+// Keys, and after them a last word: the batch, or one more key.
 fn end_reading(alloc: Global, mut keys: Vec<ByteKey>, last: &[u8]) -> Result<Reading, Unread>
     ensures { Reads (λ reading. reading) result
         (option_map (with_keys keys.items) (grammar.last_reading last.now)) }

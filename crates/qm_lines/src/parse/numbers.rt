@@ -44,7 +44,7 @@ pub fn number(word: &[u8]) -> Result<u64, Unread>
     plain_number(word).ok_or(Unread::Malformed)
 }
 
-/// The number behind this name.
+/// The number after this name.
 pub fn named_number(name: &[u8], word: &[u8]) -> Option<u64>
     ensures { result ≡ grammar.named_number name.now word.now }
 {

@@ -13,7 +13,7 @@ use qm_base::ByteValue;
 use qm_chain::{Bounded, Hold, Limits, Proportional, Rule};
 use std::alloc::Global;
 
-// What stands behind this name in the first part, and the parts after it.
+// What follows this name in the first part, and the parts after it.
 fn first_named<'a>(name: &[u8], parts: &'a [&'a [u8]]) -> Option<(&'a [u8], &'a [&'a [u8]])>
     ensures { option_map (λ found. (found.0.now, lent found.1.now)) result
         ≡ first_named name.now (lent parts.now) }
@@ -30,7 +30,7 @@ struct Said<'a, A> {
     rest: &'a [&'a [u8]],
 }
 
-// A value behind this name, which may be left out.
+// A value after this name, which may be left out.
 fn optional_value<'a>(
     alloc: Global,
     name: &[u8],
@@ -62,7 +62,7 @@ fn swap(alloc: Global, word: &[u8]) -> Result<(ByteValue, ByteValue), Unread>
     Ok((from, to))
 }
 
-// Two values behind this name, which may be left out.
+// Two values after this name, which may be left out.
 fn optional_swap<'a>(
     alloc: Global,
     name: &[u8],
@@ -100,7 +100,7 @@ fn bounded(parts: &[&[u8]]) -> Result<AnyPolicy, Unread>
     Ok(AnyPolicy::Bounded(Bounded { entries, skips }))
 }
 
-// The rule of these numbers and values, where no part is left.
+// The rule of these numbers and values, if no part is left.
 fn rule_of(
     limits: Limits,
     drop: Option<ByteValue>,

@@ -14,7 +14,7 @@ use qm_base::ByteKey;
 use std::alloc::Global;
 use std::ops::Bound;
 
-// A sign for no end, or a bracket and behind it a key: a square one where the key itself is in the range.
+// A sign for no end, or a bracket and after it a key: a square one if the key itself is in the range.
 fn low(alloc: Global, word: &[u8]) -> Result<Bound<ByteKey>, Unread>
     ensures { Reads byte_bound result (grammar.low_of word.now) }
 {
@@ -28,7 +28,7 @@ fn low(alloc: Global, word: &[u8]) -> Result<Bound<ByteKey>, Unread>
     }
 }
 
-// A sign for no end, or a key and behind it a bracket.
+// A sign for no end, or a key and after it a bracket.
 fn high(alloc: Global, word: &[u8]) -> Result<Bound<ByteKey>, Unread>
     ensures { Reads byte_bound result (grammar.high_of word.now) }
 {

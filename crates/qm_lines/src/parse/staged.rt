@@ -13,7 +13,7 @@ use crate::command::{Command, StagedCommand};
 use qm_base::{ByteKey, ByteValue, Resolution, Slot, Write};
 use std::alloc::{AllocError, Global};
 
-// A word for itself, or a value behind a name.
+// A word for itself, or a value after a name.
 fn slot(alloc: Global, word: &[u8]) -> Result<Slot<ByteValue>, Unread>
     ensures { Reads byte_slot result (grammar.slot_of word.now) }
 {
@@ -72,7 +72,7 @@ fn slots(alloc: Global, words: &[&[u8]]) -> Result<Vec<Slot<ByteValue>>, AllocEr
     Ok(slots)
 }
 
-// Slots, and behind them other writes.
+// Slots, and after them other writes.
 fn resolution(alloc: Global, words: &[&[u8]]) -> Result<Resolution<ByteKey, ByteValue>, Unread>
     ensures { Reads resolution_view result (grammar.resolution_of (lent words.now)) }
 {
@@ -103,7 +103,7 @@ pub fn keyed(alloc: Global, form: KeyedForm, words: &[&[u8]]) -> Result<ByteComm
     }
 }
 
-/// What becomes of the keys of a staged batch, behind what every merkleize says.
+/// What becomes of the keys of a staged batch, after what every merkleize says.
 pub fn resolve(alloc: Global, words: &[&[u8]]) -> Result<ByteCommand, Unread>
     ensures { Reads byte_line result (grammar.resolve_of (lent words.now)) }
 {

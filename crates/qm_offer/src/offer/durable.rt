@@ -37,7 +37,7 @@ pub trait Durable<C: Store>: Common<C> {
             self result };
 
     /// Takes the operations before a location away from the store, and makes all others stable first; then a current database
-    /// counts in its metadata the chunks of bits that go. The database comes back as it was where the location is past its
+    /// counts in its metadata the chunks of bits that go. The database comes back as it was if the location is past its
     /// boundary; every other refusal gives back the store.
     fn prune(self, alloc: Global, to: u64) -> Result<Self, Refusal<Self, C>>
         ensures pruned { IfOk result (IsPruned Self.Meaning C.Store to self) }

@@ -11,9 +11,9 @@ use std::alloc::Global;
 
 /// The calls that make the lists of batches and that move a database on to them.
 pub trait Making<C: Store>: Common<C> {
-    /// Makes the batch's tip list: a step of its base list, under the policy. The batch is consumed also where
-    /// this is refused, and the policy may have moved on. It is refused where the batch's chain began on another instance, where
-    /// the batch is stale, where an own operation's spelling has more than 65,536 bytes, and where the list has more than 2^62
+    /// Makes the batch's tip list: a step of its base list, under the policy. The batch is consumed also if
+    /// this is refused, and the policy may have moved on. It is refused if the batch's chain began on another instance, if
+    /// the batch is stale, if an own operation's spelling has more than 65,536 bytes, and if the list has more than 2^62
     /// operations.
     fn merkleize<P: Policy<Self::Family, Self::Key, Self::Value>>(
         &mut self,

@@ -42,7 +42,7 @@ pub trait Neighbours<C: Store>: Common<C> {
             → refusal_of e ≡ None) };
 
     /// In an ordered database reads the nearest live key above this one through a merkleized batch, on the list that it makes.
-    /// It is refused where `get_from` is.
+    /// It is refused if `get_from` is.
     fn next_from(
         &mut self,
         alloc: Global,
@@ -62,7 +62,7 @@ pub trait Neighbours<C: Store>: Common<C> {
         ensures never { IfErr result (λ e. e ≢ Error.StaleBatch) };
 
     /// In an ordered database reads the nearest live key below this one through a merkleized batch, on the list that it makes.
-    /// It is refused where `get_from` is.
+    /// It is refused if `get_from` is.
     fn prev_from(
         &mut self,
         alloc: Global,

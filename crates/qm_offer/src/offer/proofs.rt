@@ -22,7 +22,7 @@ use std::num::NonZeroU64;
 /// The calls for proofs and pins.
 pub trait Proving<C: Store>: Common<C> {
     /// The proof of a merkleized batch's own operations in the list that it makes, and the digests of the peaks over its base
-    /// list. It is refused where the database is at no state at which the batch can be read, and where a node was taken away
+    /// list. It is refused if the database is at no state at which the batch can be read, and if a node was taken away
     /// with what stood before the store's start. A run asks it of no current database.
     fn proof(
         &self,
@@ -68,7 +68,7 @@ pub trait Proving<C: Store>: Common<C> {
         ensures never { IfErr result (λ e. e ≢ Error.StaleBatch) };
 
     /// The digests of the peaks over the first `at` operations, which a node that starts there has to keep. It is
-    /// refused past the end, and where one was taken away with what stood before the store's start.
+    /// refused past the end, and if one was taken away with what stood before the store's start.
     fn pins(&self, alloc: Global, at: u64) -> Result<Vec<Self::Digest>, Error>
         ensures offered { IfOk result (λ digests.
             (list : List Operation) → Self.stands self.now list

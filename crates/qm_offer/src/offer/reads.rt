@@ -45,7 +45,7 @@ pub trait Reading<C: Store>: Common<C> {
             → TellsFrom C.Store (Self.inside self.old) list
             → refusal_of e ≡ None) };
 
-    /// Reads the values of keys through a batch: its own writes, then its base list. It is refused where the database is at no
+    /// Reads the values of keys through a batch: its own writes, then its base list. It is refused if the database is at no
     /// state at which the batch's parent can be read.
     fn get_through(
         &mut self,
@@ -65,7 +65,7 @@ pub trait Reading<C: Store>: Common<C> {
         ensures reads { ReadsOnly Self.Meaning C.Store self.old self.new result }
         ensures never { IfErr result (λ e. e ≢ Error.StaleBatch) };
 
-    /// Reads the values of keys through a merkleized batch, on the list that it makes. It is refused where the database is at
+    /// Reads the values of keys through a merkleized batch, on the list that it makes. It is refused if the database is at
     /// no state at which the batch can be read.
     fn get_from(
         &mut self,

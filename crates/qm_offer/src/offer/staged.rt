@@ -18,7 +18,7 @@ use std::ops::Range;
 /// The calls on staged batches.
 pub trait Staging<C: Store>: Common<C> {
     /// Reads the values of keys through a batch, as `get_through` does, and makes it a staged one with these keys. The batch
-    /// is gone also where this is refused.
+    /// is gone also if this is refused.
     fn stage(
         &mut self,
         alloc: Global,
@@ -38,7 +38,7 @@ pub trait Staging<C: Store>: Common<C> {
         ensures reads { ReadsOnly Self.Meaning C.Store self.old self.new result }
         ensures never { IfErr result (λ e. e ≢ Error.StaleBatch) };
 
-    /// Reads the values of more keys, as `stage` does, and puts them behind the staged ones; their places are told.
+    /// Reads the values of more keys, as `stage` does, and puts them after the staged ones; their places are told.
     fn expand(
         &mut self,
         alloc: Global,

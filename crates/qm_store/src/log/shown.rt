@@ -117,7 +117,7 @@ pub(super) fn proof_from<F: Family, D: Digest, N: Nodes<F, D>>(
     }
 }
 
-// Why a log's call failed, where its tree's did.
+// Why a log's call failed, if its tree's did.
 fn told(error: MerkleError) -> Error
     ensures { result ≡ tree_error error }
 {

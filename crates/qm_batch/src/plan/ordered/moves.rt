@@ -50,7 +50,7 @@ fn find_before<F, I: qm_index::Unordered<Value = Location<F>>, L: Items, U: Step
     Ok(all)
 }
 
-/// The live updates of an ordered list with the operations of writes before the keys of it that go. Where none goes, or in
+/// The live updates of an ordered list with the operations of writes before the keys of it that go. If none goes, or in
 /// an unordered database, nothing is looked for.
 pub(crate) fn befores_of<F, I: qm_index::Unordered<Value = Location<F>>, L: Items, U: Steps<F, I>>(
     alloc: Global,

@@ -3,7 +3,7 @@ use Rattle.std.specs.List.{sum_by}
 use Rattle.qm_memory.specs.Mem.{cut, AreEnds}
 use Rattle.qm_memory.proofs.items.put_all.Given as goal
 
--- copies of the items so far stand behind what was there, and there is room for the rest
+-- copies of the items so far stand after what was there, and there is room for the rest
 abbrev pub invariant-loop-item : goal.invariant-loop-item
 invariant-loop-item l = record {
   ends : AreEnds 0 l.ends.items (length l.bytes.items);

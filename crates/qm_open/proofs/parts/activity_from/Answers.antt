@@ -18,7 +18,7 @@ loop-at-preserved g c =
     let made = one-more g.N.Chunks.LEN c.loop-at.activity c.push.new.self (replicate c.args.floor false) c.args.behind.now c.loop-at.at c.args.floor (rw c.get_bit.ensures at c.in_ok-push.ensures.ok) (omega (arith, c.loop-at-test.true, c.len-at-end.ensures.value)) c.loop-at.invariant.bits c.loop-at.invariant.count in
     record { pruned = ap (λ m. m.pruned) c.in_ok-push.ensures.ok ∙ c.loop-at.invariant.pruned; bits = made.0; count = made.1 }
 
--- no bit is behind the pruned chunks
+-- no bit is after the pruned chunks
 begins : (size chunks floor long : ℕ) (map : Bitmap) → map ≡ record { pruned = chunks; kept = [] } → chunks * (8 * size) ≤ floor → floor + long ≤ 2 ^ 62 → (bit_count size map ≤ floor) × (floor ≤ 2 ^ 62)
 begins size chunks floor long map is below few = let none = ap (bit_count size) is in (omega arith, omega arith)
 

@@ -4,7 +4,7 @@ use Rattle.qm_store.specs.Log.{IsKept}
 use Rattle.qm_open.specs.Selecting.{kept_items, up_to}
 use Rattle.qm_open.proofs.select.last_commit.Given as goal
 
--- no commit stands behind
+-- no commit stands from there on
 abbrev pub invariant-loop-at : goal.invariant-loop-at
 invariant-loop-at g l = record {
   kept : IsKept g.C.Store l.fn.store l.store;

@@ -6,7 +6,7 @@ use Rattle.qm_model.specs.Operations.{eight_bytes}
 use Rattle.qm_model.specs.Forms.{field, key_size, value_size, metadata_field}
 use Rattle.qm_operations.proofs.operation.add_plain.Goals as goal
 
--- what is written behind a tag
+-- what is written after a tag
 tagged : (tag : ℕ) (old first new k : List ℕ) → first ≡ old ++ tag ∷ [] → new ≡ first ++ k → new ≡ old ++ tag ∷ k
 tagged tag old first new k begun next = next ∙ ap (λ b. b ++ k) begun ∙ append_assoc old (tag ∷ []) k
 

@@ -5,7 +5,7 @@ use Rattle.qm_model.specs.Operations.{update}
 use Rattle.qm_model.specs.Forms.{field, key_size, value_size}
 use Rattle.qm_operations.proofs.operation.add_update.Goals as goal
 
--- what is written behind some bytes, field by field
+-- what is written after some bytes, field by field
 written : (old tagged first second new k v n : List ℕ) → tagged ≡ old ++ 1 ∷ [] → first ≡ tagged ++ k → second ≡ first ++ v → new ≡ second ++ n → new ≡ old ++ 1 ∷ (k ++ (v ++ n))
 written old tagged first second new k v n tag key value next =
     next

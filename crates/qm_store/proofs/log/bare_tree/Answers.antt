@@ -46,7 +46,7 @@ unwrap-requires g c = c.from_bytes.ensures.some.1 (c.split_at.ensures.front_len 
 pub returns-in_err-pins : goal.returns-in_err-pins
 returns-in_err-pins g c = record { start = IfOk-from_err c.from_residual.result _ c.from_residual.ensures.0; pins = IfOk-from_err c.from_residual.result _ c.from_residual.ensures.0 }
 
--- no byte is left behind the last piece
+-- no byte is left after the last piece
 all-read : (i count size : ℕ) (made rest bytes : List ℕ) → i ≡ count → made ++ rest ≡ bytes → i * size + length rest ≡ count * size → made ≡ bytes
 all-read i count size made [] bytes last so_far whole = sym (append-nil made) ∙ so_far
 all-read i count size made (x ∷ rest) bytes last so_far whole = let same : i * size ≡ count * size = ap (λ n. n * size) last in absurd (omega arith)

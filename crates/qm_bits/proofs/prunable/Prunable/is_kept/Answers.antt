@@ -2,7 +2,7 @@ use Rattle.std.proofs.Common.{◌≡◌, ℕ, ◌<◌, ◌≤◌, inl, inr, fals
 use Rattle.std.proofs.lemmas.Bool.{ltb-true, ltb-false, leb-true}
 use Rattle.qm_bits.proofs.prunable.Prunable.is_kept.Goals as goal
 
--- a place is behind the first kept bit
+-- a place is not before the first kept bit, and has a bit
 inside : (first count start len at : ℕ) → start ≡ first → len ≡ count → start ≤ at → ltb at len ≡ true → (first ≤ at) × (at < count)
 inside first count start len at from whole low before = let high = ltb-true at len before in (omega arith, omega arith)
 

@@ -7,7 +7,7 @@ use Rattle.qm_model.proofs.MmrPeaks.{peaks_below, peak_at, peaks-one, peaks-none
 use Rattle.qm_merkle.proofs.MmrCalls.{no_digit}
 use Rattle.qm_merkle.proofs.mmr.FamilyFamily.peak.Goals as goal
 
--- where there is a peak, there is a height
+-- if there is a peak, there is a height
 some_height : (h n left : ℕ) → left < length (peaks_below h n) → 0 < h
 some_height h n left lt = ⊎_elim (λ (high : 0 < h). high)
     (λ (none : h ≤ 0).
@@ -15,7 +15,7 @@ some_height h n left lt = ⊎_elim (λ (high : 0 < h). high)
     absurd (omega (arith, ap length (ap (λ k. peaks_below k n) flat ∙ peaks_below-zero n))))
     (cases_lt 0 h)
 
--- the peaks behind the first
+-- the peaks after the first
 behind : (ps rest : List Node) (p : Node) (left : ℕ) → ps ≡ p ∷ rest → 0 < left → slice_get ps left ≡ slice_get rest (left - 1)
 behind ps rest p left is some =
     let next : left ≡ suc (left - 1) = omega arith in

@@ -1,4 +1,4 @@
--- The key behind the tag is that of the update that the bytes spell.
+-- The key after the tag is that of the update that the bytes spell.
 use Rattle.std.proofs.Common.{◌∙◌}
 use Rattle.qm_operations.proofs.Parts.{update_key-spelling}
 use Rattle.qm_operations.proofs.operation.Operation.update_key.Goals as goal
