@@ -7,8 +7,7 @@ use Rattle.std.proofs.Math.Seq.{drop-append-add}
 use Rattle.std.proofs.lemmas.Bool.{ltb-false, ltb-true, le-ltb, lt-ltb}
 use Rattle.std.proofs.lemmas.List.{length-drop, length-replicate}
 use Rattle.qm_model.specs.Bits.{bits}
-use Rattle.std.proofs.lemmas.List.Elements.{All-weaker}
-use Rattle.qm_model.specs.Live.{Live, floor, live}
+use Rattle.qm_model.specs.Live.{floor}
 use Rattle.qm_model.specs.Step.{IsGood}
 use Rattle.qm_bits.specs.Bitmaps.{Bitmap, all_bits, bit_count}
 use Rattle.qm_bits.proofs.Activity.{activity_is}
@@ -23,7 +22,6 @@ use Rattle.qm_store.specs.declared.log.LogRefusal.{LogRefusal}
 use Rattle.qm_store.specs.declared.refusal.Refusal.{Refusal}
 use Rattle.qm_store.specs.Log as logs
 use Rattle.qm_store.specs.Log.{Log, IsLog, IsRefused}
-use Rattle.qm_step.specs.Lent.{NoneBelow}
 use Rattle.qm_any.specs.Layouts.{Hashing, Layout}
 use Rattle.qm_any.specs.Databases.{Database, State, IsDatabase, over}
 use Rattle.qm_model.proofs.Stores.{leaves-now}
@@ -170,14 +168,15 @@ module _ {C D : Type 0} (members : store.Ghosts C) where
       → (state.commitment.size ≡ new.tree.leaves) × (members.«end» new.store ≡ new.tree.leaves)
   joined state old new size end tree kept = let leaves = ap (λ t. t.leaves) (sym tree) in (size ∙ leaves, kept ∙ (end ∙ leaves))
 
-  -- a database stands over another log for the list that it stood for
-  pub relogged : (layout : Layout D) (state : State) (old new : Log C D) (list : List Operation) → (IsSome (members.told old.store) → IsSome (members.told new.store))
+  -- a database stands over another log, that starts no later than its floor, for the list that it stood for
+  pub relogged : (layout : Layout D) (state : State) (old new : Log C D) (list : List Operation) → new.tree.start ≤ floor list → (IsSome (members.told old.store) → IsSome (members.told new.store))
       → IsLog members layout.hashing.shape layout.hashing.bytes layout.hashing.hash new (map (spelling layout.hashing.form) list)
       → IsDatabase members layout (over state old) list → IsDatabase members layout (over state new) list
-  relogged layout state old new list tells logged is = record {
+  relogged layout state old new list low tells logged is = record {
     told = tells is.told;
     lent = record { indexed = is.lent.indexed; logged = logged; of = is.lent.of };
     commitment = is.commitment;
+    low = low;
     floor = is.floor;
     live = is.live;
     metadata = is.metadata;
@@ -234,15 +233,16 @@ module _ {C D : Type 0} (members : store.Ghosts C) where
   cut-is chunk v b a to log db is same view = is ∙ ap (λ a. over (record v { activity = a }) log) same ∙ ap (λ v. over (cut chunk to v) log) view
 
   -- a database without what stands below a location up to its floor stands for the list that it stood for
-  pub cut-stands : (layout : Layout D) (to : ℕ) (state : State) (old new : Log C D) (list : List Operation) → to ≤ floor list → (IsSome (members.told old.store) → IsSome (members.told new.store))
+  pub cut-stands : (layout : Layout D) (to : ℕ) (state : State) (old new : Log C D) (list : List Operation) → to ≤ floor list → new.tree.start ≤ floor list → (IsSome (members.told old.store) → IsSome (members.told new.store))
       → IsLog members layout.hashing.shape layout.hashing.bytes layout.hashing.hash new (map (spelling layout.hashing.form) list)
       → IsDatabase members layout (over state old) list → IsDatabase members layout (over (cut layout.chunk to state) new) list
-  cut-stands layout to state old new list low tells logged is =
-      let moved = relogged layout state old new list tells logged is in
+  cut-stands layout to state old new list low from tells logged is =
+      let moved = relogged layout state old new list from tells logged is in
       record {
         told = moved.told;
         lent = moved.lent;
         commitment = moved.commitment;
+        low = moved.low;
         floor = moved.floor;
         live = moved.live;
         metadata = moved.metadata;
@@ -317,14 +317,3 @@ pub all-stable : (o new : Option Stored) → Becomes o new settled → IfSome ne
 all-stable None new is = subst (λ n. IfSome n (λ s. s.stable ≡ end_of s)) (sym is) tt
 all-stable (Some s) None is = absurd is
 all-stable (Some s) (Some t) is = ap (λ x. x.stable) is ∙ sym (ap end_of is)
-
--- no live update stands below the floor, and none below a start
-pub none-below : (start to : ℕ) (list : List Operation) → IsGood list → to ≤ floor list → NoneBelow start list → NoneBelow (max start to) list
-none-below start to list good low none = cases (nat_lt start to) refl
-  where
-    cases : (t : Bool) → nat_lt start to ≡ t → NoneBelow (max start to) list
-    cases true h =
-        let less : start < to = ltb-true start to h in
-        let same : max start to ≡ to = max-eq_right (omega (arith, less)) in
-        subst (λ n. NoneBelow n list) (sym same) (All-weaker (λ (e : Live). floor list ≤ e.location) (λ e. to ≤ e.location) (λ e above. omega (arith, above, low)) (live list) good.above_floor)
-    cases false h = let same : max start to ≡ start = max-eq_left (ltb-false start to h) in subst (λ n. NoneBelow n list) (sym same) none

@@ -1,5 +1,5 @@
 -- What a step makes of a list, and the merkleized batch of a plan on its parent.
-use Rattle.std.proofs.Common.{◌≡◌, ◌≢◌, ◌∙◌, ℕ, zero, suc, ◌+◌, ◌-◌, ◌≤◌, ◌<◌, ◌^◌, arith, ap, ap₂, sym, subst, refl, Bool, true, false, List, [], ◌∷◌, ◌++◌, length, take, drop, map, inl, inr, ⊎_elim, Option, Some, None, option_map, option_and_then}
+use Rattle.std.proofs.Common.{◌≡◌, ◌≢◌, ◌∙◌, le_refl, ℕ, zero, suc, ◌+◌, ◌-◌, ◌≤◌, ◌<◌, ◌^◌, arith, ap, ap₂, sym, subst, refl, Bool, true, false, List, [], ◌∷◌, ◌++◌, length, take, drop, map, inl, inr, ⊎_elim, Option, Some, None, option_map, option_and_then}
 use Rattle.std.specs.Prelude.{All, Contains, IfSome, get_or, is_some, nat_le, filter_map, if◌then◌else◌, slice_get, ◌==◌}
 use Rattle.std.specs.List.{cons_option, AllByRecursion as Each}
 use Rattle.std.proofs.lemmas.Bool.Decides.{leb_tells}
@@ -15,8 +15,8 @@ use Rattle.qm_model.specs.Keys.{without}
 use Rattle.qm_model.specs.Walk.{Rules, Walked}
 use Rattle.qm_model.specs.Writes.{Write, write_of, last_writes, operation_of, made_inactive, rewrite_of, create_of, unordered_writes}
 use Rattle.qm_model.proofs.OrderedLists.{Each-append}
-use Rattle.qm_model.proofs.OrderedSteps.{ordered-good, step-ring}
-use Rattle.qm_model.proofs.Steps.{step-good}
+use Rattle.qm_model.proofs.OrderedSteps.{ordered-good, ordered-within, step-ring}
+use Rattle.qm_model.proofs.Steps.{step-good, step-within}
 use Rattle.qm_model.proofs.Walks.{Walks, walks, walks_within}
 use Rattle.qm_base.specs.declared.error.Error.{Error}
 use Rattle.qm_base.specs.declared.error.Error.TheVariants as errors
@@ -182,6 +182,14 @@ plan-behind plan base tip is = sym (take-append-drop (length base) tip) ∙ ap�
 pub plan-length : (plan : Plan) (base tip : List Operation) → IsPlan plan base tip → length base + length plan.operations ≡ length tip
 plan-length plan base tip is = sym (length-append base plan.operations) ∙ ap length (sym (plan-behind plan base tip is))
 
+-- none of the lists from which a child's steps start has a floor past that of its parent's list
+pub child-rises : {D : Type 0} {hashing : Hashing D} (parent : Made D) (keep : ℕ) (chain above : Chain) → IsMade hashing parent above chain.base → chain.kept ≡ kept_by keep above chain.base
+    → All (λ (l : List Operation). floor l ≤ floor chain.base) (bases_of chain)
+child-rises parent keep chain above made kept =
+    let low : List Operation → Type 0 = λ l. floor l ≤ floor chain.base in
+    All-cons low chain.base (map (λ (k : Kept). k.base) chain.kept) (le_refl (floor chain.base))
+    (subst (All low) (sym (ap (map (λ (k : Kept). k.base)) kept ∙ child-bases keep above chain.base)) (All-take low keep (bases_of above) made.rises))
+
 module _ {D : Type 0} {hashing : Hashing D} (parent : Made D) (keep : ℕ) (chain above : Chain)
     (few : keep ≤ suc (length parent.bounds.ancestors)) (made : IsMade hashing parent above chain.base) (kept : chain.kept ≡ kept_by keep above chain.base) where
   -- a child's steps, after its own, start from the first lists from which the parent's start
@@ -216,9 +224,9 @@ module _ {D : Type 0} {hashing : Hashing D} (parent : Made D) (keep : ℕ) (chai
   -- a plan on the parent's list makes a batch of the child's chain
   pub child-is_made : (plan : Plan) (tree : KeptTree D) (root : Bytes) (meta : Option Bytes) (tip : List Operation) → IsPlan plan chain.base tip
       → IsKeptTree hashing.bytes hashing.hash hashing.shape tree (spellings hashing tip) (lists_since (child_boundary keep parent.bounds).size (map (spellings hashing) (chain.base ∷ bases_of above)))
-      → root ≡ list_root hashing tip → meta ≡ last_metadata tip → All (IsOf hashing.form) tip → IsGood tip → HasRing hashing.form tip
+      → root ≡ list_root hashing tip → meta ≡ last_metadata tip → All (IsOf hashing.form) tip → IsGood tip → floor chain.base ≤ floor tip → HasRing hashing.form tip
       → IsMade hashing (child_made parent keep plan tree root meta) chain tip
-  child-is_made plan tree root meta tip is grown standing last all good ring =
+  child-is_made plan tree root meta tip is grown standing last all good rises ring =
       record {
         bounds = record {
           base = made.bounds.tip;
@@ -237,6 +245,7 @@ module _ {D : Type 0} {hashing : Hashing D} (parent : Made D) (keep : ℕ) (chai
         tree = child-tree tree tip grown;
         of = all;
         good = good;
+        rises = All-weaker (λ (l : List Operation). floor l ≤ floor chain.base) (λ l. floor l ≤ floor tip) (λ l low. omega (arith, low, rises)) (bases_of chain) (child-rises parent keep chain above made kept);
         ring = ring;
       }
 
@@ -413,6 +422,14 @@ module _ {P : Type 0} (form : Form) (rules : Rules P) (base : List Operation) (w
       by : (o : Bool) → IsGood (step (if o then ordered else unordered) rules base ws policy meta)
       by true = ordered-good rules base ws policy meta good
       by false = step-good rules base ws policy meta good
+
+  -- its floor is no lower than that of its base list
+  pub stepped-rises : IsGood base → floor base ≤ floor (stepped form rules base ws policy meta)
+  stepped-rises good = by form.ordered
+    where
+      by : (o : Bool) → floor base ≤ floor (step (if o then ordered else unordered) rules base ws policy meta)
+      by true = (ordered-within rules base ws policy meta (omega (arith, good.floor_within))).1
+      by false = (step-within rules base ws policy meta (omega (arith, good.floor_within))).1
 
   -- in an ordered database each of its live updates names the next live key, as those of its base list do
   pub stepped-ring : HasRing form base → HasRing form (stepped form rules base ws policy meta)

@@ -3,7 +3,6 @@ use Rattle.std.proofs.Common.{◌≡◌, ◌≢◌, ◌≤◌, ℕ, suc, arith, 
 use Rattle.std.specs.Prelude.{Result, Ok, Err, IfOk, IfErr, IsErrOf, if◌then◌else◌}
 use Rattle.std.specs.Option.{option_map, option_or}
 use Rattle.std.proofs.lemmas.Bool.{false≢true, lt-ltb, le-ltb}
-use Rattle.std.proofs.lemmas.List.Elements.{All-weaker}
 use Rattle.qm_base.specs.declared.error.Error.{Error}
 use Rattle.qm_base.specs.declared.error.Error.TheVariants as errors
 use Rattle.qm_base.specs.declared.error.JournalError.TheVariants as journal
@@ -13,7 +12,7 @@ use Rattle.qm_model.specs.Batches.{Commitment, Chain, boundary_list, IsOnChain, 
 use Rattle.qm_model.specs.Causes.{Rose}
 use Rattle.qm_model.specs.Refused.{Refused, Journal, ItemTooLarge, Merkle, LocationOverflow}
 use Rattle.qm_model.specs.Refusals.{tip_refusal, too_long, too_many}
-use Rattle.qm_model.specs.Live.{floor, live}
+use Rattle.qm_model.specs.Live.{floor}
 use Rattle.qm_model.specs.Schemes.{takes}
 use Rattle.qm_model.specs.Writes.{Write}
 use Rattle.qm_model.proofs.Chains.{fits-on_chain, readable-known}
@@ -26,7 +25,6 @@ use Rattle.qm_store.specs.Given.{IsUnchanged, TellsFrom, store_after, store_give
 use Rattle.qm_store.specs.declared.refusal.Refusal.{Refusal}
 use Rattle.qm_chain.specs.Bounds.{Bounds, IsBounds, is_at, knows}
 use Rattle.qm_chain.proofs.Fits.{at-fits, at-readable}
-use Rattle.qm_step.specs.Lent.{NoneBelow}
 use Rattle.qm_any.specs.Databases.{Database, IsLeft, IsDatabase, Begun, Staged, Made, IsBegun, IsStaged, IsMade, staged_keys, is_on, list_commitment}
 use Rattle.qm_any.specs.Layouts.{Hashing, Layout, list_root}
 use Rattle.qm_any.specs.Reading.{IsOfKeptItem, IsThroughError}
@@ -140,30 +138,16 @@ module _ {C D : Type 0} (members : store.Ghosts C) (old new : Log C D) (can : Bo
   never-read (inr (inr told)) stale = log-kept members old new e told.1 stale
 
 module _ {C D : Type 0} (members : store.Ghosts C) (layout : Layout D) (db : Database C D) where
-  -- if the store tells all from the list's floor on, no live operation stands below its start
-  pub none-below : (list : List Operation) → IsDatabase members layout db list → TellsFrom members db.log.store list → NoneBelow db.log.tree.start list
-  none-below list is tells =
-      All-weaker (λ e. floor list ≤ e.location) (λ e. db.log.tree.start ≤ e.location)
-      (λ e low. omega (arith, low, is.lent.logged.start, tells.0)) (live list) is.good.above_floor
-
-  -- so no read of it fails for an item that is gone
-  pub kept-items : {X : Type 0} (r : Result X Error) → ((list : List Operation) → IsDatabase members layout db list → NoneBelow db.log.tree.start list → IfErr r IsOfKeptItem)
+  -- no read of what stands for a list fails for an item that is gone
+  pub kept-items : {X : Type 0} (r : Result X Error) → ((list : List Operation) → IsDatabase members layout db list → IfErr r IsOfKeptItem)
       → IfErr r (λ e. (list : List Operation) → IsDatabase members layout db list → TellsFrom members db.log.store list → IsOfKeptItem e)
   kept-items r whole =
       err-each (IsDatabase members layout db) (λ list e. TellsFrom members db.log.store list → IsOfKeptItem e) r
-      (λ list is. err-when IsOfKeptItem r (λ tells. whole list is (none-below list is tells)))
-
-  -- nor does a walk that reads nothing below a limit, if the floor is not above it
-  pub kept-from : {X : Type 0} (r : Result X Error) (limit : ℕ) → ((list : List Operation) → IsDatabase members layout db list → NoneBelow db.log.tree.start list → db.log.tree.start ≤ limit → IfErr r IsOfKeptItem)
-      → IfErr r (λ e. (list : List Operation) → IsDatabase members layout db list → TellsFrom members db.log.store list → floor list ≤ limit → IsOfKeptItem e)
-  kept-from r limit whole =
-      err-each (IsDatabase members layout db) (λ list e. TellsFrom members db.log.store list → floor list ≤ limit → IsOfKeptItem e) r
-      (λ list is. err-when (λ e. floor list ≤ limit → IsOfKeptItem e) r
-      (λ tells. err-when IsOfKeptItem r (λ low. whole list is (none-below list is tells) (omega (arith, low, is.lent.logged.start, tells.0)))))
+      (λ list is. err-when IsOfKeptItem r (λ tells. whole list is))
 
   -- and a read that fails is told as no refusal
   pub read-untold : {X : Type 0} (new : Log C D) (r : Result X Error) → IfErr r (IsReadError members db.log new)
-      → ((list : List Operation) → IsDatabase members layout db list → NoneBelow db.log.tree.start list → IfErr r IsOfKeptItem)
+      → ((list : List Operation) → IsDatabase members layout db list → IfErr r IsOfKeptItem)
       → IfErr r (λ e. (list : List Operation) → IsDatabase members layout db list → TellsFrom members db.log.store list → refusal_of e ≡ None)
   read-untold new r errs whole =
       err-both r errs (kept-items r whole) (λ e why kept list is tells. log-untold members db.log new e (kept list is tells) why)
@@ -241,14 +225,14 @@ module _ (form : Form) (chain : Chain) (tip : List Operation) where
 
   -- a merkleize that is refused, and not as stale, is so for that if the database is on the chain and lacks no item of it; its
   -- batch is of an instance that the database takes, and fits
-  pub refused-due : {C D : Type 0} (members : store.Ghosts C) (old new : Log C D) (T P On Low : Type 0) (e : Error) → e ≢ errors.StaleBatch → (Low → IsOfKeptItem e) → (On → IsRefused form chain.base tip e ⊎ IsReadError members old new e)
+  pub refused-due : {C D : Type 0} (members : store.Ghosts C) (old new : Log C D) (T P On Low : Type 0) (e : Error) → e ≢ errors.StaleBatch → (On → IsOfKeptItem e) → (On → IsRefused form chain.base tip e ⊎ IsReadError members old new e)
       → T → (e ≢ errors.Memory → P) → IfSome (refusal_of e) (λ r. T × P × (On → Low → tip_refusal form chain tip ≡ Some r))
   refused-due members old new T P On Low e fresh whole refused own give =
-      some-intro (refusal_of e) (λ r. T × P × (On → Low → tip_refusal form chain tip ≡ Some r)) (λ r told. (own, give (λ memory. none-some r (sym (ap refusal_of memory) ∙ told)), λ on low. either r told low (refused on)))
+      some-intro (refusal_of e) (λ r. T × P × (On → Low → tip_refusal form chain tip ≡ Some r)) (λ r told. (own, give (λ memory. none-some r (sym (ap refusal_of memory) ∙ told)), λ on low. either r told on (refused on)))
     where
-      either : (r : Refused) → refusal_of e ≡ Some r → Low → IsRefused form chain.base tip e ⊎ IsReadError members old new e → tip_refusal form chain tip ≡ Some r
-      either r told low (inl long) = due e r fresh long told
-      either r told low (inr read) = absurd (none-some r (sym (log-untold members old new e (whole low) read) ∙ told))
+      either : (r : Refused) → refusal_of e ≡ Some r → On → IsRefused form chain.base tip e ⊎ IsReadError members old new e → tip_refusal form chain tip ≡ Some r
+      either r told on (inl long) = due e r fresh long told
+      either r told on (inr read) = absurd (none-some r (sym (log-untold members old new e (whole on) read) ∙ told))
 
 -- What comes of a merkleize, by what it says of the tip that it makes, which is this one. It fits if it is on the chain.
 pub makes : {X C B S M D : Type 0} (means : meaning.Ghosts X C B S M) (members : store.Ghosts C) (old : X) (was is : Log C D) (list : List Operation) (chain : Chain) (own tip : List Operation) (r : Result M Error) (on : Bool)
@@ -261,7 +245,7 @@ pub makes : {X C B S M D : Type 0} (means : meaning.Ghosts X C B S M) (members :
     → (IsOnChain list chain → IfErr r (λ e. IsRefused means.scheme.form chain.base own e ⊎ IsReadError members was is e))
     → IfErr r (λ e. e ≡ errors.StaleBatch → on ≡ false)
     → IfErr r (λ e. e ≢ errors.Memory → e ≢ errors.StaleBatch → on ≡ true)
-    → IfErr r (λ e. TellsFrom members (means.inside old) list → floor list ≤ floor chain.base → IsOfKeptItem e)
+    → (IsOnChain list chain → IfErr r IsOfKeptItem)
     → Makes means members old list chain tip r
 makes means members old was is list chain own tip (Ok b) on plain same fit fitted made taken refused stale order whole = record {
   instance = λ n numbered. ap (λ grafts. takes grafts n chain.instance) plain;
@@ -279,7 +263,7 @@ makes means members old was is list chain own tip (Err e) on plain same fit fitt
   made = tt;
   stale = λ left n numbered took. off-chain means.scheme.root list chain (sym fit ∙ stale left);
   refused = λ fresh tells.
-      refused-due means.scheme.form chain tip members was is (Takes means old chain) (Fits means list chain) (IsOnChain list chain) (floor list ≤ floor chain.base) e fresh (whole tells)
+      refused-due means.scheme.form chain tip members was is (Takes means old chain) (Fits means list chain) (IsOnChain list chain) (floor list ≤ floor chain.base) e fresh whole
       (λ here. subst (λ t. IsRefused means.scheme.form chain.base t e ⊎ IsReadError members was is e) same (refused here))
       (λ n numbered. ap (λ grafts. takes grafts n chain.instance) plain) (λ memory. sym fit ∙ order memory fresh);
 }

@@ -45,6 +45,7 @@ left-database members layout old new list left is =
       told = subst IsSome (sym ((left.read).told)) is.told;
       lent = lent-then (log_reads members by.shape by.bytes by.hash) by.form layout.index_key old.entries old.log new.log list left.read is.lent;
       commitment = is.commitment;
+      low = omega (arith, left.read.start, is.low);
       floor = is.floor;
       live = is.live;
       metadata = is.metadata;
@@ -77,6 +78,6 @@ lent-reads members layout old lent log result same did =
     subst (λ (db : Database _ _). Reads members layout db (record lent { log = log }) result) same
     (record {
       error = did.error;
-      whole = λ list is none. did.whole (record { list = list; lent = is.lent; none = none });
+      whole = λ list is. did.whole (record { list = list; lent = is.lent; none = good-none lent.log.tree.start list is.good is.low });
       left = record { rest = refl; read = did.left };
     })

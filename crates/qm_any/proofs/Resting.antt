@@ -1,10 +1,10 @@
 -- A database as a batch, and what a call leaves that does nothing.
-use Rattle.std.proofs.Common.{◌≡◌, ◌∙◌, ℕ, suc, min, refl, sym, ap, arith, List, [], ◌∷◌, length, take, Contains, None, Some}
+use Rattle.std.proofs.Common.{◌≡◌, ◌∙◌, ◌≤◌, le_refl, ℕ, suc, min, refl, sym, ap, arith, List, [], ◌∷◌, length, take, Contains, None, Some}
 use Rattle.std.specs.Prelude.{All, if◌then◌else◌}
 use Rattle.std.proofs.Math.Seq.{take-length, drop-length}
 use Rattle.std.proofs.lemmas.List.{append-nil, take_all, take_min, length-map}
 use Rattle.std.proofs.lemmas.List.Elements.{All-nil, All-cons}
-use Rattle.qm_model.specs.Live.{touched}
+use Rattle.qm_model.specs.Live.{floor, touched}
 use Rattle.qm_step.specs.Changes.{AreChanges, stands_at, place_in}
 use Rattle.qm_model.specs.Forms.{spelling}
 use Rattle.qm_store.specs.KeptTrees.{IsAdding, leaves_of}
@@ -48,6 +48,7 @@ module _ {C D : Type 0} {members : store.Ghosts C} {layout : Layout D} where
         };
         of = is.lent.of;
         good = is.good;
+        rises = All-one (λ (l : List Operation). floor l ≤ floor list) list (le_refl (floor list));
         ring = is.ring;
       }
 

@@ -58,13 +58,14 @@ module _ {C D : Type 0} (members : store.Ghosts C) (layout : Layout D) where
       → IsOpened members layout.hashing.shape layout.hashing.bytes layout.hashing.hash layout.hashing.form layout.index_key layout.chunk old entries live_keys activity root meta list
       → IsLog members layout.hashing.shape layout.hashing.bytes layout.hashing.hash new (spellings layout.hashing list) → IsSome (members.told new.store)
       → db ≡ record { entries = entries; activity = activity; log = new; commitment = record { size = size; root = root }; floor = low; live = live_keys; metadata = meta }
-      → old.tree.leaves ≡ size → low ≡ floor list → IsGood list → HasRing layout.hashing.form list → IsDatabase members layout db list
-  opened-stands old new entries live_keys activity root meta size low db list opened logged told is leaves below good ring =
+      → old.tree.leaves ≡ size → low ≡ floor list → members.start new.store ≤ low → IsGood list → HasRing layout.hashing.form list → IsDatabase members layout db list
+  opened-stands old new entries live_keys activity root meta size low db list opened logged told is leaves below from good ring =
       let whole : size ≡ length list = sym leaves ∙ opened.has.logged.size ∙ length-map list _ in
       subst (λ d. IsDatabase members layout d list) (sym is) (record {
         told = told;
         lent = record { indexed = opened.indexed; logged = logged; of = opened.has.of };
         commitment = ap₂ (λ n r. record { size = n; root = r }) whole opened.root_is;
+        low = omega (arith, logged.start, from, below);
         floor = below;
         live = opened.counted;
         metadata = opened.metadata_is;

@@ -44,12 +44,13 @@ no-chunks n = omega arith
 -- an empty index, the fresh list's bits, a log of it and its commitment are a database of it
 pub fresh-stands : {C D : Type 0} (members : store.Ghosts C) (layout : Layout D) (db : Database C D) (log : Log C D) (first : Commitment)
     → db ≡ record { entries = []; activity = record { pruned = 0; kept = bits fresh }; log = log; commitment = first; floor = 0; live = 0; metadata = None }
-    → first ≡ record { size = 1; root = list_root layout.hashing fresh } → IsSome (members.told log.store)
+    → first ≡ record { size = 1; root = list_root layout.hashing fresh } → log.tree.start ≡ 0 → IsSome (members.told log.store)
     → IsLog members layout.hashing.shape layout.hashing.bytes layout.hashing.hash log (map (spelling layout.hashing.form) fresh) → IsDatabase members layout db fresh
-fresh-stands members layout db log first is committed told logged = subst (λ d. IsDatabase members layout d fresh) (sym is) (record {
+fresh-stands members layout db log first is committed from told logged = subst (λ d. IsDatabase members layout d fresh) (sym is) (record {
   told = told;
   lent = record { indexed = λ k. IsPermutation-refl []; logged = logged; of = fresh-of layout.hashing.form };
   commitment = committed;
+  low = omega (arith, from);
   floor = refl;
   live = refl;
   metadata = refl;

@@ -3,13 +3,14 @@ use Rattle.std.proofs.Common.{◌≡◌, ℕ, ◌≤◌, ◌<◌, ◌+◌, true,
 use Rattle.std.specs.Prelude.{All, Contains, nat_le, if◌then◌else◌, Option, Some, None, IsSome, Result, Ok, Err, IfOk}
 use Rattle.std.proofs.lemmas.Bool.Decides.{leb_tells}
 use Rattle.std.proofs.lemmas.List.{take-map, take_all, append-nil, length-append, map_more, map-append, nil_from_length}
-use Rattle.std.proofs.lemmas.List.Elements.{All-nil, All-cons, All-head, All-append, All-take, All-drop}
+use Rattle.std.proofs.lemmas.List.Elements.{All-nil, All-cons, All-head, All-append, All-take, All-drop, All-contains}
 use Rattle.std.proofs.Math.Seq.{take-append_seam, drop-append_seam}
 use Rattle.qm_model.specs.Causes.{IsCause}
 use Rattle.qm_model.specs.StoreModel.{Stored, Becomes}
 use Rattle.qm_model.specs.StoreModel as model
 use Rattle.qm_model.specs.Forms.{spelling}
 use Rattle.qm_model.specs.Bits.{bits}
+use Rattle.qm_model.specs.Live.{floor}
 use Rattle.qm_model.specs.Operations.{Bytes, Operation, IsCommitEnded}
 use Rattle.qm_model.specs.Batches.{Chain, IsOnChain}
 use Rattle.qm_base.specs.declared.error.Error.{Error}
@@ -203,16 +204,20 @@ module _ {C D : Type 0} (members : store.Ghosts C) (layout : Layout D) where
       let all : map (spelling layout.hashing.form) list ++ items ≡ map (spelling layout.hashing.form) tip =
       ap (λ xs. map (spelling layout.hashing.form) list ++ xs) spelled ∙ sym (map-append (spelling layout.hashing.form) list (operations_in (unapplied n batch.layers))) ∙ ap (map (spelling layout.hashing.form)) (sym lacked.0) in
       let lead = subst (λ cs. LeadTo cs list tip) (sym done) lacked.1 in
+      let logged : IsLog members layout.hashing.shape layout.hashing.bytes layout.hashing.hash next.log (map (spelling layout.hashing.form) tip) =
+      subst (IsLog members layout.hashing.shape layout.hashing.bytes layout.hashing.hash next.log) all (log (spelled_list list) older is.lent.logged
+      (subst (λ xs. IsKeptTree layout.hashing.bytes layout.hashing.hash layout.hashing.shape batch.tree xs older) (sym all) made.tree)
+      (Contains-later (spelled_list list ++ items) older (spelled_list list) among)) in
+      let rises : floor list ≤ floor tip = All-contains (λ (l : List Operation). floor l ≤ floor tip) (bases_of chain) list made.rises (on_chain-base list chain made.linked on) in
       record {
         told = grown-told (members.told db.log.store) (members.told next.log.store) (model.appended items) is.told grown.told;
         lent = record {
           indexed = index list tip lead is.lent.indexed;
-          logged = subst (IsLog members layout.hashing.shape layout.hashing.bytes layout.hashing.hash next.log) all (log (spelled_list list) older is.lent.logged
-              (subst (λ xs. IsKeptTree layout.hashing.bytes layout.hashing.hash layout.hashing.shape batch.tree xs older) (sym all) made.tree)
-              (Contains-later (spelled_list list ++ items) older (spelled_list list) among));
+          logged = logged;
           of = made.of;
         };
         commitment = rest.0 ∙ made.bounds.tip;
+        low = omega (arith, logged.start, grown.start, is.lent.logged.start, is.low, rises);
         floor = rest.1 ∙ made.lowest;
         live = rest.2 ∙ made.live;
         metadata = rest.3 ∙ made.metadata;

@@ -2,6 +2,7 @@
 use Rattle.std.proofs.Common.{◌≡◌, ◌≢◌, ◌∙◌, ◌⊎◌, ℕ, suc, ◌+◌, ◌≤◌, arith, ap, ap₂, sym, subst, refl, Bool, true, false, List, ◌∷◌, ◌++◌, length, map, Option, None, inl, inr}
 use Rattle.std.specs.Prelude.{All, Contains}
 use Rattle.std.proofs.lemmas.List.{length-map}
+use Rattle.std.proofs.lemmas.List.Elements.{All-contains}
 use Rattle.qm_model.specs.Forms.{Form, spelling}
 use Rattle.qm_model.specs.Operations.{Bytes, Operation}
 use Rattle.qm_model.specs.Refusals.{too_long}
@@ -25,7 +26,7 @@ use Rattle.qm_any.specs.Layouts.{Hashing, list_root, spellings}
 use Rattle.qm_any.specs.Making.{IsUnmade}
 use Rattle.qm_any.specs.Tips.{IsRefused, IsSpelled, IsTaken, IsTooLong}
 use Rattle.qm_any.proofs.Known.{child-base, child-linked, on_chain-base}
-use Rattle.qm_any.proofs.Making.{child-among, child-is_made, plan-behind, plan-length, plan-refused, stepped-good, stepped-metadata, stepped-of, stepped-ring, too_long-cause, too_long-fresh, too_long-kept, too_long-size}
+use Rattle.qm_any.proofs.Making.{child-among, child-is_made, child-rises, plan-behind, plan-length, plan-refused, stepped-good, stepped-metadata, stepped-of, stepped-rises, stepped-ring, too_long-cause, too_long-fresh, too_long-kept, too_long-size}
 use Rattle.qm_any.proofs.Reasons.{read-cause, read-fresh}
 
 -- what is seen of a database whose log is the same
@@ -56,6 +57,13 @@ pub child-found : {D : Type 0} {hashing : Hashing D} (batch : Begun D) (at : Mad
     → IsBegun hashing batch chain above → IsOnChain list chain → IsBase known list chain.base
 child-found batch at known list chain above is same begun on =
     subst (λ b. IsBase b list chain.base) (sym (is ∙ ap base_of same)) (child-base batch.parent batch.keep list chain above begun.parent begun.kept on)
+
+-- a list on its chain has its floor at or before that of the list that it was begun on
+pub begun-low : {D : Type 0} {hashing : Hashing D} (batch : Begun D) (list : List Operation) (chain above : Chain) → IsBegun hashing batch chain above → IsOnChain list chain → floor list ≤ batch.parent.bounds.inactivity_floor
+begun-low batch list chain above begun on =
+    let linked = subst (AreLinked chain.base) (sym begun.kept) (child-linked batch.keep above chain.base begun.parent.linked) in
+    let low : floor list ≤ floor chain.base = All-contains (λ (l : List Operation). floor l ≤ floor chain.base) (bases_of chain) list (child-rises batch.parent batch.keep chain above begun.parent begun.kept) (on_chain-base list chain linked on) in
+    omega (arith, low, begun.parent.lowest)
 
 -- a list on a child's chain is one that its parent's tree leads through
 pub child-on : {D : Type 0} {hashing : Hashing D} (parent : Made D) (keep : ℕ) (chain above : Chain) → keep ≤ suc (length parent.bounds.ancestors) → IsMade hashing parent above chain.base → chain.kept ≡ kept_by keep above chain.base
@@ -163,4 +171,4 @@ child-stepped {D} {P} {hashing} parent keep chain above few made kept rules poli
     child-is_made parent keep chain above few made kept plan tree root shared tip is stands
     (rooted (is.floor ∙ ap floor behind) ∙ ap (list_root hashing) (sym behind))
     (same ∙ stepped-metadata form rules base ws policy meta) all
-    (stepped-good form rules base ws policy meta made.good) (stepped-ring form rules base ws policy meta made.ring)
+    (stepped-good form rules base ws policy meta made.good) (stepped-rises form rules base ws policy meta made.good) (stepped-ring form rules base ws policy meta made.ring)

@@ -184,7 +184,7 @@ module _ {D : Type 0} (hashing : Hashing D) where
   abbrev pub IsTree : KeptTree D → List Operation → List (List Operation) → Type 0
   IsTree tree list older = IsKeptTree hashing.bytes hashing.hash hashing.shape tree (spellings hashing list) (map (spellings hashing) older)
 
-  -- the batch is of this chain, and makes this list
+  -- the batch is of this chain, and makes this list, whose floor is no lower than those of the lists from which its steps start
   pub record IsMade (batch : Made D) (chain : Chain) (tip : List Operation) : Type 0 where
     pub bounds : IsBounds (list_root hashing) batch.bounds chain tip
     pub lowest : batch.bounds.inactivity_floor ≡ floor tip
@@ -195,6 +195,7 @@ module _ {D : Type 0} (hashing : Hashing D) where
     pub tree : IsTree batch.tree tip (bases_of chain)
     pub of : All (IsOf hashing.form) tip
     pub good : IsGood tip
+    pub rises : All (λ (list : List Operation). floor list ≤ floor tip) (bases_of chain)
     pub ring : HasRing hashing.form tip
 
   -- the batch is of this chain, and its parent of that one
@@ -208,11 +209,12 @@ module _ {D : Type 0} (hashing : Hashing D) where
     pub reads : All (λ r. r.1 ≡ update_of chain.base r.0) staged.reads
 
 module _ {C D : Type 0} (members : store.Ghosts C) where
-  -- the database, of this layout, stands for this list, and its store tells its items
+  -- the database, of this layout, stands for this list, and its store tells its items, from the list's floor or a location before it on
   pub record IsDatabase (layout : Layout D) (db : Database C D) (list : List Operation) : Type 0 where
     pub told : IsSome (members.told db.log.store)
     pub lent : IsLent members layout.hashing.shape layout.hashing.bytes layout.hashing.hash layout.hashing.form layout.index_key db.entries db.log list
     pub commitment : db.commitment ≡ list_commitment layout.hashing list
+    pub low : db.log.tree.start ≤ floor list
     pub floor : db.floor ≡ floor list
     pub live : db.live ≡ length (live list)
     pub metadata : db.metadata ≡ last_metadata list

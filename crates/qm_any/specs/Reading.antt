@@ -6,7 +6,6 @@ use Rattle.qm_base.specs.declared.error.Error.{Error}
 use Rattle.qm_base.specs.declared.error.Error.TheVariants as errors
 pub use Rattle.qm_base.specs.Reads.{IsOfKeptItem}
 use Rattle.qm_chain.specs.Bounds.{Bounds, knows}
-use Rattle.qm_step.specs.Lent.{NoneBelow}
 use Rattle.qm_store.specs.declared.Store as store
 use Rattle.qm_store.specs.Log.{Log}
 use Rattle.qm_store.specs.Reads.{IsReadError}
@@ -44,15 +43,15 @@ module _ {C D : Type 0} (members : store.Ghosts C) (layout : Layout D) where
 
   module _ {A : Type 0} (old new : Database C D) (result : Result A Error) where
     -- A call read the database: it left it as it was but for its store's count of faults. It failed for memory, for a fault by
-    -- which that count rose, or at an item that the store no longer has, and not so if no live update stands below the start.
+    -- which that count rose, or at an item that the store no longer has, and not so if the database stands for a list.
     pub record Reads : Type 0 where
       pub error : IfErr result (IsReadError members old.log new.log)
-      pub whole : AtList old (λ list. NoneBelow old.log.tree.start list → IfErr result IsOfKeptItem)
+      pub whole : AtList old (λ list. IfErr result IsOfKeptItem)
       pub left : IsLeft members layout.hashing old new
 
     -- The same through a batch of these bounds: it answers only if they know the database's state, and is stale only if not.
     pub record ReadsThrough (bounds : Bounds) : Type 0 where
       pub readable : OnOk result (knows bounds old.commitment ≡ true)
       pub error : IfErr result (IsThroughError members (knows bounds old.commitment) old.log new.log)
-      pub whole : AtList old (λ list. NoneBelow old.log.tree.start list → IfErr result IsOfKeptItem)
+      pub whole : AtList old (λ list. IfErr result IsOfKeptItem)
       pub left : IsLeft members layout.hashing old new

@@ -20,7 +20,6 @@ ghost use Rattle.qm_step.specs.Layers.{LeadOver};
 ghost use Rattle.qm_step.specs.Changes.{LeadTo, update_of};
 ghost use Rattle.qm_index.specs.Indexed.{IsIndexed};
 ghost use Rattle.qm_store.specs.Reads.{IsReadError};
-ghost use Rattle.qm_step.specs.Lent.{NoneBelow};
 ghost use Rattle.qm_step.specs.Views.{changes_view, keys_of, read_view, wanted_view, AreReads, IsPlan};
 ghost use Rattle.qm_any.specs.Databases.{Database, over, IsBegun, IsLeft, IsMade, IsTree, at_rest, read_under};
 ghost use Rattle.qm_store.specs.Given.{Appended, AppendedPart, store_given, store_after};
@@ -720,7 +719,7 @@ impl<
         ensures live { IfOk result (λ plan. plan.live ≤ base.now.size + length plan.operations) }
         ensures error { IfErr result (IsReadError C.Store self.old.log self.new.log) }
         ensures whole { (list : List Operation) → ⟦<Self as LaidOut>⟧.stands self.old list
-            → NoneBelow self.old.log.tree.start list → self.old.log.tree.start ≤ base.now.floor
+            → self.old.log.tree.start ≤ base.now.floor
             → IfErr result (λ e. (n : ℕ) → e ≢ Error.Journal (JournalError.ItemPruned n)) }
         ensures left { IsLeft C.Store ⟦<Self as LaidOut>⟧.layout.hashing self.old self.new }
     {

@@ -5,7 +5,6 @@ ghost use Rattle.qm_model.specs.Live as lives;
 ghost use Rattle.qm_model.specs.Operations.{Operation};
 ghost use Rattle.qm_model.specs.StoreModel.{end_of, settled, with_metadata, IsImage, IsOldOrNew, ReadsAs};
 ghost use Rattle.qm_store.specs.Log.{HasLeft};
-ghost use Rattle.qm_step.specs.Lent.{NoneBelow};
 ghost use Rattle.qm_any.specs.Lasting.{bits_from, boundary_of, over_log, HasLasted, HasLeftPruned, HasLeftDestroyed, HasLeftStable, HasPruned, HasPrunedLog, IsDestroyed, IsGivenUp};
 
 use crate::db::{Db, LaidOut, State};
@@ -70,9 +69,6 @@ impl<
     pub fn prune(self, alloc: Global, loc: Location<F>) -> Result<Self, Refusal<Self, C>>
         ensures stands { (list : List Operation) → ⟦<Self as LaidOut>⟧.stands self list
             → IfOk result (λ db. ⟦<Self as LaidOut>⟧.stands db list) }
-        ensures whole { (list : List Operation) → ⟦<Self as LaidOut>⟧.stands self list
-            → NoneBelow self.log.tree.start list
-            → IfOk result (λ db. NoneBelow db.log.tree.start list) }
         ensures pruned { IfOk result
             (HasPruned C.Store ⟦<Self as LaidOut>⟧.layout settled loc self) }
         ensures boundary { (list : List Operation) → ⟦<Self as LaidOut>⟧.stands self list
@@ -132,7 +128,8 @@ impl<
     pub fn prune_log(self, alloc: Global, to: u64) -> Result<Self, Refusal<Self, C>>
         requires size { to ≤ self.commitment.size }
         requires stable { IfSome (C.told self.log.store) (λ s. s.stable ≡ end_of s) }
-        ensures stands { (list : List Operation) → ⟦<Self as LaidOut>⟧.stands self list
+        ensures stands { (list : List Operation) → to ≤ lives.floor list
+            → ⟦<Self as LaidOut>⟧.stands self list
             → IfOk result (λ db. ⟦<Self as LaidOut>⟧.stands db list) }
         ensures pruned { IfOk result
             (HasPrunedLog C.Store ⟦<Self as LaidOut>⟧.layout.hashing to self) }

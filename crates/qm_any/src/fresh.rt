@@ -91,6 +91,7 @@ fn begun<
     items: &[Vec<u8>],
 ) -> Result<Db<F, C, I, H, U, N>, Refusal<Db<F, C, I, H, U, N>, C>>
     requires log { IsLog C.Store F.shape H.Digest.bytes H.hash log [] }
+    requires start { C.start log.store ≡ 0 }
     requires end { C.end log.store ≡ 0 }
     requires items { map (λ v. v.items) items.now ≡ map (spelling U.form) fresh }
     requires count { length items.now ≡ 1 }

@@ -50,6 +50,7 @@ fn settled<
     opened: Opened<N, F, C, I, H, U>,
     selected: Selected,
 ) -> Result<Db<F, C, I, H, U, N>, Refusal<Db<F, C, I, H, U, N>, C>>
+    requires start { C.start opened.log.store ≤ selected.floor }
     requires size { opened.log.tree.leaves ≡ selected.size }
     requires bits { bit_count N.LEN opened.activity ≡ selected.size }
     requires live { opened.live ≤ selected.size }

@@ -4,11 +4,10 @@ ghost use Rattle.std.specs.Prelude.{◌≡◌, ◌≤◌, ◌+◌, ◌++◌, ◌
 ghost use Rattle.qm_base.specs.Slots.{slot_views, write_views};
 ghost use Rattle.qm_model.specs.Slots.{slotted};
 ghost use Rattle.qm_model.specs.Writes.{read_through};
-ghost use Rattle.qm_step.specs.Lent.{NoneBelow};
 ghost use Rattle.qm_step.specs.Views.{reads_view};
 ghost use Rattle.qm_any.specs.Databases.{IsChild, IsMade, IsLeft, IsStaged, is_on, staged_keys};
 ghost use Rattle.qm_any.specs.Making.{IsMaking, IsUnmade, making_of};
-ghost use Rattle.qm_any.specs.Reading.{IsOfKeptItem, ReadsThrough, AtBegun, AtList, AtStaged, OnBegun, OnStaged};
+ghost use Rattle.qm_any.specs.Reading.{IsOfKeptItem, ReadsThrough, AtBegun, AtStaged, OnBegun, OnStaged};
 
 use crate::batch::{MerkleizedBatch, UnmerkleizedBatch, sealed};
 use crate::db::{Db, LaidOut};
@@ -111,10 +110,8 @@ impl<F: Family, D: Digest, U: Update> UnmerkleizedBatch<F, D, U> {
         ensures child { IfOk result (λ b. IsChild self.parent self.keep b.value) }
         ensures unmade { IfErr result (IsUnmade C.Store (is_on db.old.commitment self) db.old.log
             db.new.log) }
-        ensures whole { AtList C.Store ⟦<Db<F, C, I, H, U, N> as LaidOut>⟧.layout db.old (λ list.
-            NoneBelow db.old.log.tree.start list
-            → db.old.log.tree.start ≤ self.parent.bounds.inactivity_floor
-            → IfErr result IsOfKeptItem) }
+        ensures whole { OnBegun C.Store ⟦<Db<F, C, I, H, U, N> as LaidOut>⟧.layout db.old self
+            (λ chain. IfErr result IsOfKeptItem) }
         ensures left { IsLeft C.Store ⟦<Db<F, C, I, H, U, N> as LaidOut>⟧.layout.hashing db.old
             db.new }
     {
@@ -223,10 +220,8 @@ impl<F: Family, D: Digest, U: Update> Staged<F, D, U> {
             IsChild self.batch.parent self.batch.keep b.value) }
         ensures unmade { IfErr result (IsUnmade C.Store (is_on db.old.commitment self.batch)
             db.old.log db.new.log) }
-        ensures whole { AtList C.Store ⟦<Db<F, C, I, H, U, N> as LaidOut>⟧.layout db.old (λ list.
-            NoneBelow db.old.log.tree.start list
-            → db.old.log.tree.start ≤ self.batch.parent.bounds.inactivity_floor
-            → IfErr result IsOfKeptItem) }
+        ensures whole { OnStaged C.Store ⟦<Db<F, C, I, H, U, N> as LaidOut>⟧.layout db.old self
+            (λ chain. IfErr result IsOfKeptItem) }
         ensures left { IsLeft C.Store ⟦<Db<F, C, I, H, U, N> as LaidOut>⟧.layout.hashing db.old
             db.new }
     {

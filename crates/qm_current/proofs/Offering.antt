@@ -95,7 +95,7 @@ module _ {X C B S M : Type 0} (means : meaning.Ghosts X C B S M) (grafts : Graft
       → (chain.instance ≡ number → IsOnChain list chain → IfErr r (λ e. IsRefused means.scheme.form chain.base own e ⊎ IsReadError members was is e))
       → IfErr r (λ e. e ≡ errors.StaleBatch → can ≡ false)
       → IfErr r (λ e. e ≢ errors.Memory → e ≢ errors.StaleBatch → can ≡ true)
-      → IfErr r (λ e. TellsFrom members (means.inside old) list → floor list ≤ floor chain.base → IsOfKeptItem e)
+      → (IsOnChain list chain → IfErr r IsOfKeptItem)
       → Makes means members old list chain tip r
   makes members was is own tip (Ok b) same fitted made taken refused stale order whole = record {
     instance = own-chain fitted;
@@ -116,7 +116,7 @@ module _ {X C B S M : Type 0} (means : meaning.Ghosts X C B S M) (grafts : Graft
         some-told (refusal_of e) (λ r. Takes means old chain × Fits means list chain × (IsOnChain list chain → floor list ≤ floor chain.base → tip_refusal means.scheme.form chain tip ≡ Some r)) (λ r told.
         let on = order (λ memory. none-some r (sym (ap refusal_of memory) ∙ told)) fresh in
         let due =
-        refused-due means.scheme.form chain tip members was is ⊤ ⊤ (IsOnChain list chain) (floor list ≤ floor chain.base) e fresh (whole tells)
+        refused-due means.scheme.form chain tip members was is ⊤ ⊤ (IsOnChain list chain) (floor list ≤ floor chain.base) e fresh whole
         (λ here. subst (λ t. IsRefused means.scheme.form chain.base t e ⊎ IsReadError members was is e) same (refused (sym (same-number on)) here)) tt (λ memory. tt)
         in
         let at = subst (λ o. IfSome o (λ x. ⊤ × ⊤ × (IsOnChain list chain → floor list ≤ floor chain.base → tip_refusal means.scheme.form chain tip ≡ Some x))) told due in

@@ -3,11 +3,11 @@
 ghost use Rattle.std.specs.Prelude.{◌≡◌, ◌≤◌, suc, [], List, true, length, option_map, IfOk, IfErr, OnOk};
 ghost use Rattle.qm_model.specs.Batches.{Chain, IsOnChain};
 ghost use Rattle.qm_model.specs.Operations.{Operation};
-ghost use Rattle.qm_step.specs.Lent.{NoneBelow};
 ghost use Rattle.qm_any.specs.Applying.{can_apply};
 ghost use Rattle.qm_any.specs.Databases as anys;
 ghost use Rattle.qm_any.specs.Making.{IsMaking, IsUnmade, making_of};
-ghost use Rattle.qm_any.specs.Reading.{IsOfKeptItem, AtList};
+ghost use Rattle.qm_any.specs.Reading as readings;
+ghost use Rattle.qm_any.specs.Reading.{IsOfKeptItem};
 ghost use Rattle.qm_roots.specs.Kept.{IsKept};
 ghost use Rattle.qm_current.specs.Databases.{AreSized, IsDatabase, IsJoined, IsMade};
 ghost use Rattle.qm_current.specs.Making.{IsLeft, OnBegun, can_make};
@@ -58,10 +58,8 @@ impl<F: Graftable, D: Digest, U: Update, N: Chunks> UnmerkleizedBatch<F, D, U, N
             anys.IsChild self.any.parent self.any.keep b.value.any) }
         ensures unmade { IfErr result
             (IsUnmade C.Store (can_make db.old self) db.old.any.log db.new.any.log) }
-        ensures whole { AtList C.Store ⟦<AnyDb<F, C, I, H, U, N> as LaidOut>⟧.layout db.old.any
-            (λ list. NoneBelow db.old.any.log.tree.start list
-            → db.old.any.log.tree.start ≤ self.any.parent.bounds.inactivity_floor
-            → IfErr result IsOfKeptItem) }
+        ensures whole { readings.OnBegun C.Store ⟦<AnyDb<F, C, I, H, U, N> as LaidOut>⟧.layout
+            db.old.any self.any (λ chain. IfErr result IsOfKeptItem) }
         ensures left { IsLeft C.Store ⟦<AnyDb<F, C, I, H, U, N> as LaidOut>⟧.layout db.old db.new }
     {
         let UnmerkleizedBatch { any, parent, keep } = self;

@@ -4,11 +4,11 @@ ghost use Rattle.std.specs.Prelude.{◌≡◌, ◌≤◌, ◌+◌, ◌++◌, ◌
 ghost use Rattle.qm_base.specs.Slots.{slot_views, write_views};
 ghost use Rattle.qm_model.specs.Slots.{slotted};
 ghost use Rattle.qm_model.specs.Writes.{read_through};
-ghost use Rattle.qm_step.specs.Lent.{NoneBelow};
 ghost use Rattle.qm_any.specs.Databases as anys;
 ghost use Rattle.qm_any.specs.Databases.{staged_keys};
 ghost use Rattle.qm_any.specs.Making.{IsMaking, IsUnmade, making_of};
-ghost use Rattle.qm_any.specs.Reading.{IsOfKeptItem, ReadsThrough, AtBegun, AtList, AtStaged};
+ghost use Rattle.qm_any.specs.Reading as readings;
+ghost use Rattle.qm_any.specs.Reading.{IsOfKeptItem, ReadsThrough, AtBegun, AtStaged};
 ghost use Rattle.qm_current.specs.Databases.{IsMade, begun_of};
 ghost use Rattle.qm_current.specs.Making.{IsLeft, OnStaged, can_make};
 
@@ -157,10 +157,8 @@ impl<F: Graftable, D: Digest, U: Update, N: Chunks> Staged<F, D, U, N> {
             × anys.IsChild self.any.batch.parent self.any.batch.keep b.value.any) }
         ensures unmade { IfErr result
             (IsUnmade C.Store (can_make db.old (begun_of self)) db.old.any.log db.new.any.log) }
-        ensures whole { AtList C.Store ⟦<AnyDb<F, C, I, H, U, N> as LaidOut>⟧.layout db.old.any
-            (λ list. NoneBelow db.old.any.log.tree.start list
-            → db.old.any.log.tree.start ≤ self.any.batch.parent.bounds.inactivity_floor
-            → IfErr result IsOfKeptItem) }
+        ensures whole { readings.OnStaged C.Store ⟦<AnyDb<F, C, I, H, U, N> as LaidOut>⟧.layout
+            db.old.any self.any (λ chain. IfErr result IsOfKeptItem) }
         ensures left { IsLeft C.Store ⟦<AnyDb<F, C, I, H, U, N> as LaidOut>⟧.layout db.old db.new }
     {
         let Staged { any, parent, keep } = self;

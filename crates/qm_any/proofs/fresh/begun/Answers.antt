@@ -31,7 +31,7 @@ returns-in-Ok-append_batch g c =
           grown-told (g.C.Store.told c.args.log.store) (g.C.Store.told log.store) _ _ grows (λ told.
           fresh-stands g.C.Store (layout_of g.N.Chunks.LEN g.H.Digest.Digest.bytes g.H.Hasher g.F.Family g.U.Update g.I.Unordered) c.of_parts.result log (record { size = 1; root = bytes c.in-Ok.root })
           (c.of_parts.ensures ∙ same-three (λ entries activity floor. record { entries = entries; activity = activity; log = log; commitment = record { size = 1; root = bytes c.in-Ok.root }; floor = floor; live = 0; metadata = None }) c.new-index.ensures c.in-Ok-first_bit.ensures c.new-in-Ok-append_batch.ensures)
-          (ap (λ r. record { size = 1; root = r }) rooted) told
+          (ap (λ r. record { size = 1; root = r }) rooted) (c.in-Ok-append_batch.ensures.start ∙ ap (λ l. l.tree.start) same ∙ c.requires.log.start ∙ c.requires.start) told
           (subst (IsLog g.C.Store shape bytes hash log) c.requires.items (c.in-Ok-append_batch.ensures.stands [] empty)));
       pruned = ap (λ d. d.activity.pruned) c.of_parts.ensures ∙ ap (λ a. a.pruned) c.in-Ok-first_bit.ensures;
       grown =

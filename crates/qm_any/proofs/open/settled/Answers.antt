@@ -26,7 +26,7 @@ returns-in-Ok-settle g c =
           opened-stands members (layout_of g.N.Chunks.LEN g.H.Digest.Digest.bytes g.H.Hasher g.F.Family g.U.Update g.I.Unordered) old new _ _ _ _ _ c.args.selected.size c.args.selected.floor c.of_parts.result list opened
           (c.in-Ok-settle.ensures.stands (map (spelling g.U.Update.form) list) opened.has.logged) (still-told (members.told old.store) (members.told new.store) _ c.in-Ok-settle.ensures.settled told)
           (made ∙ ap₂ (λ f m. record { entries = g.I.Unordered.entries c.args.opened.index; activity = c.args.opened.activity; log = new; commitment = record { size = c.args.selected.size; root = g.H.Digest.Digest.bytes c.args.opened.root }; floor = f; live = c.args.opened.live; metadata = m }) c.new-floor.ensures (shared-bytes (λ r. r.value) g.U.Value.ByteString.bytes c.in-Ok.metadata c.args.opened.metadata c.in-Ok.ensures))
-          c.requires.size low good ring);
+          c.requires.size low (omega (arith, c.in-Ok-settle.ensures.start, c.requires.start)) good ring);
       became = subst (λ n. Becomes (members.told old.store) (members.told c.of_parts.result.log.store) (rewound n)) c.requires.size
           (subst (λ d. Becomes (members.told old.store) (members.told d.log.store) (rewound old.tree.leaves)) (sym made) c.in-Ok-settle.ensures.settled);
       left = tt;

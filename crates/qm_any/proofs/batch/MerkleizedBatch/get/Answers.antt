@@ -21,7 +21,7 @@ returns-in_err-known g c =
       reads = record {
         readable = IfOk-from_err c.from_residual.result _ c.from_residual.ensures.0;
         error = rw (exit.1, exit.2) (inl (stale, told));
-        whole = λ list is none. rw (exit.1, exit.2) (λ n pruned. cc (stale, pruned));
+        whole = λ list is. rw (exit.1, exit.2) (λ n pruned. cc (stale, pruned));
         left = left-none g.C.Store (hashing_of g.D.Digest.bytes g.H.Hasher g.F.Family g.U.Update) c.args.db.now;
       };
     }

@@ -25,7 +25,7 @@ returns-in_err-known g c =
       reads = record {
         readable = IfOk-from_err c.from_residual.result _ c.from_residual.ensures.0;
         error = rw (exit.1, exit.2) (inl (stale, told));
-        whole = λ list is none. rw (exit.1, exit.2) (λ n pruned. cc (stale, pruned));
+        whole = λ list is. rw (exit.1, exit.2) (λ n pruned. cc (stale, pruned));
         left = left-none g.C.Store (hashing_of g.D.Digest.bytes g.H.Hasher g.F.Family g.U.Update) c.args.db.now;
       };
     }
@@ -41,7 +41,7 @@ returns-in_err-reads g c =
       reads = record {
         readable = IfOk-from_err c.from_residual-in_err-reads.result _ c.from_residual-in_err-reads.ensures.0;
         error = rw (exit.1, exit.2) (inr (inr (told, c.in_err-reads.ensures.reads.error)));
-        whole = λ list is none. rw (exit.1, exit.2) (c.in_err-reads.ensures.reads.whole list is none);
+        whole = λ list is. rw (exit.1, exit.2) (c.in_err-reads.ensures.reads.whole list is);
         left = c.in_err-reads.ensures.reads.left;
       };
     }
@@ -56,7 +56,7 @@ returns-in_err-values g c =
       reads = record {
         readable = IfOk-from_err c.from_residual-in_err-values.result _ c.from_residual-in_err-values.ensures.0;
         error = rw (exit.1, exit.2) (inr (inl refl));
-        whole = λ list is none. rw (exit.1, exit.2) (λ n pruned. cc);
+        whole = λ list is. rw (exit.1, exit.2) (λ n pruned. cc);
         left = c.in_ok-reads.ensures.reads.left;
       };
     }
@@ -86,7 +86,7 @@ returns g c =
       reads = record {
         readable = told;
         error = tt;
-        whole = λ list is none. tt;
+        whole = λ list is. tt;
         left = c.in_ok-reads.ensures.reads.left;
       };
     }

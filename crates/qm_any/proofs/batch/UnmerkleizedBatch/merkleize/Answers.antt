@@ -20,6 +20,6 @@ returns g c =
           (c.merkleize.ensures.makes list chain above is (record { begun = begun; reads = staged-none g.U.Update.view key chain.base _ c.new.ensures.items }) on);
       child = c.merkleize.ensures.child;
       unmade = c.merkleize.ensures.unmade;
-      whole = c.merkleize.ensures.whole;
+      whole = λ list chain above is begun on. c.merkleize.ensures.whole list chain above is (record { begun = begun; reads = staged-none g.U.Update.view key chain.base _ c.new.ensures.items }) on;
       left = c.merkleize.ensures.left;
     }

@@ -16,7 +16,7 @@ returns-in_err-values g c =
       reads = record {
         readable = IfOk-from_err c.from_residual.result _ c.from_residual.ensures.0;
         error = rw (exit.1, exit.2) c.in_err-values.ensures.reads.error;
-        whole = λ list is none. rw (exit.1, exit.2) (c.in_err-values.ensures.reads.whole list is none);
+        whole = λ list is. rw (exit.1, exit.2) (c.in_err-values.ensures.reads.whole list is);
         left = c.in_err-values.ensures.reads.left;
       };
     }
@@ -31,7 +31,7 @@ returns g c =
       reads = record {
         readable = c.in_ok-values.ensures.reads.readable;
         error = tt;
-        whole = λ list is none. tt;
+        whole = λ list is. tt;
         left = c.in_ok-values.ensures.reads.left;
       };
     }

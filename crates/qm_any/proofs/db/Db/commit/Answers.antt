@@ -1,4 +1,4 @@
-use Rattle.std.proofs.Common.{map, subst}
+use Rattle.std.proofs.Common.{ap, arith, map, subst}
 use Rattle.qm_model.proofs.Results.{err-both, ok-each, ok-four}
 use Rattle.qm_model.specs.Forms.{spelling}
 use Rattle.qm_model.specs.StoreModel.{settled}
@@ -6,7 +6,7 @@ use Rattle.qm_store.specs.Log.{IsLog}
 use Rattle.qm_any.specs.Databases.{IsDatabase}
 use Rattle.qm_any.specs.Layouts.{layout_of, hashing_of}
 use Rattle.qm_any.specs.Lasting.{HasLasted, HasLeftStable, IsGivenUp}
-use Rattle.qm_any.proofs.Lasting.{ok-two, still-told, ok-over, err-over, relogged, lasted, given-up}
+use Rattle.qm_any.proofs.Lasting.{ok-three, still-told, ok-over, err-over, relogged, lasted, given-up}
 use Rattle.qm_any.proofs.db.Db.commit.Goals as goal
 
 pub returns-clause-stands : goal.returns-clause-stands
@@ -16,8 +16,8 @@ returns-clause-stands g c = λ list is.
     let old = c.into_parts-log.result.0 in
     let was = subst (λ db. IsDatabase g.C.Store layout db list) c.into_parts-log.ensures.whole is in
     ok-over g.C.Store state c.commit.result c.over.result (λ db. IsDatabase g.C.Store layout db list) c.over.ensures
-    (ok-two c.commit.result (c.commit.ensures.stands (map (spelling g.U.Update.form) list) was.lent.logged) c.commit.ensures.committed
-    (λ log stands become. relogged g.C.Store layout state old log list (still-told (g.C.Store.told old.store) (g.C.Store.told log.store) settled become.told) stands was))
+    (ok-three c.commit.result (c.commit.ensures.stands (map (spelling g.U.Update.form) list) was.lent.logged) c.commit.ensures.committed c.commit.ensures.tree
+    (λ log stands become same. relogged g.C.Store layout state old log list (omega (arith, ap (λ t. t.start) same, was.low)) (still-told (g.C.Store.told old.store) (g.C.Store.told log.store) settled become.told) stands was))
 
 pub returns-clause-committed : goal.returns-clause-committed
 returns-clause-committed g c =

@@ -10,7 +10,7 @@ use Rattle.qm_any.proofs.db.Db.cut.Goals as goal
 pub returns : goal.returns
 returns g c =
     record {
-      stands = λ list low is. c.prune_log.ensures.stands list (c.prune_bits.ensures.stands list low is);
+      stands = λ list low is. c.prune_log.ensures.stands list low (c.prune_bits.ensures.stands list low is);
       pruned =
           ok-then c.prune_log.result c.prune_log.ensures.pruned
           (λ db. bits-first g.C.Store (layout_of g.N.Chunks.LEN g.H.Digest.Digest.bytes g.H.Hasher g.F.Family g.U.Update g.I.Unordered) c.args.to c.args.self c.prune_bits.result db c.prune_bits.ensures.pruned);

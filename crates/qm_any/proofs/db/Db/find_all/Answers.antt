@@ -3,7 +3,6 @@ use Rattle.std.proofs.lemmas.List.{map-id}
 use Rattle.std.proofs.lemmas.Iterator.Adapters.{YieldsList-from_vec}
 use Rattle.std.proofs.lemmas.Iterator.Consumers.{YieldsList-end}
 use Rattle.std.proofs.lemmas.Result.{IfOk-from_err, err_from_is_err_and}
-use Rattle.qm_step.specs.Lent.{NoneBelow}
 use Rattle.qm_any.specs.Layouts.{hashing_of, layout_of}
 use Rattle.qm_any.proofs.Reading.{left-error, left-then, left-database}
 use Rattle.qm_any.proofs.Staging.{keys-more, reads-more}
@@ -18,10 +17,10 @@ returns-in_err-found g c =
       reads = record {
         error =
             rw (exit.1, exit.2) (left-error g.C.Store (hashing_of g.H.Digest.Digest.bytes g.H.Hasher g.F.Family g.U.Update) c.args.self.now c.loop-key.self c.find.new.self _ c.loop-key.invariant.left c.in_err-found.ensures.reads.error);
-        whole = λ list is none.
+        whole = λ list is.
             let left = c.loop-key.invariant.left in
             let mid = left-database g.C.Store (layout_of g.N.Chunks.LEN g.H.Digest.Digest.bytes g.H.Hasher g.F.Family g.U.Update g.I.Unordered) c.args.self.now c.loop-key.self list left is in
-            rw (exit.1, exit.2) (c.in_err-found.ensures.reads.whole list mid (subst (λ t. NoneBelow t list) (sym (left.read).start) none));
+            rw (exit.1, exit.2) (c.in_err-found.ensures.reads.whole list mid);
         left = left-then g.C.Store (hashing_of g.H.Digest.Digest.bytes g.H.Hasher g.F.Family g.U.Update) c.args.self.now c.loop-key.self c.find.new.self c.loop-key.invariant.left c.find.ensures.reads.left;
       };
     }
@@ -47,7 +46,7 @@ returns-in_err-push g c =
       reads = record {
         error =
             rw (exit.1, exit.2) (inl refl);
-        whole = λ list is none.
+        whole = λ list is.
             rw (exit.1, exit.2) (λ n pruned. cc);
         left = left-then g.C.Store (hashing_of g.H.Digest.Digest.bytes g.H.Hasher g.F.Family g.U.Update) c.args.self.now c.loop-key.self c.find.new.self c.loop-key.invariant.left c.find.ensures.reads.left;
       };
@@ -64,7 +63,7 @@ returns g c =
       found = c.loop-key.invariant.reads;
       reads = record {
         error = tt;
-        whole = λ list is none. tt;
+        whole = λ list is. tt;
         left = c.loop-key.invariant.left;
       };
     }

@@ -3,10 +3,9 @@ use Rattle.std.proofs.lemmas.Result.{IfOk-from_err, err_from_is_err_and}
 use Rattle.qm_open.proofs.Checking.{on-ok}
 use Rattle.qm_model.proofs.Results.{ok-then, err-then}
 use Rattle.qm_model.specs.StoreModel.{settled}
-use Rattle.qm_step.specs.Lent.{NoneBelow}
 use Rattle.qm_any.specs.Layouts.{layout_of, hashing_of}
 use Rattle.qm_any.specs.Lasting.{HasLeftPruned, HasLeftStable, HasPruned, IsGivenUp}
-use Rattle.qm_any.proofs.Lasting.{all-stable, none-below, pruned-behind, given-behind}
+use Rattle.qm_any.proofs.Lasting.{all-stable, pruned-behind, given-behind}
 use Rattle.qm_any.proofs.db.Db.prune.Goals as goal
 
 pub cut-requires-clause-stable : goal.cut-requires-clause-stable
@@ -17,11 +16,6 @@ returns g c =
     record {
       stands = λ list is.
           c.cut.ensures.stands list (omega (arith, is.floor, c.if-get-boundary.false)) (c.in_ok-commit.ensures.stands list is);
-      whole = λ list is none.
-          let last = c.in_ok-commit.ensures.committed in
-          let start = subst (λ n. NoneBelow n list) (sym (ap (λ t. t.start) last.tree)) none in
-          ok-then c.cut.result c.cut.ensures.pruned (λ db cut.
-          subst (λ n. NoneBelow n list) (sym cut.start) (none-below c.in_ok-commit.field-0.log.tree.start c.get-4.result list is.good (omega (arith, is.floor, c.if-get-boundary.false)) start));
       pruned =
           let layout = layout_of g.N.Chunks.LEN g.H.Digest.Digest.bytes g.H.Hasher g.F.Family g.U.Update g.I.Unordered in
           ok-then c.cut.result c.cut.ensures.pruned (λ db cut.
@@ -45,7 +39,6 @@ returns-in_err-commit g c =
     let up = c.in_err-commit.ensures.refused in
     record {
       stands = λ list is. IfOk-from_err c.from_residual.result _ c.from_residual.ensures.0;
-      whole = λ list is none. IfOk-from_err c.from_residual.result _ c.from_residual.ensures.0;
       pruned = IfOk-from_err c.from_residual.result _ c.from_residual.ensures.0;
       boundary = λ list is.
           let size : c.args.self.commitment.size ≡ length list = ap (λ k. k.size) is.commitment in

@@ -13,7 +13,7 @@ returns-clause-stands g c = λ list low is.
     let old = c.into_parts-log.result.0 in
     let was = subst (λ db. IsDatabase g.C.Store layout db list) c.into_parts-log.ensures.whole is in
     subst (λ db. IsDatabase g.C.Store layout db list) (sym (cut-is g.C.Store g.N.Chunks.LEN _ state c.prune_to_bit.new.self c.args.to old c.over.result c.over.ensures c.prune_to_bit.ensures c.state.view_is))
-    (cut-stands g.C.Store layout c.args.to state old old list low (λ told. told) was.lent.logged was)
+    (cut-stands g.C.Store layout c.args.to state old old list low was.low (λ told. told) was.lent.logged was)
 
 pub returns-clause-pruned : goal.returns-clause-pruned
 returns-clause-pruned g c =

@@ -11,7 +11,7 @@ use Rattle.qm_any.proofs.db.Db.prune_log.Goals as goal
 pub returns-then-to-start : goal.returns-then-to-start
 returns-then-to-start g c =
     record {
-      stands = λ list is.
+      stands = λ list low is.
           let layout = layout_of g.N.Chunks.LEN g.H.Digest.Digest.bytes g.H.Hasher g.F.Family g.U.Update g.I.Unordered in
           subst (λ db. IsDatabase g.C.Store layout db list) (sym c.over.ensures) (subst (λ db. IsDatabase g.C.Store layout db list) c.into_parts-log.ensures.whole is);
       pruned =
@@ -24,14 +24,14 @@ returns-then-to-start g c =
 pub returns : goal.returns
 returns g c =
     record {
-      stands = λ list is.
+      stands = λ list low is.
           let layout = layout_of g.N.Chunks.LEN g.H.Digest.Digest.bytes g.H.Hasher g.F.Family g.U.Update g.I.Unordered in
           let state = c.into_parts-log.result.1 in
           let old = c.into_parts-log.result.0 in
           let was = subst (λ db. IsDatabase g.C.Store layout db list) c.into_parts-log.ensures.whole is in
           ok-over g.C.Store state c.prune.result c.over-2.result (λ db. IsDatabase g.C.Store layout db list) c.over-2.ensures
-          (ok-two c.prune.result (c.prune.ensures.stands (map (spelling g.U.Update.form) list) was.lent.logged) c.prune.ensures.pruned
-          (λ log stands cut. relogged g.C.Store layout state old log list (still-told (g.C.Store.told old.store) (g.C.Store.told log.store) (pruned c.args.to cut.0) cut.1) stands was));
+          (ok-three c.prune.result (c.prune.ensures.stands (map (spelling g.U.Update.form) list) was.lent.logged) c.prune.ensures.pruned c.prune.ensures.start
+          (λ log stands cut first. relogged g.C.Store layout state old log list (omega (arith, first, low)) (still-told (g.C.Store.told old.store) (g.C.Store.told log.store) (pruned c.args.to cut.0) cut.1) stands was));
       pruned =
           let hashing = hashing_of g.H.Digest.Digest.bytes g.H.Hasher g.F.Family g.U.Update in
           let state = c.into_parts-log.result.1 in

@@ -1,4 +1,4 @@
-use Rattle.std.proofs.Common.{map, subst}
+use Rattle.std.proofs.Common.{ap, arith, map, subst}
 use Rattle.qm_model.proofs.Results.{err-both, ok-each, ok-four}
 use Rattle.qm_model.specs.Forms.{spelling}
 use Rattle.qm_model.specs.StoreModel.{with_metadata, IsOldOrNew, ReadsAs}
@@ -6,7 +6,7 @@ use Rattle.qm_store.specs.Log.{IsLog, HasLeft}
 use Rattle.qm_any.specs.Databases.{IsDatabase}
 use Rattle.qm_any.specs.Layouts.{layout_of, hashing_of}
 use Rattle.qm_any.specs.Lasting.{HasLasted, IsGivenUp}
-use Rattle.qm_any.proofs.Lasting.{ok-two, still-told, ok-over, err-over, relogged, lasted, given-up}
+use Rattle.qm_any.proofs.Lasting.{ok-three, still-told, ok-over, err-over, relogged, lasted, given-up}
 use Rattle.qm_any.proofs.db.Db.put_meta.Goals as goal
 
 pub returns-clause-stands : goal.returns-clause-stands
@@ -16,8 +16,8 @@ returns-clause-stands g c = λ list is.
     let old = c.into_parts-log.result.0 in
     let was = subst (λ db. IsDatabase g.C.Store layout db list) c.into_parts-log.ensures.whole is in
     ok-over g.C.Store state c.put_meta.result c.over.result (λ db. IsDatabase g.C.Store layout db list) c.over.ensures
-    (ok-two c.put_meta.result (c.put_meta.ensures.stands (map (spelling g.U.Update.form) list) was.lent.logged) c.put_meta.ensures.put
-    (λ log stands become. relogged g.C.Store layout state old log list (still-told (g.C.Store.told old.store) (g.C.Store.told log.store) (with_metadata c.args.name.now c.args.entries.now) become.told) stands was))
+    (ok-three c.put_meta.result (c.put_meta.ensures.stands (map (spelling g.U.Update.form) list) was.lent.logged) c.put_meta.ensures.put c.put_meta.ensures.tree
+    (λ log stands become same. relogged g.C.Store layout state old log list (omega (arith, ap (λ t. t.start) same, was.low)) (still-told (g.C.Store.told old.store) (g.C.Store.told log.store) (with_metadata c.args.name.now c.args.entries.now) become.told) stands was))
 
 pub returns-clause-put : goal.returns-clause-put
 returns-clause-put g c =

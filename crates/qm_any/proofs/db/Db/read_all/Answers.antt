@@ -3,7 +3,6 @@ use Rattle.std.specs.Prelude.{option_map}
 use Rattle.std.proofs.lemmas.List.{take_all}
 use Rattle.std.proofs.lemmas.Result.{err_from_is_err_and}
 use Rattle.qm_model.specs.Writes.{read_through}
-use Rattle.qm_step.specs.Lent.{NoneBelow}
 use Rattle.qm_step.proofs.MovesLoops.{mapped-more}
 use Rattle.qm_any.specs.Layouts.{hashing_of, layout_of}
 use Rattle.qm_any.proofs.Reading.{left-none, left-then, left-error, left-database}
@@ -22,9 +21,9 @@ returns-in_err-value-clause-reads g c =
     let left = c.loop-key.invariant.left in
     record {
       error = rw (exit.1, exit.2) (left-error g.C.Store hashing c.args.self.now c.loop-key.self c.read_one.new.self _ left c.in_err-value.ensures.reads.error);
-      whole = λ list is none.
+      whole = λ list is.
           let mid = left-database g.C.Store (layout_of g.N.Chunks.LEN g.H.Digest.Digest.bytes g.H.Hasher g.F.Family g.U.Update g.I.Unordered) c.args.self.now c.loop-key.self list left is in
-          rw (exit.1, exit.2) (c.in_err-value.ensures.reads.whole list mid (subst (λ t. NoneBelow t list) (sym (left.read).start) none));
+          rw (exit.1, exit.2) (c.in_err-value.ensures.reads.whole list mid);
       left = left-then g.C.Store hashing c.args.self.now c.loop-key.self c.read_one.new.self left c.read_one.ensures.reads.left;
     }
 
@@ -33,7 +32,7 @@ returns-in_err-push-clause-reads g c =
     let exit = err_from_is_err_and c.from_residual-in_err-push.result c.from_residual-in_err-push.ensures.1 in
     record {
       error = rw (exit.1, exit.2) (inl refl);
-      whole = λ list is none. rw (exit.1, exit.2) (λ n pruned. cc);
+      whole = λ list is. rw (exit.1, exit.2) (λ n pruned. cc);
       left = left-then g.C.Store (hashing_of g.H.Digest.Digest.bytes g.H.Hasher g.F.Family g.U.Update) c.args.self.now c.loop-key.self c.read_one.new.self c.loop-key.invariant.left c.read_one.ensures.reads.left;
     }
 
@@ -57,4 +56,4 @@ returns-clause-values g c = λ list base stands from.
     ∙ ap (map (λ k. read_through base c.args.writes.now (key k))) (take_all c.loop-key.key-index c.args.keys.now c.loop-key-test.false)
 
 pub returns-clause-reads : goal.returns-clause-reads
-returns-clause-reads g c = record { error = tt; whole = λ list is none. tt; left = c.loop-key.invariant.left }
+returns-clause-reads g c = record { error = tt; whole = λ list is. tt; left = c.loop-key.invariant.left }

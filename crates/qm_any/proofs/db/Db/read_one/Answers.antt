@@ -25,7 +25,7 @@ returns-in-Some-2 g c =
           ∙ ap (option_and_then said) (c.in_ok-update.ensures.value list base stands from) ∙ value-found base at ∙ sym (ap (λ w. overwritten w (value_of base at)) unwritten);
       reads = record {
         error = tt;
-        whole = λ list is none. tt;
+        whole = λ list is. tt;
         left = c.find.ensures.reads.left;
       };
     }
@@ -45,7 +45,7 @@ returns-in-None g c =
           ∙ ap (option_and_then said) (c.in_ok-update.ensures.value list base stands from) ∙ value-found base at ∙ sym (ap (λ w. overwritten w (value_of base at)) unwritten);
       reads = record {
         error = tt;
-        whole = λ list is none. tt;
+        whole = λ list is. tt;
         left = c.find.ensures.reads.left;
       };
     }
@@ -57,7 +57,7 @@ returns-in_err-twin_option g c =
       value = λ list base is from. IfOk-from_err c.from_residual.result _ c.from_residual.ensures.0;
       reads = record {
         error = rw (exit.1, exit.2) (inl refl);
-        whole = λ list is none. rw (exit.1, exit.2) (λ n pruned. cc);
+        whole = λ list is. rw (exit.1, exit.2) (λ n pruned. cc);
         left = left-none g.C.Store (hashing_of g.H.Digest.Digest.bytes g.H.Hasher g.F.Family g.U.Update) c.args.self.now;
       };
     }
@@ -69,7 +69,7 @@ returns-in_err-update g c =
       value = λ list base is from. IfOk-from_err c.from_residual-in_err-update.result _ c.from_residual-in_err-update.ensures.0;
       reads = record {
         error = rw (exit.1, exit.2) c.in_err-update.ensures.reads.error;
-        whole = λ list is none. rw (exit.1, exit.2) (c.in_err-update.ensures.reads.whole list is none);
+        whole = λ list is. rw (exit.1, exit.2) (c.in_err-update.ensures.reads.whole list is);
         left = c.find.ensures.reads.left;
       };
     }

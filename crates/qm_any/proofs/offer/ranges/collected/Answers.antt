@@ -6,7 +6,6 @@ use Rattle.qm_any.proofs.Reading.{left-then, left-error, left-database}
 use Rattle.std.specs.Option.{option_transpose}
 use Rattle.qm_base.proofs.Reading.{memory-kept}
 use Rattle.qm_any.specs.Reading.{Reads}
-use Rattle.qm_step.specs.Lent.{NoneBelow}
 use Rattle.qm_base.specs.Views.{pair_view}
 use Rattle.qm_batch.specs.Scans.{IsStep, left_of}
 use Rattle.qm_any.proofs.OfferedRanges.{one-more}
@@ -23,9 +22,9 @@ returns-in_err-next-in-Some g c =
           let did = subst (λ r. Reads g.C.Store layout c.loop.db c.scan_next.new.self (option_transpose (Some r))) c.in_err-next-in-Some.was c.in-Some.ensures.reads in
           record {
             error = rw (exit.1, exit.2) (left-error g.C.Store layout.hashing c.args.db.now c.loop.db c.scan_next.new.self _ left did.error);
-            whole = λ list stands none.
+            whole = λ list stands.
                 let mid = left-database g.C.Store layout c.args.db.now c.loop.db list left stands in
-                rw (exit.1, exit.2) (did.whole list mid (subst (λ t. NoneBelow t list) (sym left.read.start) none));
+                rw (exit.1, exit.2) (did.whole list mid);
             left = left-then g.C.Store layout.hashing c.args.db.now c.loop.db c.scan_next.new.self left did.left;
           };
     }
@@ -40,7 +39,7 @@ returns-in-None g c =
           sym (c.loop.invariant.value list stands ∙ ap (λ xs. given ++ xs) (c.in-None.ensures.value list mid).0 ∙ append-nil given);
       reads = record {
         error = tt;
-        whole = λ list stands none. tt;
+        whole = λ list stands. tt;
         left = left-then g.C.Store (laid_out g.N.Chunks.LEN g.H.Digest.Digest.bytes g.H.Hasher.hash g.F.Family.shape g.U.Update.form g.I.Unordered.index_key).hashing c.args.db.now c.loop.db c.scan_next.new.self c.loop.invariant.left c.scan_next.ensures.reads.left;
       };
     }
@@ -70,7 +69,7 @@ returns-in_err-push-in-Some g c =
       pairs = λ list stands few. IfOk-from_err c.from_residual-in_err-push-in-Some.result _ c.from_residual-in_err-push-in-Some.ensures.0;
       reads = record {
         error = rw (exit.1, exit.2) (inl refl);
-        whole = λ list stands none. rw (exit.1, exit.2) memory-kept;
+        whole = λ list stands. rw (exit.1, exit.2) memory-kept;
         left = left-then g.C.Store (laid_out g.N.Chunks.LEN g.H.Digest.Digest.bytes g.H.Hasher.hash g.F.Family.shape g.U.Update.form g.I.Unordered.index_key).hashing c.args.db.now c.loop.db c.scan_next.new.self c.loop.invariant.left c.scan_next.ensures.reads.left;
       };
     }

@@ -25,7 +25,7 @@ returns-in_err-found g c =
         error = rw (exit.1, exit.2) (subst (λ (b : Begun g.row.D.Denot). ((c.in_err-found.field-0.0 ≡ errors.StaleRead) × (knows b.parent.bounds c.args.db.now.commitment ≡ false))
             ⊎ ((c.in_err-found.field-0.0 ≡ errors.Memory) ⊎ ((knows b.parent.bounds c.args.db.now.commitment ≡ true) × IsReadError g.C.Store c.args.db.now.log c.located.new.db.log c.in_err-found.field-0.0)))
             (ap (λ s. s.batch) c.self.view_is) c.in_err-found.ensures.reads.error);
-        whole = λ list is none. rw (exit.1, exit.2) (c.in_err-found.ensures.reads.whole list is none);
+        whole = λ list is. rw (exit.1, exit.2) (c.in_err-found.ensures.reads.whole list is);
         left = c.in_err-found.ensures.reads.left;
       };
     }
@@ -42,7 +42,7 @@ returns-in_err-staged g c =
       reads = record {
         readable = IfOk-from_err c.from_residual-in_err-staged.result _ c.from_residual-in_err-staged.ensures.0;
         error = rw (exit.1, exit.2) (inr (inl refl));
-        whole = λ list is none. rw (exit.1, exit.2) (λ n pruned. cc);
+        whole = λ list is. rw (exit.1, exit.2) (λ n pruned. cc);
         left = c.in_ok-found.ensures.reads.left;
       };
     }
@@ -77,7 +77,7 @@ returns g c =
       reads = record {
         readable = subst (λ (b : Begun g.row.D.Denot). knows b.parent.bounds c.args.db.now.commitment ≡ true) batch c.in_ok-found.ensures.reads.readable;
         error = tt;
-        whole = λ list is none. tt;
+        whole = λ list is. tt;
         left = c.in_ok-found.ensures.reads.left;
       };
     }

@@ -1,4 +1,4 @@
-use Rattle.std.proofs.Common.{ℕ, List, ◌≡◌, ◌∙◌, ◌≤◌, ◌+◌, ◌⊎◌, ◌∷◌, ◌++◌, false, ap, ap₂, arith, length, map, option_map, subst, sym, inl, inr}
+use Rattle.std.proofs.Common.{ℕ, List, ◌≡◌, ◌∙◌, ◌+◌, ◌⊎◌, ◌∷◌, ◌++◌, false, ap, ap₂, arith, length, map, option_map, subst, sym, inl, inr}
 use Rattle.std.proofs.lemmas.Result.{IfOk-from_err, err_from_is_err_and}
 use Rattle.std.proofs.lemmas.List.{length-map}
 use Rattle.std.specs.Prelude.{Contains}
@@ -22,7 +22,7 @@ use Rattle.qm_any.proofs.Reading.{left-database, left-none}
 use Rattle.qm_any.proofs.Reasons.{on-ok}
 use Rattle.qm_any.proofs.Staging.{slotted-reads, staged-reads}
 use Rattle.qm_any.proofs.Telling.{three}
-use Rattle.qm_any.proofs.Unmade.{child-found, child-of, child-on, child-stepped, made-leaves, on-same, plan-taken, unplaced, unplaced-kept, unplaced-refused, unread, unsealed, unspelled, unspelled-kept, unspelled-refused}
+use Rattle.qm_any.proofs.Unmade.{begun-low, child-found, child-of, child-on, child-stepped, made-leaves, on-same, plan-taken, unplaced, unplaced-kept, unplaced-refused, unread, unsealed, unspelled, unspelled-kept, unspelled-refused}
 use Rattle.qm_any.proofs.staged.Staged.merkleize.Goals as goal
 
 pub returns-in_err-child : goal.returns-in_err-child
@@ -44,7 +44,7 @@ returns-in_err-child g c =
       };
       child = IfOk-from_err c.from_residual.result _ c.from_residual.ensures.0;
       unmade = rw (exit.1, exit.2) unmade;
-      whole = λ list is none low. rw (exit.1, exit.2) (unplaced-kept (is_on c.args.db.now.commitment c.args.self.batch) e refusal);
+      whole = λ list chain above is staged on. rw (exit.1, exit.2) (unplaced-kept (is_on c.args.db.now.commitment c.args.self.batch) e refusal);
       left = left-none g.C.Store (hashing_with g.D.Digest.bytes g.H.Hasher.hash g.F.Family.shape g.U.Update.form) c.args.db.now;
     }
 
@@ -66,9 +66,10 @@ returns-in_err-plan g c =
       };
       child = IfOk-from_err c.from_residual-in_err-plan.result _ c.from_residual-in_err-plan.ensures.0;
       unmade = rw (exit.1, exit.2) unmade;
-      whole = λ list is none low.
-          let floor = ap (λ b. b.floor) c.base.ensures.value ∙ ap (λ m. m.bounds.inactivity_floor) (c.parts-keep.ensures.parent ∙ ap (λ b. b.parent) batch) in
-          rw (exit.1, exit.2) (c.in_err-plan.ensures.whole list is none (subst (λ n. c.args.db.now.log.tree.start ≤ n) (sym floor) low));
+      whole = λ list chain above is staged on.
+          let same = ap (λ b. b.floor) c.base.ensures.value ∙ ap (λ m. m.bounds.inactivity_floor) (c.parts-keep.ensures.parent ∙ ap (λ b. b.parent) batch) in
+          let low = begun-low c.args.self.batch list chain above staged.begun on in
+          rw (exit.1, exit.2) (c.in_err-plan.ensures.whole list is (omega (arith, is.low, low, same)));
       left = c.in_err-plan.ensures.left;
     }
 
@@ -109,7 +110,7 @@ returns-in_err-tree g c =
       };
       child = IfOk-from_err c.from_residual-in_err-tree.result _ c.from_residual-in_err-tree.ensures.0;
       unmade = rw (exit.1, exit.2) unmade;
-      whole = λ list is none low. rw (exit.1, exit.2) (unspelled-kept (map (spelling g.U.Update.form) c.in_ok-plan.plan.operations) size e refusal);
+      whole = λ list chain above is staged on. rw (exit.1, exit.2) (unspelled-kept (map (spelling g.U.Update.form) c.in_ok-plan.plan.operations) size e refusal);
       left = subst (IsLeft g.C.Store (hashing_with g.D.Digest.bytes g.H.Hasher.hash g.F.Family.shape g.U.Update.form) c.args.db.now) (sym c.grown.ensures.same) c.in_ok-plan.ensures.left;
     }
 
@@ -201,6 +202,6 @@ returns g c =
       child = ok-four c.sealed.result c.sealed.ensures.value c.sealed.ensures.above c.sealed.ensures.value c.sealed.ensures.above (λ b made above _ _.
           child-of c.args.self.batch c.parts-keep.result.0.now c.parts-keep.result.1 _ _ _ _ b.value (c.parts-keep.ensures.parent ∙ ap (λ b. b.parent) batch) (c.parts-keep.ensures.keep ∙ ap (λ b. b.keep) batch) made above);
       unmade = err-then c.sealed.result c.sealed.ensures.memory (λ e memory. unsealed g.C.Store (is_on c.args.db.now.commitment c.args.self.batch) c.args.db.now.log c.grown.new.self.log e here memory);
-      whole = λ list is none low. err-then c.sealed.result c.sealed.ensures.memory (λ e memory n pruned. absurd (cc (memory, pruned)));
+      whole = λ list chain above is staged on. err-then c.sealed.result c.sealed.ensures.memory (λ e memory n pruned. absurd (cc (memory, pruned)));
       left = subst (IsLeft g.C.Store (hashing_with g.D.Digest.bytes g.H.Hasher.hash g.F.Family.shape g.U.Update.form) c.args.db.now) (sym c.grown.ensures.same) c.in_ok-plan.ensures.left;
     }

@@ -1,9 +1,9 @@
 use Rattle.std.proofs.Common.{◌≡◌, ◌⊎◌, ◌∙◌, ◌≤◌, suc, true, List, [], length, ap, ap₂, sym, subst, inl, Ok}
 use Rattle.std.specs.Prelude.{option_map}
+use Rattle.qm_model.specs.Batches.{Chain, IsOnChain}
 use Rattle.qm_model.specs.Operations.{Operation}
 use Rattle.qm_model.proofs.Results.{err-then, ok-four, ok-then}
 use Rattle.qm_base.specs.Reads.{IsOfKeptItem}
-use Rattle.qm_step.specs.Lent.{NoneBelow}
 use Rattle.qm_roots.specs.Canonical.{IsCanonical}
 use Rattle.qm_roots.specs.Kept.{IsKept}
 use Rattle.qm_any.specs.Applying.{can_apply}
@@ -92,7 +92,7 @@ returns-in-Ok g c =
       numbered = ok-then r c.finished.ensures.value (λ b value. value.1 ∙ parent_instance);
       child = ok-then r c.finished.ensures.value (λ b value. two (λ (p : anys.Begun g.row.D.Denot) (m : anys.Made g.row.D.Denot). anys.IsChild p.parent p.keep m) self_any (sym value.0) c.in-Ok.ensures.child);
       unmade = err-then r c.finished.ensures.memory (λ e memory. unsealed members (can_make c.args.db.now c.args.self) c.args.db.now.any.log c.finished.new.db.log e can memory);
-      whole = λ list stands none low. err-then r c.finished.ensures.memory (λ e memory n pruned. absurd (cc (memory, pruned)));
+      whole = λ list chain above stands begun on. err-then r c.finished.ensures.memory (λ e memory n pruned. absurd (cc (memory, pruned)));
       left = record { any = left; rest = ap (λ (d : Database g.row.C.Denot g.row.D.Denot). record d { any = c.finished.new.db }) c.db.view_is };
     }
 
@@ -125,7 +125,7 @@ returns g c =
       child = tt;
       unmade = subst (λ t. IsUnmade members t c.args.db.now.any.log new.log e) can
           (two (λ (b : anys.Begun g.row.D.Denot) (d : anys.Database g.row.C.Denot g.row.D.Denot). IsUnmade members (anys.is_on d.commitment b) d.log new.log e) self_any db_any c.in-Err.ensures.unmade);
-      whole = two (λ (b : anys.Begun g.row.D.Denot) (d : anys.Database g.row.C.Denot g.row.D.Denot). (list : List Operation) → anys.IsDatabase members layout d list → NoneBelow d.log.tree.start list → d.log.tree.start ≤ b.parent.bounds.inactivity_floor → IsOfKeptItem e)
+      whole = two (λ (b : anys.Begun g.row.D.Denot) (d : anys.Database g.row.C.Denot g.row.D.Denot). (list : List Operation) (chain above : Chain) → anys.IsDatabase members layout d list → anys.IsBegun hashing b chain above → IsOnChain list chain → IsOfKeptItem e)
           self_any db_any c.in-Err.ensures.whole;
       left = record {
         any = subst (λ d. anys.IsLeft members hashing d new) db_any c.in-Err.ensures.left;

@@ -3,7 +3,6 @@ use Rattle.std.specs.Prelude.{option_map}
 use Rattle.qm_model.specs.Operations.{Operation}
 use Rattle.qm_model.specs.Writes.{read_through}
 use Rattle.qm_chain.specs.Bounds.{knows}
-use Rattle.qm_step.specs.Lent.{NoneBelow}
 use Rattle.qm_any.specs.Databases as anys
 use Rattle.qm_any.specs.Layouts.{hashing_of, layout_of}
 use Rattle.qm_any.specs.Reading.{AtBegun, IsOfKeptItem, IsThroughError}
@@ -52,7 +51,7 @@ returns-clause-reads g c =
           rw w.result-is (record {
             readable = two (λ (d : anys.Database g.row.C.Denot g.row.D.Denot) (b : anys.Begun g.row.D.Denot). knows b.parent.bounds d.commitment ≡ true) db_any self_any w.in-Ok.ensures.reads.readable;
             error = tt;
-            whole = λ list is none. tt;
+            whole = λ list is. tt;
             left = subst (λ d. anys.IsLeft g.C.Store hashing d c.stage.new.db) db_any w.in-Ok.ensures.reads.left;
           })
       | in-Err w ↦
@@ -61,7 +60,7 @@ returns-clause-reads g c =
           rw w.result-is (record {
             readable = tt;
             error = two (λ (d : anys.Database g.row.C.Denot g.row.D.Denot) (b : anys.Begun g.row.D.Denot). IsThroughError g.C.Store (knows b.parent.bounds d.commitment) d.log c.stage.new.db.log e) db_any self_any said.error;
-            whole = subst (λ (d : anys.Database g.row.C.Denot g.row.D.Denot). (list : List Operation) → anys.IsDatabase g.C.Store layout d list → NoneBelow d.log.tree.start list → IsOfKeptItem e) db_any said.whole;
+            whole = subst (λ (d : anys.Database g.row.C.Denot g.row.D.Denot). (list : List Operation) → anys.IsDatabase g.C.Store layout d list → IsOfKeptItem e) db_any said.whole;
             left = subst (λ d. anys.IsLeft g.C.Store hashing d c.stage.new.db) db_any said.left;
           })
     ]

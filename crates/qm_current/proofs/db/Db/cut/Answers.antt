@@ -119,7 +119,7 @@ returns-in-Ok-put_meta g c =
           let low = within g c.args.self to c.requires.within in
           let below : to ≤ floor list = omega (arith, low.0, is.any.floor) in
           ok-over kept own.instance own.name.now done result (λ db. IsDatabase members layout db list) c.over.ensures
-          (ok-then done (c.prune_log.ensures.stands list (c.prune_bits.ensures.stands list below (c.in-Ok-put_meta.ensures.stands list at.any)))
+          (ok-then done (c.prune_log.ensures.stands list below (c.prune_bits.ensures.stands list below (c.in-Ok-put_meta.ensures.stands list at.any)))
           (λ x there. record { any = there; canonical = c.in-Ok.ensures.stands g.H.Hasher.hash g.U.Update.form list at.canonical }));
       counted = ok-then result pruned (λ db cut. counted-cut members layout (λ s. s) to c.args.self db cut);
       pruned = pruned;

@@ -4,7 +4,7 @@ use Rattle.qm_current.proofs.scan.KeyScan.next.Goals as goal
 pub returns-in-Some-Ok : goal.returns-in-Some-Ok
 returns-in-Some-Ok g c = record {
   value = search rules;
-  reads = record { error = tt; whole = λ list is none. tt; left = c.next.ensures.reads.left };
+  reads = record { error = tt; whole = λ list is. tt; left = c.next.ensures.reads.left };
   rest = c.next.ensures.rest;
   same = c.next.ensures.same;
 }
@@ -12,7 +12,7 @@ returns-in-Some-Ok g c = record {
 pub returns : goal.returns
 returns g c = record {
   value = search rules;
-  reads = record { error = tt; whole = λ list is none. tt; left = c.next.ensures.reads.left };
+  reads = record { error = tt; whole = λ list is. tt; left = c.next.ensures.reads.left };
   rest = c.next.ensures.rest;
   same = c.next.ensures.same;
 }

@@ -2,7 +2,7 @@ use Rattle.std.proofs.Common.{◌∙◌, option_map}
 use Rattle.qm_model.specs.Ranges.{span_of}
 use Rattle.qm_base.specs.Listed.{span_view}
 use Rattle.qm_any.proofs.Reading.{left-database}
-use Rattle.qm_any.proofs.Offered.{left-store, none-below, log-untold, log-rose, log-kept, unoffered, unread-answer}
+use Rattle.qm_any.proofs.Offered.{left-store, log-untold, log-rose, log-kept, unoffered, unread-answer}
 use Rattle.qm_any.proofs.OfferedSpans.{same-located}
 use Rattle.qm_any.proofs.offer.ordered.DbMmrFamilySha256Neighbours.span.Goals as goal
 use Rattle.qm_any.specs.Offered.{sha256_hashing, sha256_layout}
@@ -40,5 +40,5 @@ returns-in-Err g c = record {
     faults = record { later = (c.get_span.ensures.reads.left).read.keeps.later; failed = λ fault. log-rose g.C.Store c.args.self.now.log c.get_span.new.self.log c.in-Err.error c.in-Err.ensures.reads.error (cc fault) };
   };
   never = log-kept g.C.Store c.args.self.now.log c.get_span.new.self.log c.in-Err.error c.in-Err.ensures.reads.error;
-  refused = λ list is tells. log-untold g.C.Store c.args.self.now.log c.get_span.new.self.log c.in-Err.error (c.in-Err.ensures.reads.whole list is (none-below g.C.Store (sha256_layout mmr g.N.Chunks.LEN g.U.Update.form g.I.Unordered.index_key) c.args.self.now list is tells)) c.in-Err.ensures.reads.error;
+  refused = λ list is tells. log-untold g.C.Store c.args.self.now.log c.get_span.new.self.log c.in-Err.error (c.in-Err.ensures.reads.whole list is) c.in-Err.ensures.reads.error;
 }

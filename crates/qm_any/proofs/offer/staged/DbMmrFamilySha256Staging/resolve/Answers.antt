@@ -1,7 +1,6 @@
-use Rattle.std.proofs.Common.{◌∙◌, ◌≤◌, sym, suc, length, ap, ap₂, refl, subst, IfOk, IfErr, option_map, ◌⊎◌}
+use Rattle.std.proofs.Common.{◌∙◌, ◌≤◌, suc, length, ap, ap₂, refl, subst, IfOk, IfErr, option_map, ◌⊎◌}
 use Rattle.std.proofs.lemmas.Result.{IfOk-from_err, err_from_is_err_and}
 use Rattle.qm_model.proofs.Results.{err-then}
-use Rattle.qm_model.specs.Live.{floor}
 use Rattle.qm_model.specs.Slots.{slotted}
 use Rattle.qm_base.specs.Slots.{slot_views, write_views}
 use Rattle.qm_step.specs.Views.{stepped}
@@ -9,7 +8,7 @@ use Rattle.qm_base.specs.declared.error.Error.TheVariants.{Journal}
 use Rattle.qm_base.specs.declared.error.JournalError.TheVariants.{Store}
 use Rattle.qm_any.specs.Databases.{Staged}
 use Rattle.qm_any.proofs.Reading.{left-database}
-use Rattle.qm_any.proofs.Offered.{err-of, left-store, on-begun, makes, kept-from, err-memory, memory-not_stale, unread-memory}
+use Rattle.qm_any.proofs.Offered.{err-of, left-store, on-begun, makes, err-memory, memory-not_stale, unread-memory}
 use Rattle.qm_any.proofs.offer.staged.DbMmrFamilySha256Staging.resolve.Goals as goal
 use Rattle.qm_any.specs.Offered.{sha256_hashing, sha256_layout}
 use Rattle.qm_model.specs.Mmr.{mmr}
@@ -51,7 +50,7 @@ returns g c =
           (λ here. (said.makes list chain above is batch.0 here).refused)
           (err-then r said.unmade (λ e why. why.stale))
           (err-then r said.unmade (λ e why. why.order))
-          (err-then r (kept-from g.C.Store layout old r begun.parent.bounds.inactivity_floor said.whole) (λ e kept tells low. kept list is tells (subst (λ n. floor list ≤ n) (sym (batch.0.begun).parent.lowest) low)));
+          (λ here. said.whole list chain above is batch.0 here);
       reads = record {
         same = λ list is. left-database g.C.Store layout old new list said.left is;
         numbered = λ n is. tt;

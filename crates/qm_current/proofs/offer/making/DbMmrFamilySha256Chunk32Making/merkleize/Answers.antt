@@ -1,13 +1,12 @@
 use Rattle.std.proofs.Common.{◌≤◌, ◌∙◌, ap, ap₂, refl, subst, sym, suc, length, option_map}
 use Rattle.std.proofs.lemmas.Result.{IfOk-from_err, err_from_is_err_and}
 use Rattle.qm_model.proofs.Results.{err-then}
-use Rattle.qm_model.specs.Live.{floor}
 use Rattle.qm_model.specs.Mmr.{mmr}
 use Rattle.qm_step.specs.Views.{stepped}
 use Rattle.qm_base.specs.declared.error.Error.TheVariants.{Journal}
 use Rattle.qm_base.specs.declared.error.JournalError.TheVariants.{Store}
 use Rattle.qm_any.specs.Offered.{sha256_hashing, sha256_layout}
-use Rattle.qm_any.proofs.Offered.{err-of, left-store, kept-from, err-memory, memory-not_stale, unread-memory}
+use Rattle.qm_any.proofs.Offered.{err-of, left-store, err-memory, memory-not_stale, unread-memory}
 use Rattle.qm_current.specs.Databases.{Begun, Database}
 use Rattle.qm_current.specs.Making.{can_make}
 use Rattle.qm_current.specs.Offered.{offered_chunk}
@@ -52,8 +51,7 @@ returns g c =
           (λ own here. (said.makes list chain above is.at batch.0 own here).refused)
           (err-then r said.unmade (λ e why. why.stale))
           (err-then r said.unmade (λ e why. why.order))
-          (err-then r (kept-from members layout old.any r begun.any.parent.bounds.inactivity_floor said.whole)
-          (λ e kept tells low. kept list is.at.any tells (subst (λ n. floor list ≤ n) (sym (batch.0).any.parent.lowest) low)));
+          (λ here. said.whole list chain above is.at.any batch.0.any here);
       reads = record {
         same = left-offered members layout old new said.left;
         numbered = λ n is. ap (λ (d : Database _ _). d.instance) said.left.rest ∙ is;

@@ -2,7 +2,7 @@ use Rattle.std.proofs.Common.{◌∙◌, option_map}
 use Rattle.qm_model.specs.Ranges.{span_of}
 use Rattle.qm_base.specs.Listed.{span_view}
 use Rattle.qm_any.specs.Offered.{sha256_layout}
-use Rattle.qm_any.proofs.Offered.{none-below, log-untold, log-rose, log-kept, unoffered, unread-answer}
+use Rattle.qm_any.proofs.Offered.{log-untold, log-rose, log-kept, unoffered, unread-answer}
 use Rattle.qm_any.proofs.OfferedSpans.{same-located}
 use Rattle.qm_model.specs.Mmr.{mmr}
 use Rattle.qm_current.proofs.Offering.{left-offered}
@@ -49,5 +49,5 @@ returns-in-Err g c =
         faults = record { later = c.get_span.ensures.reads.left.read.keeps.later; failed = λ fault. log-rose g.C.Store old new c.in-Err.error c.in-Err.ensures.reads.error (cc fault) };
       };
       never = log-kept g.C.Store old new c.in-Err.error c.in-Err.ensures.reads.error;
-      refused = λ list is tells. log-untold g.C.Store old new c.in-Err.error (c.in-Err.ensures.reads.whole list is.at.any (none-below g.C.Store layout c.args.self.now.any list is.at.any tells)) c.in-Err.ensures.reads.error;
+      refused = λ list is tells. log-untold g.C.Store old new c.in-Err.error (c.in-Err.ensures.reads.whole list is.at.any) c.in-Err.ensures.reads.error;
     }
