@@ -1,5 +1,5 @@
 -- What a database says as an offer: where its batches fit and can be read, and what its refusals are.
-use Rattle.std.proofs.Common.{◌≡◌, ◌≢◌, ◌≤◌, ℕ, suc, arith, ◌^◌, ◌∙◌, ◌⊎◌, ap, ap₂, le_refl, sym, subst, refl, inl, inr, List, [], ◌++◌, length, map, drop, Option, Some, None, Bool, true, false, IfSome}
+use Rattle.std.proofs.Common.{◌≡◌, ◌≢◌, ◌≤◌, ℕ, suc, ◌^◌, ◌∙◌, ◌⊎◌, ap, ap₂, le_refl, sym, subst, refl, inl, inr, List, [], ◌++◌, length, map, drop, Option, Some, None, Bool, true, false, IfSome}
 use Rattle.std.specs.Prelude.{Result, Ok, Err, IfOk, IfErr, IsErrOf, if◌then◌else◌}
 use Rattle.std.specs.Option.{option_map, option_or}
 use Rattle.std.proofs.lemmas.Bool.{false≢true, lt-ltb, le-ltb}
@@ -12,16 +12,15 @@ use Rattle.qm_model.specs.Batches.{Commitment, Chain, boundary_list, IsOnChain, 
 use Rattle.qm_model.specs.Causes.{Rose}
 use Rattle.qm_model.specs.Refused.{Refused, Journal, ItemTooLarge, Merkle, LocationOverflow}
 use Rattle.qm_model.specs.Refusals.{tip_refusal, too_long, too_many}
-use Rattle.qm_model.specs.Live.{floor}
 use Rattle.qm_model.specs.Schemes.{takes}
 use Rattle.qm_model.specs.Writes.{Write}
 use Rattle.qm_model.proofs.Chains.{fits-on_chain, readable-known}
-use Rattle.qm_model.proofs.Results.{err-both, err-each, err-when}
+use Rattle.qm_model.proofs.Results.{err-both, err-each}
 use Rattle.qm_store.specs.declared.Store as store
 use Rattle.qm_store.specs.Log.{Log}
 use Rattle.qm_store.specs.Reads.{IsReadError}
 use Rattle.qm_store.specs.Refusals.{refusal_of}
-use Rattle.qm_store.specs.Given.{IsUnchanged, TellsFrom, store_after, store_given}
+use Rattle.qm_store.specs.Given.{IsUnchanged, store_after, store_given}
 use Rattle.qm_store.specs.declared.refusal.Refusal.{Refusal}
 use Rattle.qm_chain.specs.Bounds.{Bounds, IsBounds, is_at, knows}
 use Rattle.qm_chain.proofs.Fits.{at-fits, at-readable}
@@ -125,10 +124,10 @@ module _ {C D : Type 0} (members : store.Ghosts C) (old new : Log C D) (can : Bo
 
   -- so it is a failure of a read of the engine
   pub read-failure : {X B S M : Type 0} (means : meaning.Ghosts X C B S M) (list : List Operation) (chain : Chain) (tip : List Operation) → can ≡ readable means.scheme.root (commitment means.scheme.root list) chain tip
-      → (TellsFrom members old.store list → IsOfKeptItem e) → IsThroughError members can old new e → IsReadFailure means (TellsFrom members old.store list) list chain tip e
+      → IsOfKeptItem e → IsThroughError members can old new e → IsReadFailure means list chain tip e
   read-failure means list chain tip is whole why = record {
     stale = λ stale known. apart (sym (is ∙ readable-known means.scheme.root list chain tip known) ∙ stale-read why stale);
-    refused = λ fresh tells known. fresh-read why fresh (whole tells);
+    refused = λ fresh known. fresh-read why fresh whole;
     order = λ fresh other. sym is ∙ known-read why fresh other;
   }
 
@@ -140,17 +139,15 @@ module _ {C D : Type 0} (members : store.Ghosts C) (old new : Log C D) (can : Bo
 module _ {C D : Type 0} (members : store.Ghosts C) (layout : Layout D) (db : Database C D) where
   -- no read of what stands for a list fails for an item that is gone
   pub kept-items : {X : Type 0} (r : Result X Error) → ((list : List Operation) → IsDatabase members layout db list → IfErr r IsOfKeptItem)
-      → IfErr r (λ e. (list : List Operation) → IsDatabase members layout db list → TellsFrom members db.log.store list → IsOfKeptItem e)
-  kept-items r whole =
-      err-each (IsDatabase members layout db) (λ list e. TellsFrom members db.log.store list → IsOfKeptItem e) r
-      (λ list is. err-when IsOfKeptItem r (λ tells. whole list is))
+      → IfErr r (λ e. (list : List Operation) → IsDatabase members layout db list → IsOfKeptItem e)
+  kept-items r whole = err-each (IsDatabase members layout db) (λ list e. IsOfKeptItem e) r whole
 
   -- and a read that fails is told as no refusal
   pub read-untold : {X : Type 0} (new : Log C D) (r : Result X Error) → IfErr r (IsReadError members db.log new)
       → ((list : List Operation) → IsDatabase members layout db list → IfErr r IsOfKeptItem)
-      → IfErr r (λ e. (list : List Operation) → IsDatabase members layout db list → TellsFrom members db.log.store list → refusal_of e ≡ None)
+      → IfErr r (λ e. (list : List Operation) → IsDatabase members layout db list → refusal_of e ≡ None)
   read-untold new r errs whole =
-      err-both r errs (kept-items r whole) (λ e why kept list is tells. log-untold members db.log new e (kept list is tells) why)
+      err-both r errs (kept-items r whole) (λ e why kept list is. log-untold members db.log new e (kept list is) why)
 
 -- reads through batches
 pub made-reads : {X E : Type 0} (r : Result X E) (S : List Operation → Type 0) (L : Chain → List Operation → Type 0) (Q : X → List Operation → Type 0)
@@ -225,10 +222,10 @@ module _ (form : Form) (chain : Chain) (tip : List Operation) where
 
   -- a merkleize that is refused, and not as stale, is so for that if the database is on the chain and lacks no item of it; its
   -- batch is of an instance that the database takes, and fits
-  pub refused-due : {C D : Type 0} (members : store.Ghosts C) (old new : Log C D) (T P On Low : Type 0) (e : Error) → e ≢ errors.StaleBatch → (On → IsOfKeptItem e) → (On → IsRefused form chain.base tip e ⊎ IsReadError members old new e)
-      → T → (e ≢ errors.Memory → P) → IfSome (refusal_of e) (λ r. T × P × (On → Low → tip_refusal form chain tip ≡ Some r))
-  refused-due members old new T P On Low e fresh whole refused own give =
-      some-intro (refusal_of e) (λ r. T × P × (On → Low → tip_refusal form chain tip ≡ Some r)) (λ r told. (own, give (λ memory. none-some r (sym (ap refusal_of memory) ∙ told)), λ on low. either r told on (refused on)))
+  pub refused-due : {C D : Type 0} (members : store.Ghosts C) (old new : Log C D) (T P On : Type 0) (e : Error) → e ≢ errors.StaleBatch → (On → IsOfKeptItem e) → (On → IsRefused form chain.base tip e ⊎ IsReadError members old new e)
+      → T → (e ≢ errors.Memory → P) → IfSome (refusal_of e) (λ r. T × P × (On → tip_refusal form chain tip ≡ Some r))
+  refused-due members old new T P On e fresh whole refused own give =
+      some-intro (refusal_of e) (λ r. T × P × (On → tip_refusal form chain tip ≡ Some r)) (λ r told. (own, give (λ memory. none-some r (sym (ap refusal_of memory) ∙ told)), λ on. either r told on (refused on)))
     where
       either : (r : Refused) → refusal_of e ≡ Some r → On → IsRefused form chain.base tip e ⊎ IsReadError members old new e → tip_refusal form chain tip ≡ Some r
       either r told on (inl long) = due e r fresh long told
@@ -262,8 +259,8 @@ makes means members old was is list chain own tip (Err e) on plain same fit fitt
   fit = tt;
   made = tt;
   stale = λ left n numbered took. off-chain means.scheme.root list chain (sym fit ∙ stale left);
-  refused = λ fresh tells.
-      refused-due means.scheme.form chain tip members was is (Takes means old chain) (Fits means list chain) (IsOnChain list chain) (floor list ≤ floor chain.base) e fresh whole
+  refused = λ fresh.
+      refused-due means.scheme.form chain tip members was is (Takes means old chain) (Fits means list chain) (IsOnChain list chain) e fresh whole
       (λ here. subst (λ t. IsRefused means.scheme.form chain.base t e ⊎ IsReadError members was is e) same (refused here))
       (λ n numbered. ap (λ grafts. takes grafts n chain.instance) plain) (λ memory. sym fit ∙ order memory fresh);
 }
@@ -344,8 +341,8 @@ err-memory r y P is memory p = subst (λ r. IfErr r P) (sym (is ∙ ap Err memor
 pub memory-not_stale : errors.Memory ≢ errors.StaleBatch
 memory-not_stale e = cc
 
-pub memory-failure : {X C B S M : Type 0} (means : meaning.Ghosts X C B S M) (tells : Type 0) (list : List Operation) (chain : Chain) (tip : List Operation) → IsReadFailure means tells list chain tip errors.Memory
-memory-failure means tells list chain tip = record { stale = λ e. absurd (cc e); refused = λ fresh tells known. refl; order = λ fresh other. absurd (other refl) }
+pub memory-failure : {X C B S M : Type 0} (means : meaning.Ghosts X C B S M) (list : List Operation) (chain : Chain) (tip : List Operation) → IsReadFailure means list chain tip errors.Memory
+memory-failure means list chain tip = record { stale = λ e. absurd (cc e); refused = λ fresh known. refl; order = λ fresh other. absurd (other refl) }
 
 -- an unordered database offers nothing of an ordered one
 pub unoffered : {A : Type 0} (t ordered : Bool) → t ≡ ordered → t ≡ false → ordered ≡ true → A

@@ -1,5 +1,5 @@
 -- What a call says that reads a database, alone or through a batch.
-use Rattle.std.specs.Prelude.{◌≡◌, ◌≢◌, ◌⊎◌, ℕ, Bool, true, false, List, Result, IfErr, OnOk}
+use Rattle.std.specs.Prelude.{◌≡◌, ◌⊎◌, Bool, true, false, List, Result, IfErr, OnOk}
 use Rattle.qm_model.specs.Batches.{Chain, IsKnown, IsOnChain}
 use Rattle.qm_model.specs.Operations.{Operation}
 use Rattle.qm_base.specs.declared.error.Error.{Error}

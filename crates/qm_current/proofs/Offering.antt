@@ -3,7 +3,6 @@ use Rattle.std.proofs.Common.{◌≡◌, ◌≢◌, ◌∙◌, ◌≤◌, ℕ, s
 use Rattle.std.specs.Prelude.{◌==◌, ⊤, Result, Ok, Err, IfOk, IfErr}
 use Rattle.std.proofs.lemmas.Bool.{eqb-true}
 use Rattle.qm_model.specs.Batches.{Chain, IsKnown, IsOnChain, commitment, fits}
-use Rattle.qm_model.specs.Live.{floor}
 use Rattle.qm_model.specs.Opening.{count_in}
 use Rattle.qm_model.specs.Operations.{Bytes, Operation}
 use Rattle.qm_model.specs.Refusals.{tip_refusal}
@@ -19,7 +18,6 @@ use Rattle.qm_store.specs.declared.Store as store
 use Rattle.qm_store.specs.declared.refusal.Given.{Given}
 use Rattle.qm_store.specs.declared.refusal.Given.TheVariants as given
 use Rattle.qm_store.specs.declared.refusal.Refusal.{Refusal}
-use Rattle.qm_store.specs.Given.{TellsFrom}
 use Rattle.qm_store.specs.Log.{Log}
 use Rattle.qm_store.specs.Reads.{IsReadError}
 use Rattle.qm_store.specs.Refusals.{refusal_of}
@@ -112,14 +110,14 @@ module _ {X C B S M : Type 0} (means : meaning.Ghosts X C B S M) (grafts : Graft
     fit = tt;
     made = tt;
     stale = λ left n numbered took here. off-own (stale left) n numbered took here;
-    refused = λ fresh tells.
-        some-told (refusal_of e) (λ r. Takes means old chain × Fits means list chain × (IsOnChain list chain → floor list ≤ floor chain.base → tip_refusal means.scheme.form chain tip ≡ Some r)) (λ r told.
+    refused = λ fresh.
+        some-told (refusal_of e) (λ r. Takes means old chain × Fits means list chain × (IsOnChain list chain → tip_refusal means.scheme.form chain tip ≡ Some r)) (λ r told.
         let on = order (λ memory. none-some r (sym (ap refusal_of memory) ∙ told)) fresh in
         let due =
-        refused-due means.scheme.form chain tip members was is ⊤ ⊤ (IsOnChain list chain) (floor list ≤ floor chain.base) e fresh whole
+        refused-due means.scheme.form chain tip members was is ⊤ ⊤ (IsOnChain list chain) e fresh whole
         (λ here. subst (λ t. IsRefused means.scheme.form chain.base t e ⊎ IsReadError members was is e) same (refused (sym (same-number on)) here)) tt (λ memory. tt)
         in
-        let at = subst (λ o. IfSome o (λ x. ⊤ × ⊤ × (IsOnChain list chain → floor list ≤ floor chain.base → tip_refusal means.scheme.form chain tip ≡ Some x))) told due in
+        let at = subst (λ o. IfSome o (λ x. ⊤ × ⊤ × (IsOnChain list chain → tip_refusal means.scheme.form chain tip ≡ Some x))) told due in
         (own-chain on, (both on).1, at.2));
   }
 

@@ -10,7 +10,7 @@ use Rattle.qm_base.specs.declared.error.Error.TheVariants as errors
 use Rattle.qm_base.specs.declared.error.JournalError.TheVariants as journal
 use Rattle.qm_chain.specs.Bounds.{Bounds, IsBounds, knows}
 use Rattle.qm_store.specs.declared.Store as store
-use Rattle.qm_store.specs.Given.{IsUnchanged, TellsFrom}
+use Rattle.qm_store.specs.Given.{IsUnchanged}
 use Rattle.qm_store.specs.Refusals.{refusal_of}
 use Rattle.qm_any.specs.Databases as anys
 use Rattle.qm_any.specs.Layouts.{Layout, list_root}
@@ -53,8 +53,8 @@ module _ {C D : Type 0} (members : store.Ghosts C) (layout : Layout D) (old new 
       pub read-never : IfErr r (λ e. e ≢ errors.StaleBatch)
       read-never = err-then r reads.error (λ e why. offers.log-kept members old.any.log new.any.log e why)
 
-      -- and for no refusal if the store tells all
-      pub read-untold : IfErr r (λ e. (list : List Operation) → IsOffered members layout old list → TellsFrom members old.any.log.store list → refusal_of e ≡ None)
+      -- and for no refusal of a database that stands
+      pub read-untold : IfErr r (λ e. (list : List Operation) → IsOffered members layout old list → refusal_of e ≡ None)
       read-untold =
           err-then r (offers.read-untold members layout old.any new.any.log r reads.error reads.whole)
           (λ e told list is. told list is.at.any)
@@ -80,7 +80,7 @@ module _ {C D : Type 0} (members : store.Ghosts C) (layout : Layout D) (old new 
       pub through-failure : {X B S M : Type 0} (means : meaning.Ghosts X C B S M)
           → ((list : List Operation) (chain : Chain) (tip : List Operation) → readable (list_root layout.hashing) (commitment (list_root layout.hashing) list) chain tip ≡ readable means.scheme.root (commitment means.scheme.root list) chain tip)
           → IfErr r (λ e. (list : List Operation) (chain : Chain) (tip : List Operation) → IsOffered members layout old list → IsBounds (list_root layout.hashing) bounds chain tip
-          → IsReadFailure means (TellsFrom members old.any.log.store list) list chain tip e)
+          → IsReadFailure means list chain tip e)
       through-failure means same =
           err-both r reads.error (offers.kept-items members layout old.any r reads.whole)
           (λ e why kept list chain tip is of. offers.read-failure members old.any.log new.any.log (knows bounds old.any.commitment) e means list chain tip

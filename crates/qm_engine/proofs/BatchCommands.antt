@@ -11,7 +11,7 @@ use Rattle.qm_model.specs.Forms.{spelling}
 use Rattle.qm_model.specs.Live.{floor}
 use Rattle.qm_model.specs.Walk.{Rules}
 use Rattle.qm_model.specs.Writes.{Write}
-use Rattle.qm_model.specs.Batches.{Chain, child_of, IsAmong, IsOnChain, IsRising, Begins, Apart, commitment, fits}
+use Rattle.qm_model.specs.Batches.{Chain, child_of, IsAmong, IsOnChain, Begins, Apart, commitment, fits}
 use Rattle.qm_model.specs.Refusals.{tip_refusal}
 use Rattle.qm_machine.specs.Lines.{Answer}
 use Rattle.qm_machine.specs.Lines as lines
@@ -21,7 +21,7 @@ use Rattle.qm_machine.specs.Machine as machine
 use Rattle.qm_model.specs.Schemes.{takes}
 use Rattle.qm_model.proofs.KeyOrder.{and-true}
 use Rattle.qm_model.proofs.Stores.{leaves-now}
-use Rattle.qm_model.proofs.Chains.{Contains-more, Contains-first, IsAmong-more, child-among, on_chain-fits, known-begins, Begins-self, Begins-length}
+use Rattle.qm_model.proofs.Chains.{Contains-more, Contains-first, IsAmong-more, child-among, on_chain-fits, known-begins, Begins-length}
 use Rattle.qm_base.specs.declared.error.Error.{Error}
 use Rattle.qm_base.specs.declared.error.Error.TheVariants as errors
 use Rattle.qm_lines.specs.Views.{refused_view}
@@ -45,13 +45,9 @@ use Rattle.qm_machine.specs.Sound.{IsSoundSlot, IsSteady}
 use Rattle.qm_engine.specs.Stores.{HasLog, IsLeft}
 use Rattle.qm_engine.specs.Session.{SlotIs, Holds}
 use Rattle.qm_engine.proofs.Tables.{push_at, set_at, set_set}
-use Rattle.qm_store.specs.Given.{Appended, TellsFrom}
+use Rattle.qm_store.specs.Given.{Appended}
 use Rattle.qm_engine.proofs.LastingStores.{IsBare, Counts, has-appended, left_appended}
-use Rattle.qm_engine.proofs.Commands.{some_is, some-map, choice, none_some, refuses, by_error, HeldIs-more, SlotIs-more, numbered-held, with_held, with_list, with_told_writing, slots_set, lengths_set, Keeps, Holds-used, Turns}
-
--- a list on a batch's chain begins its base
-pub base-begins : (list : List Operation) (chain : Chain) → IsOnChain list chain → IsRising chain → Begins list chain.base
-base-begins list chain on rising = known-begins list chain chain.base (inr on) rising (Begins-self chain.base)
+use Rattle.qm_engine.proofs.Commands.{some_is, some-map, choice, none_some, refuses, by_error, HeldIs-more, SlotIs-more, numbered-held, with_held, with_list, with_writing, slots_set, lengths_set, Keeps, Holds-used, Turns}
 
 module _ {X C B S M K V D : Type 0} (members : stores.Ghosts C) (means : meaning.Ghosts X C B S M) (key : K → Bytes) (value : V → Bytes) (digest : D → Bytes) where
   abbrev root : List Operation → Bytes
@@ -194,31 +190,29 @@ module _ {X C B S M K V D : Type 0} (members : stores.Ghosts C) (means : meaning
         refusing r due None is_due = λ apart. absurd (none_some is_due (due.2 (on_chain-made apart due.1)))
         refusing r due (Some q) is_due = λ apart. (ap refuses (sym (due.2 (on_chain apart due.1)) ∙ is_due), k)
 
-  -- what a call says that makes a batch's tip list, if the store tells all of the database's
-  pub making_of : (x : X) (n : ℕ) (list : List Operation) (chain : Chain) (tip : List Operation) (made : Result M Error) → means.numbered x n → TellsFrom members (means.inside x) list → (IsOnChain list chain → floor list ≤ floor chain.base)
-      → Makes means members x list chain tip made → IsMaking means n list chain tip made
-  making_of x n list chain tip (Ok b) is tells low makes = record { instance = makes.instance n is; fit = makes.fit; made = makes.made; stale = tt; refused = tt }
-  making_of x n list chain tip (Err e) is tells low makes = record {
+  -- what a call says that makes a batch's tip list
+  pub making_of : (x : X) (n : ℕ) (list : List Operation) (chain : Chain) (tip : List Operation) (made : Result M Error) → means.numbered x n → Makes means members x list chain tip made → IsMaking means n list chain tip made
+  making_of x n list chain tip (Ok b) is makes = record { instance = makes.instance n is; fit = makes.fit; made = makes.made; stale = tt; refused = tt }
+  making_of x n list chain tip (Err e) is makes = record {
     instance = tt;
     fit = tt;
     made = tt;
     stale = λ same. makes.stale same n is;
-    refused = λ other. some-map (refusal_of e) (λ r all. (all.0 n is, all.1, λ on. all.2 on (low on))) (makes.refused other tells);
+    refused = λ other. some-map (refusal_of e) (λ r all. (all.0 n is, all.1, all.2)) (makes.refused other);
   }
 
   -- a merkleize of a batch whose number is used up, under policies with these rules
   pub merkleize_made : {P : Type 0} (rules : Rules P) (Q : Answer × State → Type 0) (x after : X) (table : List (Slot B S M)) (opened h : ℕ) (policy : P) (meta : Option Bytes) (batch : B) (made : Result M Error) (s : State)
-      → Holds members means (Database x) table opened s → IsSteady means.scheme s → Keeps members means x after
+      → Holds members means (Database x) table opened s → Keeps members means x after
       → AtBatch means x batch (λ list chain above ws. Makes means members x list chain (tip_of means.scheme rules chain ws policy meta) made)
       → writing_of (get_or table h Gone) ≡ Some batch
       → ((list : List Operation) (chain : Chain) (tip : List Operation) → Holds members means (Database after) (set table h Gone) opened (with_slot s h machine.gone) → Contains s.had list → IsAmong s.had chain
       → IsMaking means s.opened list chain tip made → Q (made_into means.scheme s h list chain tip))
       → Q (machine.merkleize means.scheme rules s h policy meta)
-  merkleize_made rules Q x after table opened h policy meta batch made s k sound keeps making e each =
-      with_told_writing members means x table opened h s (λ list. merkleize_in means.scheme rules s h policy meta list) Q k batch e (λ list chain above ws tells named stands in_had among above_among is.
+  merkleize_made rules Q x after table opened h policy meta batch made s k keeps making e each =
+      with_writing members means x table opened h s (λ list. merkleize_in means.scheme rules s h policy meta list) Q k batch e (λ list chain above ws stands in_had among above_among is.
       each list chain (tip_of means.scheme rules chain ws policy meta) (Holds-used members means x after table opened h s keeps k) in_had among
-      (making_of x s.opened list chain (tip_of means.scheme rules chain ws policy meta) made (numbered-held members means s.opened x s.had s.database k.database) tells
-      (λ on. sound.floors list chain.base in_had among.base (base-begins list chain on (subst (IsSoundSlot s.had) named (sound.slots h)).1)) (making list chain above ws stands is)))
+      (making_of x s.opened list chain (tip_of means.scheme rules chain ws policy meta) made (numbered-held members means s.opened x s.had s.database k.database) (making list chain above ws stands is)))
 
   -- an apply that was accepted
   applied_in : (peakless : IsBare means.scheme) (x after : X) (table : List (Slot B S M)) (opened : ℕ) (h : ℕ) (batch : M) (size : ℕ) (s : State) (list : List Operation)

@@ -1,8 +1,7 @@
 -- Each command over what a run holds, as lemmas over plain values: what all of them use.
 use Rattle.std.proofs.Common.{◌≡◌, ◌≢◌, ℕ, zero, suc, ◌≤◌, Bool, true, false, cond, List, [], ◌∷◌, length, get_or, set, Option, Some, None, arith, refl, sym, ◌∙◌, ap, subst, IfSome, append-nil}
-use Rattle.std.specs.Prelude.{Contains, is_some}
+use Rattle.std.specs.Prelude.{Contains}
 use Rattle.std.proofs.lemmas.List.{length-set}
-use Rattle.qm_model.specs.Live.{floor}
 use Rattle.qm_model.specs.Own.{Log}
 use Rattle.qm_model.specs.StoreModel.{Stored}
 use Rattle.qm_model.specs.Operations.{Bytes, Operation}
@@ -37,7 +36,7 @@ use Rattle.qm_engine.specs.Turn.{turn_of_error}
 use Rattle.qm_store.specs.Refusals.{refusal_of, IsDue}
 use Rattle.qm_store.specs.declared.Store as stores
 use Rattle.qm_offer.specs.declared.meaning.Meaning as meaning
-use Rattle.qm_store.specs.Given.{IsUnchanged, TellsFrom}
+use Rattle.qm_store.specs.Given.{IsUnchanged}
 use Rattle.qm_engine.specs.Stores.{IsStored, HasLog, IsLeft, MayBe, grown}
 use Rattle.qm_engine.specs.Session.{HeldIs, SlotIs, Holds, IfReply, Answers}
 use Rattle.qm_engine.proofs.Tables.{set_at}
@@ -192,15 +191,6 @@ module _ {X C B S M : Type 0} (members : stores.Ghosts C) (means : meaning.Ghost
   pub lengths_set : (table : List (Slot B S M)) (s : State) (h : ℕ) (new : Slot B S M) (slot : machine.Slot) → length table ≡ length s.table → length (set table h new) ≡ length (set s.table h slot)
   lengths_set table s h new slot e = length-set table h new ∙ e ∙ sym (length-set s.table h slot)
 
-  -- the store of a database starts at its list's floor or before, and tells its items
-  pub Holds-told : (x : X) (table : List (Slot B S M)) (opened : ℕ) (s : State) → Holds members means (Database x) table opened s → (list : List Operation) → s.database ≡ Some list → TellsFrom members (means.inside x) list
-  Holds-told x table opened s k list is =
-      (subst (λ n. n ≤ floor list) (sym k.store.start) (some_is s.database list (λ l. s.log.start ≤ floor l) is k.low), ap is_some k.store.told.is)
-
-  pub with_told : (x : X) (table : List (Slot B S M)) (opened : ℕ) (s : State) (f : List Operation → Answer × State) (Q : Answer × State → Type 0) → Holds members means (Database x) table opened s
-      → ((list : List Operation) → TellsFrom members (means.inside x) list → means.stands x list → Contains s.had list → Q (f list)) → Q (with_database s s.database f)
-  with_told x table opened s f Q k each = with_held x s.had s.database s f Q k.database (λ list is. each list (Holds-told x table opened s k list is))
-
   -- a database that stands for the same lists, over what the store had, and is the same instance
   abbrev pub Keeps : X → X → Type 0
   Keeps x after = ((l : List Operation) → means.stands x l → means.stands after l) × IsUnchanged members (means.inside x) (means.inside after) × ((n : ℕ) → means.numbered x n → means.numbered after n)
@@ -232,46 +222,32 @@ module _ {X C B S M : Type 0} (members : stores.Ghosts C) (means : meaning.Ghost
 
   -- over a database, what is done with a batch that a number names
   module _ (x : X) (table : List (Slot B S M)) (opened h : ℕ) (s : State) (f : List Operation → machine.Slot → Answer × State) (Q : Answer × State → Type 0) (k : Holds members means (Database x) table opened s) where
-    -- where a batch is named, with what the machine has at the number
-    pub with_told_writing : (batch : B) → writing_of (get_or table h Gone) ≡ Some batch
-        → ((list : List Operation) (chain above : Chain) (ws : List Write) → TellsFrom members (means.inside x) list → slot_at s.table h ≡ machine.writing chain above ws
-        → means.stands x list → Contains s.had list → IsAmong s.had chain → IsAmong s.had above → means.is_batch batch chain above ws
-        → Q (f list (machine.writing chain above ws)))
-        → Q (with_database s s.database (λ list. f list (slot_at s.table h)))
-    with_told_writing batch e each =
-        with_told x table opened s (λ list. f list (slot_at s.table h)) Q k (λ list told stands in_had. by list told stands in_had (get_or table h Gone) (slot_at s.table h) refl (k.slots h) e)
-      where
-        by : (list : List Operation) → TellsFrom members (means.inside x) list → means.stands x list → Contains s.had list → (a : Slot B S M) (b : machine.Slot) → slot_at s.table h ≡ b → SlotIs members means s.had a b → writing_of a ≡ Some batch → Q (f list b)
-        by list told stands in_had (Writing w) (machine.writing chain above ws) named is e =
-            let same : w ≡ batch = cc in each list chain above ws told named stands in_had is.1 is.2 (subst (λ v. means.is_batch v chain above ws) same is.0)
-        by list told stands in_had (Writing w) b named is e = absurd is
-        by list told stands in_had a b named is e = absurd (cc)
-
+    -- where a batch is named
     pub with_writing : (batch : B) → writing_of (get_or table h Gone) ≡ Some batch
         → ((list : List Operation) (chain above : Chain) (ws : List Write) → means.stands x list → Contains s.had list → IsAmong s.had chain → IsAmong s.had above → means.is_batch batch chain above ws
         → Q (f list (machine.writing chain above ws)))
         → Q (with_database s s.database (λ list. f list (slot_at s.table h)))
-    with_writing batch e each = with_told_writing batch e (λ list chain above ws told named. each list chain above ws)
-
-    pub with_told_staged : (batch : S) → staged_of (get_or table h Gone) ≡ Some batch
-        → ((list : List Operation) (chain above : Chain) (ws : List Write) (keys : List Bytes) → TellsFrom members (means.inside x) list → slot_at s.table h ≡ machine.staged chain above ws keys
-        → means.stands x list → Contains s.had list → IsAmong s.had chain → IsAmong s.had above → means.is_staged batch chain above ws keys
-        → Q (f list (machine.staged chain above ws keys)))
-        → Q (with_database s s.database (λ list. f list (slot_at s.table h)))
-    with_told_staged batch e each =
-        with_told x table opened s (λ list. f list (slot_at s.table h)) Q k (λ list told stands in_had. by list told stands in_had (get_or table h Gone) (slot_at s.table h) refl (k.slots h) e)
+    with_writing batch e each =
+        with_list x s.had s.database s (λ list. f list (slot_at s.table h)) Q k.database (λ list stands in_had. by list stands in_had (get_or table h Gone) (slot_at s.table h) (k.slots h) e)
       where
-        by : (list : List Operation) → TellsFrom members (means.inside x) list → means.stands x list → Contains s.had list → (a : Slot B S M) (b : machine.Slot) → slot_at s.table h ≡ b → SlotIs members means s.had a b → staged_of a ≡ Some batch → Q (f list b)
-        by list told stands in_had (Staged w) (machine.staged chain above ws keys) named is e =
-            let same : w ≡ batch = cc in each list chain above ws keys told named stands in_had is.1 is.2 (subst (λ v. means.is_staged v chain above ws keys) same is.0)
-        by list told stands in_had (Staged w) b named is e = absurd is
-        by list told stands in_had a b named is e = absurd (cc)
+        by : (list : List Operation) → means.stands x list → Contains s.had list → (a : Slot B S M) (b : machine.Slot) → SlotIs members means s.had a b → writing_of a ≡ Some batch → Q (f list b)
+        by list stands in_had (Writing w) (machine.writing chain above ws) is e =
+            let same : w ≡ batch = cc in each list chain above ws stands in_had is.1 is.2 (subst (λ v. means.is_batch v chain above ws) same is.0)
+        by list stands in_had (Writing w) b is e = absurd is
+        by list stands in_had a b is e = absurd (cc)
 
     pub with_staged : (batch : S) → staged_of (get_or table h Gone) ≡ Some batch
         → ((list : List Operation) (chain above : Chain) (ws : List Write) (keys : List Bytes) → means.stands x list → Contains s.had list → IsAmong s.had chain → IsAmong s.had above → means.is_staged batch chain above ws keys
         → Q (f list (machine.staged chain above ws keys)))
         → Q (with_database s s.database (λ list. f list (slot_at s.table h)))
-    with_staged batch e each = with_told_staged batch e (λ list chain above ws keys told named. each list chain above ws keys)
+    with_staged batch e each =
+        with_list x s.had s.database s (λ list. f list (slot_at s.table h)) Q k.database (λ list stands in_had. by list stands in_had (get_or table h Gone) (slot_at s.table h) (k.slots h) e)
+      where
+        by : (list : List Operation) → means.stands x list → Contains s.had list → (a : Slot B S M) (b : machine.Slot) → SlotIs members means s.had a b → staged_of a ≡ Some batch → Q (f list b)
+        by list stands in_had (Staged w) (machine.staged chain above ws keys) is e =
+            let same : w ≡ batch = cc in each list chain above ws keys stands in_had is.1 is.2 (subst (λ v. means.is_staged v chain above ws keys) same is.0)
+        by list stands in_had (Staged w) b is e = absurd is
+        by list stands in_had a b is e = absurd (cc)
 
   pub merkleized_slot : (a : Slot B S M) (batch : M) → merkleized_of a ≡ Some batch → a ≡ Merkleized batch
   merkleized_slot (Merkleized b) batch e = ap Merkleized (cc)

@@ -21,7 +21,7 @@ use Rattle.qm_lines.specs.declared.reply.Refused.TheVariants as refused
 use Rattle.qm_store.specs.declared.Store as stores
 use Rattle.qm_store.specs.declared.refusal.Given.{Given}
 use Rattle.qm_store.specs.declared.refusal.Given.TheVariants.{Database, Store}
-use Rattle.qm_store.specs.Given.{store_given, IsUnchanged, TellsFrom}
+use Rattle.qm_store.specs.Given.{store_given, IsUnchanged}
 use Rattle.qm_offer.specs.declared.meaning.Meaning as meaning
 use Rattle.qm_engine.specs.declared.table.Slot.{Slot}
 use Rattle.qm_engine.specs.declared.table.Slot.TheVariants.{Gone, Writing, Staged, Merkleized}
@@ -253,6 +253,6 @@ module _ {X C B S M K V D : Type 0} (members : stores.Ghosts C) (means : meaning
       found_ok k can are = finds (Reply (replies.Beside k)) (λ e. absurd (cc e))
           (λ s held. beside_ok members means key value digest x after old.table.items old.opened h s beside batch k held (reads.same, reads.store, reads.numbered) ordered named can are)
 
-      pub found_err : {turn : Turn K V D} (error : Error) → read ≡ Err error → turn ≡ turn_of_error error → AtTip means x batch (λ list chain tip. IsReadFailure means (TellsFrom members (means.inside x) list) list chain tip error) → Finds turn
+      pub found_err : {turn : Turn K V D} (error : Error) → read ≡ Err error → turn ≡ turn_of_error error → AtTip means x batch (λ list chain tip. IsReadFailure means list chain tip error) → Finds turn
       found_err {turn} error was e why = subst Finds (sym e) (finds (turn_of_error error) (λ fault. was ∙ ap Err (fault-told error fault))
           (λ s held. beside_err members means key value digest x after old.table.items old.opened h s beside batch error held (reads.same, reads.store, reads.numbered) ordered named why))

@@ -22,8 +22,7 @@ use Rattle.qm_engine.specs.Table.{merkleized_of}
 use Rattle.qm_engine.specs.Turn.{turn_of_error}
 use Rattle.qm_offer.specs.Words.{AtTip, CanRead, IsReadFailure}
 use Rattle.qm_engine.specs.Session.{SlotIs, Holds, Answers}
-use Rattle.qm_store.specs.Given.{TellsFrom}
-use Rattle.qm_engine.proofs.Commands.{with_told, Keeps, Holds-kept, Turns, answered, merkleized_slot}
+use Rattle.qm_engine.proofs.Commands.{with_list, Keeps, Holds-kept, Turns, answered, merkleized_slot}
 use Rattle.qm_engine.proofs.ReadCommands.{readable_ok, readable_err, readable_state}
 
 module _ {X C B S M K V D : Type 0} (members : stores.Ghosts C) (means : meaning.Ghosts X C B S M) (key : K → Bytes) (value : V → Bytes) (digest : D → Bytes)
@@ -47,14 +46,14 @@ module _ {X C B S M K V D : Type 0} (members : stores.Ghosts C) (means : meaning
 
   -- over an ordered database, through the merkleized batch of this number
   on_batch : (turn : Turn K V D) → Holds members means (Database x) table opened s → Keeps members means x after → means.scheme.form.ordered ≡ true → Some batch ≡ merkleized_of (get_or table h Gone)
-      → ((list : List Operation) (chain : Chain) (tip : List Operation) → TellsFrom members (means.inside x) list → means.stands x list → means.is_merkleized batch chain tip → Contains s.had list → IsAmong s.had chain → Contains s.had tip
+      → ((list : List Operation) (chain : Chain) (tip : List Operation) → means.stands x list → means.is_merkleized batch chain tip → Contains s.had list → IsAmong s.had chain → Contains s.had tip
       → Answers members means key value digest turn s (if_readable means.scheme s list chain tip (found tip)))
       → Finds turn
   on_batch turn k keeps ordered e each =
       subst (λ t. Goes (cond t (with_database s s.database offered) (refuse s refusals.NotOffered))) (sym ordered)
-      (with_told members means x table opened s offered Goes k
-      (λ list tells stands in_had. answered members means key value digest turn (Database after) table opened s (offered list) (named_state list (slot_at s.table h)) (Holds-kept members means x after table opened s keeps k)
-      (by list tells stands in_had (slot_at s.table h) (subst (λ a. SlotIs members means s.had a (slot_at s.table h)) (merkleized_slot members means (get_or table h Gone) batch (sym e)) (k.slots h)))))
+      (with_list members means x s.had s.database s offered Goes k.database
+      (λ list stands in_had. answered members means key value digest turn (Database after) table opened s (offered list) (named_state list (slot_at s.table h)) (Holds-kept members means x after table opened s keeps k)
+      (by list stands in_had (slot_at s.table h) (subst (λ a. SlotIs members means s.had a (slot_at s.table h)) (merkleized_slot members means (get_or table h Gone) batch (sym e)) (k.slots h)))))
     where
       offered : List Operation → Answer × State
       offered list = named list (slot_at s.table h)
@@ -62,19 +61,19 @@ module _ {X C B S M K V D : Type 0} (members : stores.Ghosts C) (means : meaning
       Goes : Answer × State → Type 0
       Goes = Turns members means key value digest turn (Database after) table opened
 
-      by : (list : List Operation) → TellsFrom members (means.inside x) list → means.stands x list → Contains s.had list → (slot : machine.Slot) → SlotIs members means s.had (Merkleized batch) slot → Answers members means key value digest turn s (named list slot)
-      by list tells stands in_had (machine.merkleized chain tip) is = each list chain tip tells stands is.0 in_had is.1 is.2
-      by list tells stands in_had slot is = absurd is
+      by : (list : List Operation) → means.stands x list → Contains s.had list → (slot : machine.Slot) → SlotIs members means s.had (Merkleized batch) slot → Answers members means key value digest turn s (named list slot)
+      by list stands in_had (machine.merkleized chain tip) is = each list chain tip stands is.0 in_had is.1 is.2
+      by list stands in_had slot is = absurd is
 
   pub beside_ok : (k : Option K) → Holds members means (Database x) table opened s → Keeps members means x after → means.scheme.form.ordered ≡ true → Some batch ≡ merkleized_of (get_or table h Gone)
       → AtTip means x batch (λ list chain tip. CanRead means list chain tip)
       → AtTip means x batch (λ list chain tip. IsKnown list chain tip → option_map key k ≡ beside (live_keys tip))
       → Finds (Reply (Beside k))
-  beside_ok k held keeps ordered e can are = on_batch (Reply (Beside k)) held keeps ordered e (λ list chain tip tells stands is in_had among tip_in.
+  beside_ok k held keeps ordered e can are = on_batch (Reply (Beside k)) held keeps ordered e (λ list chain tip stands is in_had among tip_in.
       readable_ok members means key value digest s list chain tip (lines.Beside (option_map key k)) (found tip) in_had among tip_in (can list chain tip stands is) (λ known. ap lines.Beside (are list chain tip stands is known)))
 
   pub beside_err : (error : Error) → Holds members means (Database x) table opened s → Keeps members means x after → means.scheme.form.ordered ≡ true → Some batch ≡ merkleized_of (get_or table h Gone)
-      → AtTip means x batch (λ list chain tip. IsReadFailure means (TellsFrom members (means.inside x) list) list chain tip error)
+      → AtTip means x batch (λ list chain tip. IsReadFailure means list chain tip error)
       → Finds (turn_of_error error)
-  beside_err error held keeps ordered e why = on_batch (turn_of_error error) held keeps ordered e (λ list chain tip tells stands is in_had among tip_in.
-      readable_err members means key value digest s list chain tip error (found tip) in_had among tip_in (TellsFrom members (means.inside x) list) tells (why list chain tip stands is))
+  beside_err error held keeps ordered e why = on_batch (turn_of_error error) held keeps ordered e (λ list chain tip stands is in_had among tip_in.
+      readable_err members means key value digest s list chain tip error (found tip) in_had among tip_in (why list chain tip stands is))

@@ -25,10 +25,9 @@ use Rattle.qm_engine.specs.declared.session.Turn.{Turn}
 use Rattle.qm_engine.specs.Table.{merkleized_of}
 use Rattle.qm_engine.specs.Turn.{turn_of_error}
 use Rattle.qm_store.specs.Refusals.{refusal_of}
-use Rattle.qm_store.specs.Given.{TellsFrom}
 use Rattle.qm_offer.specs.Words.{CanRead, IsReadFailure}
 use Rattle.qm_engine.specs.Session.{SlotIs, Holds, Answers}
-use Rattle.qm_engine.proofs.Commands.{choice, none_some, refuses, by_refusal, with_list, with_told, Keeps, Holds-kept, Turns, answered}
+use Rattle.qm_engine.proofs.Commands.{choice, none_some, refuses, by_refusal, with_list, Keeps, Holds-kept, Turns, answered}
 
 -- whether an error tells that a read is stale
 pub is_stale_read : (error : Error) → (error ≡ errors.StaleRead) ⊎ (error ≢ errors.StaleRead)
@@ -62,9 +61,9 @@ module _ {X C B S M K V D : Type 0} (members : stores.Ghosts C) (means : meaning
 
   -- and what an error of such a read comes to
   pub readable_err : (s : State) (list : List Operation) (chain : Chain) (tip : List Operation) (error : Error) (answer : Answer) → Contains s.had list → IsAmong s.had chain → Contains s.had tip
-      → (tells : Type 0) → tells → IsReadFailure means tells list chain tip error
+      → IsReadFailure means list chain tip error
       → Answers members means key value digest (turn_of_error error) s (if_readable means.scheme s list chain tip answer)
-  readable_err s list chain tip error answer in_had among tip_in tells told_all why =
+  readable_err s list chain tip error answer in_had among tip_in why =
       by_refusal error _ (λ r told apart. by apart r told (is_stale_read error))
     where
       Goal : Refused → Bool → Type 0
@@ -79,7 +78,7 @@ module _ {X C B S M K V D : Type 0} (members : stores.Ghosts C) (means : meaning
           (λ not. ap refuses (sym told ∙ ap refusal_of is))
       by apart r told (inr other) =
           let can : readable root (commitment root list) chain tip ≡ true = why.order other (λ is. none_some (ap refusal_of is) told) in
-          absurd (none_some (why.refused other told_all (known apart can)) told)
+          absurd (none_some (why.refused other (known apart can)) told)
 
   -- a read leaves the state as it is
   pub readable_state : (s : State) (list : List Operation) (chain : Chain) (tip : List Operation) (answer : Answer) → (if_readable means.scheme s list chain tip answer).1 ≡ s
@@ -96,11 +95,11 @@ module _ {X C B S M K V D : Type 0} (members : stores.Ghosts C) (means : meaning
   written_ok s list h keys batch values named in_had is can are = absurd is
 
   pub written_err : (s : State) (list : List Operation) (h : ℕ) (keys : List Bytes) (batch : B) (error : Error) (named : machine.Slot) → Contains s.had list → SlotIs members means s.had (Writing batch) named
-      → (tells : Type 0) → tells → ((chain above : Chain) (ws : List Write) → means.is_batch batch chain above ws → IsReadFailure means tells list above chain.base error)
+      → ((chain above : Chain) (ws : List Write) → means.is_batch batch chain above ws → IsReadFailure means list above chain.base error)
       → Answers members means key value digest (turn_of_error error) s (read_in means.scheme s h keys list named)
-  written_err s list h keys batch error (machine.writing chain above ws) in_had is tells told_all why =
-      readable_err s list above chain.base error (lines.Read (map (read_through chain.base ws) keys)) in_had is.2 (is.1).base tells told_all (why chain above ws is.0)
-  written_err s list h keys batch error named in_had is tells told_all why = absurd is
+  written_err s list h keys batch error (machine.writing chain above ws) in_had is why =
+      readable_err s list above chain.base error (lines.Read (map (read_through chain.base ws) keys)) in_had is.2 (is.1).base (why chain above ws is.0)
+  written_err s list h keys batch error named in_had is why = absurd is
 
   pub made_ok : (s : State) (list : List Operation) (h : ℕ) (keys : List Bytes) (batch : M) (values : List (Option Bytes)) (named : machine.Slot) → Contains s.had list → SlotIs members means s.had (Merkleized batch) named
       → ((chain : Chain) (tip : List Operation) → means.is_merkleized batch chain tip → CanRead means list chain tip)
@@ -111,11 +110,11 @@ module _ {X C B S M K V D : Type 0} (members : stores.Ghosts C) (means : meaning
   made_ok s list h keys batch values named in_had is can are = absurd is
 
   pub made_err : (s : State) (list : List Operation) (h : ℕ) (keys : List Bytes) (batch : M) (error : Error) (named : machine.Slot) → Contains s.had list → SlotIs members means s.had (Merkleized batch) named
-      → (tells : Type 0) → tells → ((chain : Chain) (tip : List Operation) → means.is_merkleized batch chain tip → IsReadFailure means tells list chain tip error)
+      → ((chain : Chain) (tip : List Operation) → means.is_merkleized batch chain tip → IsReadFailure means list chain tip error)
       → Answers members means key value digest (turn_of_error error) s (read_in means.scheme s h keys list named)
-  made_err s list h keys batch error (machine.merkleized chain tip) in_had is tells told_all why =
-      readable_err s list chain tip error (lines.Read (map (value_of tip) keys)) in_had is.1 is.2 tells told_all (why chain tip is.0)
-  made_err s list h keys batch error named in_had is tells told_all why = absurd is
+  made_err s list h keys batch error (machine.merkleized chain tip) in_had is why =
+      readable_err s list chain tip error (lines.Read (map (value_of tip) keys)) in_had is.1 is.2 (why chain tip is.0)
+  made_err s list h keys batch error named in_had is why = absurd is
 
   read_state-in : (s : State) (h : ℕ) (keys : List Bytes) (list : List Operation) (named : machine.Slot) → (read_in means.scheme s h keys list named).1 ≡ s
   read_state-in s h keys list (machine.writing chain above ws) = readable_state s list above chain.base (lines.Read (map (read_through chain.base ws) keys))
@@ -126,13 +125,13 @@ module _ {X C B S M K V D : Type 0} (members : stores.Ghosts C) (means : meaning
   -- over a database, what is read through a batch number
   pub named_read : (turn : Turn K V D) (x after : X) (table : List (Slot B S M)) (opened h : ℕ) (keys : List Bytes) (s : State) → Holds members means (Database x) table opened s
       → Keeps members means x after
-      → ((list : List Operation) (named : machine.Slot) → TellsFrom members (means.inside x) list → means.stands x list → Contains s.had list → SlotIs members means s.had (get_or table h Gone) named
+      → ((list : List Operation) (named : machine.Slot) → means.stands x list → Contains s.had list → SlotIs members means s.had (get_or table h Gone) named
       → Answers members means key value digest turn s (read_in means.scheme s h keys list named))
       → Goes turn (Database after) table opened (machine.read means.scheme s keys (Some h))
   named_read turn x after table opened h keys s k keeps told =
-      with_told members means x table opened s (λ list. read_in means.scheme s h keys list (slot_at s.table h)) (Goes turn (Database after) table opened) k
-      (λ list tells stands in_had. answered members means key value digest turn (Database after) table opened s (read_in means.scheme s h keys list (slot_at s.table h)) (read_state-in s h keys list (slot_at s.table h))
-      (Holds-kept members means x after table opened s keeps k) (told list (slot_at s.table h) tells stands in_had (k.slots h)))
+      with_list members means x s.had s.database s (λ list. read_in means.scheme s h keys list (slot_at s.table h)) (Goes turn (Database after) table opened) k.database
+      (λ list stands in_had. answered members means key value digest turn (Database after) table opened s (read_in means.scheme s h keys list (slot_at s.table h)) (read_state-in s h keys list (slot_at s.table h))
+      (Holds-kept members means x after table opened s keeps k) (told list (slot_at s.table h) stands in_had (k.slots h)))
 
   -- over a database, what is read of it
   pub database_read : (x after : X) (table : List (Slot B S M)) (opened : ℕ) (keys : List Bytes) (values : List (Option Bytes)) (s : State) → Holds members means (Database x) table opened s

@@ -20,7 +20,7 @@ use Rattle.qm_lines.specs.declared.reply.Refused.TheVariants as refused
 use Rattle.qm_store.specs.declared.Store as stores
 use Rattle.qm_store.specs.declared.refusal.Given.{Given}
 use Rattle.qm_store.specs.declared.refusal.Given.TheVariants.{Database, Store}
-use Rattle.qm_store.specs.Given.{store_given, IsUnchanged, TellsFrom}
+use Rattle.qm_store.specs.Given.{store_given, IsUnchanged}
 use Rattle.qm_store.specs.Refusals.{refusal_of}
 use Rattle.qm_offer.specs.declared.meaning.Meaning as meaning
 use Rattle.qm_engine.specs.declared.table.Slot.{Slot}
@@ -32,7 +32,7 @@ use Rattle.qm_engine.specs.Session.{HeldIs, SlotIs, Holds, Stands, IfReply, Answ
 use Rattle.qm_engine.specs.Table.{merkleized_of}
 use Rattle.qm_engine.specs.Turn.{turn_of_error}
 use Rattle.qm_offer.specs.Words.{ReadsOnly}
-use Rattle.qm_engine.proofs.Commands.{no_refusal, none_some, by_refusal, with_list, with_told, Holds-kept, answered}
+use Rattle.qm_engine.proofs.Commands.{no_refusal, none_some, by_refusal, with_list, Holds-kept, answered}
 use Rattle.qm_engine.proofs.LastingCommands.{fault-told}
 
 module _ {X C B S M : Type 0} (members : stores.Ghosts C) (means : meaning.Ghosts X C B S M) {held : Given X C} {x after : X} {T : Type 0} {read : Result T Error} (is : held ≡ Database x) (reads : ReadsOnly means members x after read) where
@@ -151,13 +151,13 @@ module _ {X C B S M K V D : Type 0} (members : stores.Ghosts C) (means : meaning
 
   module _ {x after : X} (is : old.held ≡ Database x) (turn : Turn K V D) (reads : TurnReads members means x after turn) (answer : List Operation → Answer) where
     -- the turn answers from the list
-    answers : ((list : List Operation) → TellsFrom members (means.inside x) list → means.stands x list → IfReply turn (λ r. answer_view key value digest r ≡ answer list))
+    answers : ((list : List Operation) → means.stands x list → IfReply turn (λ r. answer_view key value digest r ≡ answer list))
         → (s : State) → Stands members means old s → Does (Database after) turn (with_database s s.database (λ list. (answer list, s)))
     answers each s k =
         let held_here : Holds members means (Database x) old.table.items old.opened s = subst (λ h. Holds members means h old.table.items old.opened s) is k in
-        with_told members means x old.table.items old.opened s (λ list. (answer list, s)) (Does (Database after) turn) held_here
-        (λ list tells stands in_had. answered members means key value digest turn (Database after) old.table.items old.opened s (answer list, s) refl
-        (Holds-kept members means x after old.table.items old.opened s (reads.same, reads.store, reads.numbered) held_here) (with_apart turn s (answer list) (each list tells stands)))
+        with_list members means x s.had s.database s (λ list. (answer list, s)) (Does (Database after) turn) held_here.database
+        (λ list stands in_had. answered members means key value digest turn (Database after) old.table.items old.opened s (answer list, s) refl
+        (Holds-kept members means x after old.table.items old.opened s (reads.same, reads.store, reads.numbered) held_here) (with_apart turn s (answer list) (each list stands)))
       where
         with_apart : (turn : Turn K V D) (s : State) (a : Answer) → IfReply turn (λ r. answer_view key value digest r ≡ a) → Answers members means key value digest turn s (a, s)
         with_apart (Reply r) s a same = λ apart. same
@@ -174,41 +174,41 @@ module _ {X C B S M K V D : Type 0} (members : stores.Ghosts C) (means : meaning
 
     -- as the turn does that a database gave
     pub asked : (ordered : means.scheme.form.ordered ≡ true)
-        → IfReply turn (λ r. means.scheme.form.ordered ≡ true → (list : List Operation) → means.stands x list → TellsFrom members (means.inside x) list → answer_view key value digest r ≡ answer list)
+        → IfReply turn (λ r. means.scheme.form.ordered ≡ true → (list : List Operation) → means.stands x list → answer_view key value digest r ≡ answer list)
         → Told (λ s. if_ordered means.scheme s (with_database s s.database (λ list. (answer list, s)))) (Database after) turn
     asked ordered told = read_left (λ s. if_ordered means.scheme s (with_database s s.database (λ list. (answer list, s))))
         (λ s k. choice true ordered (λ s. with_database s s.database (λ list. (answer list, s))) (Database after) turn s (answers (by turn told) s k))
       where
-        by : (turn : Turn K V D) → IfReply turn (λ r. means.scheme.form.ordered ≡ true → (list : List Operation) → means.stands x list → TellsFrom members (means.inside x) list → answer_view key value digest r ≡ answer list)
-            → (list : List Operation) → TellsFrom members (means.inside x) list → means.stands x list → IfReply turn (λ r. answer_view key value digest r ≡ answer list)
-        by (Reply r) told list tells stands = told ordered list stands tells
-        by Memory told list tells stands = tt
-        by StoreFault told list tells stands = tt
+        by : (turn : Turn K V D) → IfReply turn (λ r. means.scheme.form.ordered ≡ true → (list : List Operation) → means.stands x list → answer_view key value digest r ≡ answer list)
+            → (list : List Operation) → means.stands x list → IfReply turn (λ r. answer_view key value digest r ≡ answer list)
+        by (Reply r) told list stands = told ordered list stands
+        by Memory told list stands = tt
+        by StoreFault told list stands = tt
 
   -- a call that failed as its turn tells
   pub read_err : {x after : X} {T : Type 0} {read : Result T Error} → old.held ≡ Database x → ReadsOnly means members x after read → (answer : List Operation → Answer) → {turn : Turn K V D} (error : Error) → (error ≡ errors.Journal journal.Store → IsErrOf read (errors.Journal journal.Store)) → turn ≡ turn_of_error error
-      → ((list : List Operation) → means.stands x list → TellsFrom members (means.inside x) list → refusal_of error ≡ None) → Told (λ s. with_database s s.database (λ list. (answer list, s))) (Database after) turn
+      → ((list : List Operation) → means.stands x list → refusal_of error ≡ None) → Told (λ s. with_database s s.database (λ list. (answer list, s))) (Database after) turn
   read_err is reads answer {turn} error why e none =
       let turned = turn_reads members means reads turn (λ fault. why (fault-told error (sym e ∙ fault))) in
       read_left is turn turned answer (λ s. with_database s s.database (λ list. (answer list, s)))
-      (answers is turn turned answer (λ list tells stands. subst (λ t. IfReply t (λ r. answer_view key value digest r ≡ answer list)) (sym e) (no_refusal error (λ r. answer_view key value digest r ≡ answer list) (none list stands tells))))
+      (answers is turn turned answer (λ list stands. subst (λ t. IfReply t (λ r. answer_view key value digest r ≡ answer list)) (sym e) (no_refusal error (λ r. answer_view key value digest r ≡ answer list) (none list stands))))
 
 -- What a call of a database comes to as a turn, if it answers so.
 module _ {X C B S M K V D T : Type 0} (members : stores.Ghosts C) (means : meaning.Ghosts X C B S M) (key : K → Bytes) (value : V → Bytes) (digest : D → Bytes) {old new : X} {read : Result T Error} (reads : ReadsOnly means members old new read) (answer : List Operation → Answer) where
   abbrev pub Replies : Turn K V D → Type 0
   Replies turn = record {
-    reply : IfReply turn (λ r. means.scheme.form.ordered ≡ true → (list : List Operation) → means.stands old list → TellsFrom members (means.inside old) list → answer_view key value digest r ≡ answer list);
+    reply : IfReply turn (λ r. means.scheme.form.ordered ≡ true → (list : List Operation) → means.stands old list → answer_view key value digest r ≡ answer list);
     reads : TurnReads members means old new turn;
   }
 
   pub replied_ok : (r : reply.Reply K V D) → (means.scheme.form.ordered ≡ true → (list : List Operation) → means.stands old list → answer_view key value digest r ≡ answer list) → Replies (Reply r)
   replied_ok r are = record {
-    reply = λ ordered list stands tells. are ordered list stands;
+    reply = are;
     reads = turn_reads members means reads (Reply r) (λ e. absurd (cc e));
   }
 
-  pub replied_err : {turn : Turn K V D} (error : Error) → read ≡ Err error → turn ≡ turn_of_error error → ((list : List Operation) → means.stands old list → TellsFrom members (means.inside old) list → refusal_of error ≡ None) → Replies turn
+  pub replied_err : {turn : Turn K V D} (error : Error) → read ≡ Err error → turn ≡ turn_of_error error → ((list : List Operation) → means.stands old list → refusal_of error ≡ None) → Replies turn
   replied_err {turn} error was e none = subst Replies (sym e) (record {
-    reply = by_refusal error (λ r. means.scheme.form.ordered ≡ true → (list : List Operation) → means.stands old list → TellsFrom members (means.inside old) list → answer_view key value digest r ≡ answer list) (λ r told ordered list stands tells. absurd (none_some (none list stands tells) told));
+    reply = by_refusal error (λ r. means.scheme.form.ordered ≡ true → (list : List Operation) → means.stands old list → answer_view key value digest r ≡ answer list) (λ r told ordered list stands. absurd (none_some (none list stands) told));
     reads = turn_reads members means reads (turn_of_error error) (λ fault. was ∙ ap Err (fault-told error fault));
   })

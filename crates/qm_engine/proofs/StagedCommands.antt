@@ -32,15 +32,13 @@ use Rattle.qm_engine.specs.declared.session.Turn.TheVariants.{Reply}
 use Rattle.qm_engine.specs.Table.{writing_of, staged_of}
 use Rattle.qm_engine.specs.Turn.{turn_of_error}
 use Rattle.qm_store.specs.Refusals.{refusal_of}
-use Rattle.qm_store.specs.Given.{TellsFrom}
 use Rattle.qm_offer.specs.Words.{AtBatch, AtStaged, CanRead, IsReadFailure, Makes, tip_of}
 use Rattle.qm_engine.specs.Making.{made_into, IsMaking}
 use Rattle.qm_engine.specs.Session.{SlotIs, Holds}
 use Rattle.qm_engine.proofs.Tables.{set_set}
-use Rattle.qm_engine.proofs.Commands.{choice, none_some, refuses, by_refusal, numbered-held, with_list, with_writing, with_staged, with_told_writing, with_told_staged, HeldIs-kept, stored-same, slots_set, lengths_set, Keeps, Holds-used, Turns}
-use Rattle.qm_engine.proofs.BatchCommands.{base-begins, making_of}
+use Rattle.qm_engine.proofs.Commands.{choice, none_some, refuses, by_refusal, numbered-held, with_list, with_writing, with_staged, HeldIs-kept, stored-same, slots_set, lengths_set, Keeps, Holds-used, Turns}
+use Rattle.qm_engine.proofs.BatchCommands.{making_of}
 use Rattle.qm_engine.proofs.ReadCommands.{is_stale_read}
-use Rattle.qm_machine.specs.Sound.{IsSoundSlot, IsSteady}
 
 -- the answer of an expand from as many keys on as there are
 pub expanded_is : {n k m first end : ℕ} (values : List (Option Bytes)) → first ≡ n → end ≡ n + k → m ≡ k → lines.Expanded first end values ≡ lines.Expanded n (n + m) values
@@ -86,9 +84,9 @@ module _ {X C B S M K V D : Type 0} (members : stores.Ghosts C) (means : meaning
         new = machine.staged chain above ws keys
 
     -- or is used up
-    staged_err : (error : Error) (answer : Answer) (slot : machine.Slot) (tells : Type 0) → tells → IsReadFailure means tells list above chain.base error
+    staged_err : (error : Error) (answer : Answer) (slot : machine.Slot) → IsReadFailure means list above chain.base error
         → Goes (turn_of_error error) (Database after) (set table h Gone) opened (if_staged means.scheme s h list chain above answer slot)
-    staged_err error answer slot tells told_all why = by_refusal error _ (λ r told. by r told (is_stale_read error))
+    staged_err error answer slot why = by_refusal error _ (λ r told. by r told (is_stale_read error))
       where
         Goal : Refused → Answer × State → Type 0
         Goal r = Goes (Reply (replies.Refused r)) (Database after) (set table h Gone) opened
@@ -99,7 +97,7 @@ module _ {X C B S M K V D : Type 0} (members : stores.Ghosts C) (means : meaning
             (λ not apart. (ap refuses (sym told ∙ ap refusal_of is), Holds-used members means x after table opened h s keeps k))
         by r told (inr other) =
             let can : readable root (commitment root list) above chain.base ≡ true = why.order other (λ is. none_some (ap refusal_of is) told) in
-            subst (Chosen (Goal r) answer slot) (sym can) (λ apart. absurd (none_some (why.refused other told_all (known apart can)) told))
+            subst (Chosen (Goal r) answer slot) (sym can) (λ apart. absurd (none_some (why.refused other (known apart can)) told))
 
   pub stage_ok : (x after : X) (table : List (Slot B S M)) (opened h : ℕ) (keys : List Bytes) (batch : B) (made : S) (r : reply.Reply K V D) (values : List (Option Bytes)) (s : State)
       → Holds members means (Database x) table opened s → Keeps members means x after → answer_view key value digest r ≡ lines.Read values
@@ -115,13 +113,13 @@ module _ {X C B S M K V D : Type 0} (members : stores.Ghosts C) (means : meaning
 
   pub stage_err : (x after : X) (table : List (Slot B S M)) (opened h : ℕ) (keys : List Bytes) (batch : B) (error : Error) (s : State)
       → Holds members means (Database x) table opened s → Keeps members means x after
-      → AtBatch means x batch (λ list chain above ws. IsReadFailure means (TellsFrom members (means.inside x) list) list above chain.base error)
+      → AtBatch means x batch (λ list chain above ws. IsReadFailure means list above chain.base error)
       → writing_of (get_or table h Gone) ≡ Some batch
       → Goes (turn_of_error error) (Database after) (set table h Gone) opened (machine.stage means.scheme s h keys)
   stage_err x after table opened h keys batch error s k keeps why e =
-      with_told_writing members means x table opened h s (λ list. stage_in means.scheme s h keys list) (Goes (turn_of_error error) (Database after) (set table h Gone) opened) k batch e
-      (λ list chain above ws tells named stands in_had among above_among is.
-      staged_err x after table opened h s list chain above k keeps in_had among above_among error (lines.Read (map (read_through chain.base ws) keys)) (machine.staged chain above ws keys) (TellsFrom members (means.inside x) list) tells (why list chain above ws stands is))
+      with_writing members means x table opened h s (λ list. stage_in means.scheme s h keys list) (Goes (turn_of_error error) (Database after) (set table h Gone) opened) k batch e
+      (λ list chain above ws stands in_had among above_among is.
+      staged_err x after table opened h s list chain above k keeps in_had among above_among error (lines.Read (map (read_through chain.base ws) keys)) (machine.staged chain above ws keys) (why list chain above ws stands is))
 
   pub expand_ok : (x after : X) (table : List (Slot B S M)) (opened h : ℕ) (keys : List Bytes) (batch made : S) (r : reply.Reply K V D) (values : List (Option Bytes)) (s : State)
       → Holds members means (Database x) table opened s → Keeps members means x after → answer_view key value digest r ≡ lines.Expanded (means.count batch) (means.count batch + length keys) values
@@ -138,32 +136,31 @@ module _ {X C B S M K V D : Type 0} (members : stores.Ghosts C) (means : meaning
 
   pub expand_err : (x after : X) (table : List (Slot B S M)) (opened h : ℕ) (keys : List Bytes) (batch : S) (error : Error) (s : State)
       → Holds members means (Database x) table opened s → Keeps members means x after
-      → AtStaged means x batch (λ list chain above ws staged. IsReadFailure means (TellsFrom members (means.inside x) list) list above chain.base error)
+      → AtStaged means x batch (λ list chain above ws staged. IsReadFailure means list above chain.base error)
       → staged_of (get_or table h Gone) ≡ Some batch
       → Goes (turn_of_error error) (Database after) (set table h Gone) opened (machine.expand means.scheme s h keys)
   expand_err x after table opened h keys batch error s k keeps why e =
-      with_told_staged members means x table opened h s (λ list. expand_in means.scheme s h keys list) (Goes (turn_of_error error) (Database after) (set table h Gone) opened) k batch e
-      (λ list chain above ws staged tells named stands in_had among above_among is.
-      staged_err x after table opened h s list chain above k keeps in_had among above_among error (lines.Expanded (length staged) (length staged + length keys) (map (read_through chain.base ws) keys)) (machine.staged chain above ws (staged ++ keys)) (TellsFrom members (means.inside x) list) tells (why list chain above ws staged stands is))
+      with_staged members means x table opened h s (λ list. expand_in means.scheme s h keys list) (Goes (turn_of_error error) (Database after) (set table h Gone) opened) k batch e
+      (λ list chain above ws staged stands in_had among above_among is.
+      staged_err x after table opened h s list chain above k keeps in_had among above_among error (lines.Expanded (length staged) (length staged + length keys) (map (read_through chain.base ws) keys)) (machine.staged chain above ws (staged ++ keys)) (why list chain above ws staged stands is))
 
   -- under policies with these rules, with what is given for the keys
   module _ {P : Type 0} (rules : Rules P) (policy : P) (meta : Option Bytes) (given : List slots.Slot) (others : List Write) where
     -- a resolve of a batch whose number is used up
     pub resolve_made : (Q : Answer × State → Type 0) (x after : X) (table : List (Slot B S M)) (opened h : ℕ) (batch : S) (made : Result M Error) (s : State)
-        → Holds members means (Database x) table opened s → IsSteady means.scheme s → Keeps members means x after
+        → Holds members means (Database x) table opened s → Keeps members means x after
         → length given ≡ means.count batch
         → AtStaged means x batch (λ list chain above ws keys. Makes means members x list chain (tip_of means.scheme rules chain (slotted ws keys given others) policy meta) made)
         → staged_of (get_or table h Gone) ≡ Some batch
         → ((list : List Operation) (chain : Chain) (tip : List Operation) → Holds members means (Database after) (set table h Gone) opened (with_slot s h machine.gone) → Contains s.had list → IsAmong s.had chain
         → IsMaking means s.opened list chain tip made → Q (made_into means.scheme s h list chain tip))
         → Q (machine.resolve means.scheme rules s h policy meta given others)
-    resolve_made Q x after table opened h batch made s k sound keeps as_many making e each =
-        with_told_staged members means x table opened h s (λ list. resolve_in means.scheme rules s h policy meta given others list) Q k batch e (λ list chain above ws keys tells named stands in_had among above_among is.
+    resolve_made Q x after table opened h batch made s k keeps as_many making e each =
+        with_staged members means x table opened h s (λ list. resolve_in means.scheme rules s h policy meta given others list) Q k batch e (λ list chain above ws keys stands in_had among above_among is.
         subst (λ t. Q (cond t (merkleize_writes means.scheme rules s h policy meta list chain (slotted ws keys given others)) (refuse s (refusals.SlotCount (length keys) (length given)))))
         (sym (eq-eqb (length keys) (length given) (sym (as_many ∙ means.counted batch chain above ws keys is))))
         (each list chain (tip_of means.scheme rules chain (slotted ws keys given others) policy meta) (Holds-used members means x after table opened h s keeps k) in_had among
-        (making_of members means key value digest x s.opened list chain (tip_of means.scheme rules chain (slotted ws keys given others) policy meta) made (numbered-held members means s.opened x s.had s.database k.database) tells
-        (λ on. sound.floors list chain.base in_had among.base (base-begins list chain on (subst (IsSoundSlot s.had) named (sound.slots h)).1)) (making list chain above ws keys stands is))))
+        (making_of members means key value digest x s.opened list chain (tip_of means.scheme rules chain (slotted ws keys given others) policy meta) made (numbered-held members means s.opened x s.had s.database k.database) (making list chain above ws keys stands is))))
 
     -- one that is refused leaves what the number names
     pub resolve_refused : (x : X) (table : List (Slot B S M)) (opened h n : ℕ) (r : Refused) (s : State) → Holds members means (Database x) table opened s → n ≡ length given

@@ -2,7 +2,6 @@
 use Rattle.std.specs.Prelude.{◌≡◌, ◌≢◌, ◌⊎◌, ◌≤◌, ◌<◌, ◌^◌, ℕ, max, List, [], length, map, drop, true, Option, None, Some, IfSome, IsSome, Result, IfOk, IfErr, OnOk, IsErrOf, if◌then◌else◌, ⊤}
 use Rattle.qm_model.specs.Causes.{IsCause, Rose}
 use Rattle.qm_model.specs.Forms.{spelling}
-use Rattle.qm_model.specs.Live.{floor}
 use Rattle.qm_model.specs.Operations.{Bytes, Operation}
 use Rattle.qm_model.specs.Opening.{found, opening_refusal}
 use Rattle.qm_model.specs.Walk.{Rules}
@@ -20,7 +19,7 @@ use Rattle.qm_base.specs.declared.error.JournalError.TheVariants as journal
 use Rattle.qm_store.specs.declared.Store as store
 use Rattle.qm_store.specs.declared.refusal.Given.TheVariants.{Database, Store}
 use Rattle.qm_store.specs.declared.refusal.Refusal.{Refusal}
-use Rattle.qm_store.specs.Given.{store_given, store_after, Appended, AppendedPart, IsUnchanged, TellsFrom}
+use Rattle.qm_store.specs.Given.{store_given, store_after, Appended, AppendedPart, IsUnchanged}
 use Rattle.qm_store.specs.Refusals.{refusal_of, IsDue}
 use Rattle.qm_offer.specs.declared.meaning.Meaning as meaning
 
@@ -50,10 +49,10 @@ module _ {X C B S M : Type 0} (means : meaning.Ghosts X C B S M) where
   CanRead list chain tip = readable means.scheme.root (commitment means.scheme.root list) chain tip ≡ true
 
   -- A read through a batch of this chain with this tip failed: as stale only if the list is not known, and for want of
-  -- memory at any time; else the batch can be read, and if the store tells all and the list is known it is for no refusal.
-  pub record IsReadFailure (tells : Type 0) (list : List Operation) (chain : Chain) (tip : List Operation) (error : Error) : Type 0 where
+  -- memory at any time; else the batch can be read, and if the list is known it is for no refusal.
+  pub record IsReadFailure (list : List Operation) (chain : Chain) (tip : List Operation) (error : Error) : Type 0 where
     pub stale : error ≡ StaleRead → ¬ IsKnown list chain tip
-    pub refused : error ≢ StaleRead → tells → IsKnown list chain tip → refusal_of error ≡ None
+    pub refused : error ≢ StaleRead → IsKnown list chain tip → refusal_of error ≡ None
     pub order : error ≢ StaleRead → error ≢ Memory → CanRead list chain tip
 
   -- A proof through a batch of this chain with this tip failed, over a store of this start: as stale only if the list is not known,
@@ -81,8 +80,8 @@ module _ {X C B S M : Type 0} (means : meaning.Ghosts X C B S M) where
     pub fit : IfOk result (λ _. Fits list chain)
     pub made : IfOk result (λ b. IsOnChain list chain → (tip_refusal means.scheme.form chain tip ≡ None) × means.is_merkleized b chain tip)
     pub stale : IfErr result (λ e. e ≡ StaleBatch → (n : ℕ) → means.numbered old n → takes means.scheme.grafts n chain.instance ≡ true → ¬ IsOnChain list chain)
-    pub refused : IfErr result (λ e. e ≢ StaleBatch → TellsFrom members (means.inside old) list → IfSome (refusal_of e) (λ r.
-        Takes old chain × Fits list chain × (IsOnChain list chain → floor list ≤ floor chain.base → tip_refusal means.scheme.form chain tip ≡ Some r)))
+    pub refused : IfErr result (λ e. e ≢ StaleBatch → IfSome (refusal_of e) (λ r.
+        Takes old chain × Fits list chain × (IsOnChain list chain → tip_refusal means.scheme.form chain tip ≡ Some r)))
 
   -- What comes of taking a merkleized batch's tip list: the store has got what it lacked of it, or the batch is stale and the database as
   -- it was, or memory or the store failed, and a first part of that may be there.

@@ -5,7 +5,7 @@ ghost use Rattle.qm_model.specs.Live.{live_keys};
 ghost use Rattle.qm_model.specs.Batches.{IsKnown};
 ghost use Rattle.qm_machine.specs.Machine as machine;
 ghost use Rattle.qm_lines.specs.Views.{answer_view};
-ghost use Rattle.qm_store.specs.Given.{store_given, IsUnchanged, TellsFrom};
+ghost use Rattle.qm_store.specs.Given.{store_given, IsUnchanged};
 ghost use Rattle.qm_engine.specs.Ordered.{key_beside, answer_to};
 ghost use Rattle.qm_engine.specs.Session.{Obeys, IfReply, TurnReads, Uses};
 ghost use Rattle.qm_offer.specs.Words.{AtTip, CanRead, IsReadFailure, ReadsOnly};
@@ -48,7 +48,7 @@ fn reply_to<X: Neighbours<C>, C: Store>(
     question: Question<'_, X::Key>,
 ) -> Turn<X::Key, X::Value, X::Digest>
     ensures reply { IfReply result (λ r. X.scheme.form.ordered ≡ true → (list : List Operation)
-        → X.stands database.old list → TellsFrom C.Store (X.inside database.old) list
+        → X.stands database.old list
         → answer_view X.Key.bytes X.Value.bytes X.Digest.bytes r
         ≡ answer_to X.Key.bytes question.entry list) }
     ensures reads { TurnReads C.Store X.Meaning database.old database.new result }
@@ -121,7 +121,7 @@ fn neighbour_from<X: Neighbours<C>, C: Store>(
         → option_map X.Key.bytes k ≡ key_beside side (X.Key.bytes key.now) (live_keys tip))) }
     ensures failure { IfErr result (λ e.
         AtTip X.Meaning database.old batch.now (λ list chain tip. IsReadFailure X.Meaning
-        (TellsFrom C.Store (X.inside database.old) list) list chain tip e)) }
+        list chain tip e)) }
     ensures reads { ReadsOnly X.Meaning C.Store database.old database.new result }
 {
     match side {

@@ -4,7 +4,7 @@ ghost use Rattle.qm_model.specs.Operations.{Operation};
 ghost use Rattle.qm_machine.specs.Lines.{Question};
 ghost use Rattle.qm_machine.specs.Machine.{State};
 ghost use Rattle.qm_machine.specs.Machine as machine;
-ghost use Rattle.qm_store.specs.Given.{store_given, IsUnchanged, TellsFrom};
+ghost use Rattle.qm_store.specs.Given.{store_given, IsUnchanged};
 ghost use Rattle.qm_engine.specs.Session.{SlotIs, Answers, Obeys, Tells, Uses};
 
 use crate::session::{SessionOf, Turn, no_database, no_such_handle, turn_of};
@@ -24,7 +24,7 @@ fn read_slot<X: Reading<C>, C: Store>(
     keys: &[X::Key],
 ) -> Turn<X::Key, X::Value, X::Digest>
     ensures machine { (s : State) (list : List Operation) (named : machine.Slot)
-        → TellsFrom C.Store (X.inside database.old) list → X.stands database.old list
+        → X.stands database.old list
         → Contains s.had list → SlotIs C.Store X.Meaning s.had slot.now named
         → Answers C.Store X.Meaning X.Key.bytes X.Value.bytes X.Digest.bytes result s
         (machine.read_in X.scheme s number (map X.Key.bytes keys.now) list named) }

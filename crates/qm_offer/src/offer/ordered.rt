@@ -7,7 +7,6 @@ ghost use Rattle.qm_model.specs.Ranges.{key_above, key_below, span_of, keys_in, 
 ghost use Rattle.qm_model.specs.Batches.{IsKnown};
 ghost use Rattle.qm_base.specs.Views.{limit_of, pair_view};
 ghost use Rattle.qm_base.specs.Listed.{span_view, whole_view};
-ghost use Rattle.qm_store.specs.Given.{TellsFrom};
 ghost use Rattle.qm_store.specs.Refusals.{refusal_of};
 ghost use Rattle.qm_offer.specs.Words.{AtTip, CanRead, IsReadFailure, ReadsOnly};
 
@@ -27,7 +26,6 @@ pub trait Neighbours<C: Store>: Common<C> {
         ensures reads { ReadsOnly Self.Meaning C.Store self.old self.new result }
         ensures never { IfErr result (λ e. e ≢ Error.StaleBatch) }
         ensures refused { IfErr result (λ e. (list : List Operation) → Self.stands self.old list
-            → TellsFrom C.Store (Self.inside self.old) list
             → refusal_of e ≡ None) };
 
     /// In an ordered database reads the nearest live key below this one.
@@ -38,7 +36,6 @@ pub trait Neighbours<C: Store>: Common<C> {
         ensures reads { ReadsOnly Self.Meaning C.Store self.old self.new result }
         ensures never { IfErr result (λ e. e ≢ Error.StaleBatch) }
         ensures refused { IfErr result (λ e. (list : List Operation) → Self.stands self.old list
-            → TellsFrom C.Store (Self.inside self.old) list
             → refusal_of e ≡ None) };
 
     /// In an ordered database reads the nearest live key above this one through a merkleized batch, on the list that it makes.
@@ -56,8 +53,7 @@ pub trait Neighbours<C: Store>: Common<C> {
             → AtTip Self.Meaning self.old batch.now (λ list chain tip. IsKnown list chain tip
             → option_map Self.Key.bytes k ≡ key_above (live_keys tip) (Self.Key.bytes key.now))) }
         ensures failure { IfErr result (λ e.
-            AtTip Self.Meaning self.old batch.now (λ list chain tip. IsReadFailure Self.Meaning
-            (TellsFrom C.Store (Self.inside self.old) list) list chain tip e)) }
+            AtTip Self.Meaning self.old batch.now (λ list chain tip. IsReadFailure Self.Meaning list chain tip e)) }
         ensures reads { ReadsOnly Self.Meaning C.Store self.old self.new result }
         ensures never { IfErr result (λ e. e ≢ Error.StaleBatch) };
 
@@ -76,8 +72,7 @@ pub trait Neighbours<C: Store>: Common<C> {
             → AtTip Self.Meaning self.old batch.now (λ list chain tip. IsKnown list chain tip
             → option_map Self.Key.bytes k ≡ key_below (live_keys tip) (Self.Key.bytes key.now))) }
         ensures failure { IfErr result (λ e.
-            AtTip Self.Meaning self.old batch.now (λ list chain tip. IsReadFailure Self.Meaning
-            (TellsFrom C.Store (Self.inside self.old) list) list chain tip e)) }
+            AtTip Self.Meaning self.old batch.now (λ list chain tip. IsReadFailure Self.Meaning list chain tip e)) }
         ensures reads { ReadsOnly Self.Meaning C.Store self.old self.new result }
         ensures never { IfErr result (λ e. e ≢ Error.StaleBatch) };
 
@@ -94,7 +89,6 @@ pub trait Neighbours<C: Store>: Common<C> {
         ensures reads { ReadsOnly Self.Meaning C.Store self.old self.new result }
         ensures never { IfErr result (λ e. e ≢ Error.StaleBatch) }
         ensures refused { IfErr result (λ e. (list : List Operation) → Self.stands self.old list
-            → TellsFrom C.Store (Self.inside self.old) list
             → refusal_of e ≡ None) };
 
     /// In an ordered database reads the value of a key, and the next key.
@@ -110,7 +104,6 @@ pub trait Neighbours<C: Store>: Common<C> {
         ensures reads { ReadsOnly Self.Meaning C.Store self.old self.new result }
         ensures never { IfErr result (λ e. e ≢ Error.StaleBatch) }
         ensures refused { IfErr result (λ e. (list : List Operation) → Self.stands self.old list
-            → TellsFrom C.Store (Self.inside self.old) list
             → refusal_of e ≡ None) };
 
     /// In an ordered database reads the live keys of a range with their values, by key.
@@ -127,7 +120,6 @@ pub trait Neighbours<C: Store>: Common<C> {
         ensures reads { ReadsOnly Self.Meaning C.Store self.old self.new result }
         ensures never { IfErr result (λ e. e ≢ Error.StaleBatch) }
         ensures refused { IfErr result (λ e. (list : List Operation) → Self.stands self.old list
-            → TellsFrom C.Store (Self.inside self.old) list
             → refusal_of e ≡ None) };
 
     /// In an ordered database reads the live keys of a range, by key.
@@ -144,6 +136,5 @@ pub trait Neighbours<C: Store>: Common<C> {
         ensures reads { ReadsOnly Self.Meaning C.Store self.old self.new result }
         ensures never { IfErr result (λ e. e ≢ Error.StaleBatch) }
         ensures refused { IfErr result (λ e. (list : List Operation) → Self.stands self.old list
-            → TellsFrom C.Store (Self.inside self.old) list
             → refusal_of e ≡ None) };
 }

@@ -6,7 +6,6 @@ ghost use Rattle.qm_model.specs.Live.{value_of, last_metadata};
 ghost use Rattle.qm_model.specs.Writes.{read_through};
 ghost use Rattle.qm_model.specs.Batches.{Chain, IsKnown, own_operations};
 ghost use Rattle.qm_base.specs.Listed.{listed_view};
-ghost use Rattle.qm_store.specs.Given.{TellsFrom};
 ghost use Rattle.qm_store.specs.Refusals.{refusal_of};
 ghost use Rattle.qm_offer.specs.Roots.{AreRoots};
 ghost use Rattle.qm_offer.specs.Words.{AtBatch, AtTip, CanRead, IsReadFailure, ReadsOnly};
@@ -42,7 +41,6 @@ pub trait Reading<C: Store>: Common<C> {
         ensures reads { ReadsOnly Self.Meaning C.Store self.old self.new result }
         ensures never { IfErr result (λ e. e ≢ Error.StaleBatch) }
         ensures refused { IfErr result (λ e. (list : List Operation) → Self.stands self.old list
-            → TellsFrom C.Store (Self.inside self.old) list
             → refusal_of e ≡ None) };
 
     /// Reads the values of keys through a batch: its own writes, then its base list. It is refused if the database is at no
@@ -60,8 +58,7 @@ pub trait Reading<C: Store>: Common<C> {
             → map (option_map Self.Value.bytes) v.items
             ≡ map (λ k. read_through chain.base ws (Self.Key.bytes k)) keys.now)) }
         ensures failure { IfErr result (λ e.
-            AtBatch Self.Meaning self.old batch.now (λ list chain above ws. IsReadFailure
-            Self.Meaning (TellsFrom C.Store (Self.inside self.old) list) list above chain.base e)) }
+            AtBatch Self.Meaning self.old batch.now (λ list chain above ws. IsReadFailure Self.Meaning list above chain.base e)) }
         ensures reads { ReadsOnly Self.Meaning C.Store self.old self.new result }
         ensures never { IfErr result (λ e. e ≢ Error.StaleBatch) };
 
@@ -80,8 +77,7 @@ pub trait Reading<C: Store>: Common<C> {
             → map (option_map Self.Value.bytes) v.items
             ≡ map (λ k. value_of tip (Self.Key.bytes k)) keys.now)) }
         ensures failure { IfErr result (λ e.
-            AtTip Self.Meaning self.old batch.now (λ list chain tip. IsReadFailure Self.Meaning
-            (TellsFrom C.Store (Self.inside self.old) list) list chain tip e)) }
+            AtTip Self.Meaning self.old batch.now (λ list chain tip. IsReadFailure Self.Meaning list chain tip e)) }
         ensures reads { ReadsOnly Self.Meaning C.Store self.old self.new result }
         ensures never { IfErr result (λ e. e ≢ Error.StaleBatch) };
 

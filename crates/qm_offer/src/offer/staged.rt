@@ -5,7 +5,6 @@ ghost use Rattle.qm_model.specs.Writes.{read_through};
 ghost use Rattle.qm_model.specs.Batches.{IsKnown};
 ghost use Rattle.qm_model.specs.Slots.{slotted};
 ghost use Rattle.qm_base.specs.Slots.{slot_views, write_views};
-ghost use Rattle.qm_store.specs.Given.{TellsFrom};
 ghost use Rattle.qm_offer.specs.Words.{AtBatch, AtStaged, CanRead, IsReadFailure, Makes, ReadsOnly, tip_of};
 
 use crate::offer::Common;
@@ -33,8 +32,7 @@ pub trait Staging<C: Store>: Common<C> {
             ≡ map (λ k. read_through chain.base ws (Self.Key.bytes k)) keys.now)
             × Self.is_staged r.1 chain above ws (map Self.Key.bytes keys.now))) }
         ensures failure { IfErr result (λ e.
-            AtBatch Self.Meaning self.old batch (λ list chain above ws. IsReadFailure Self.Meaning
-            (TellsFrom C.Store (Self.inside self.old) list) list above chain.base e)) }
+            AtBatch Self.Meaning self.old batch (λ list chain above ws. IsReadFailure Self.Meaning list above chain.base e)) }
         ensures reads { ReadsOnly Self.Meaning C.Store self.old self.new result }
         ensures never { IfErr result (λ e. e ≢ Error.StaleBatch) };
 
@@ -55,8 +53,7 @@ pub trait Staging<C: Store>: Common<C> {
             ≡ map (λ k. read_through chain.base ws (Self.Key.bytes k)) keys.now)
             × Self.is_staged r.2 chain above ws (staged ++ map Self.Key.bytes keys.now))) }
         ensures failure { IfErr result (λ e.
-            AtStaged Self.Meaning self.old batch (λ list chain above ws staged. IsReadFailure
-            Self.Meaning (TellsFrom C.Store (Self.inside self.old) list) list above chain.base e)) }
+            AtStaged Self.Meaning self.old batch (λ list chain above ws staged. IsReadFailure Self.Meaning list above chain.base e)) }
         ensures reads { ReadsOnly Self.Meaning C.Store self.old self.new result }
         ensures never { IfErr result (λ e. e ≢ Error.StaleBatch) };
 

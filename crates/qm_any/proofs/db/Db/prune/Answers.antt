@@ -1,4 +1,4 @@
-use Rattle.std.proofs.Common.{◌≡◌, arith, ap, ◌⊎◌, inl, length, subst, sym}
+use Rattle.std.proofs.Common.{◌≡◌, arith, ap, ◌⊎◌, inl, length, subst}
 use Rattle.std.proofs.lemmas.Result.{IfOk-from_err, err_from_is_err_and}
 use Rattle.qm_open.proofs.Checking.{on-ok}
 use Rattle.qm_model.proofs.Results.{ok-then, err-then}

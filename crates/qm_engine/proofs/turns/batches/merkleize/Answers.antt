@@ -12,7 +12,7 @@ returns g c =
     record {
       machine = λ s k sound more rest told choices.
           merkleize_made g.C.Store g.X.Meaning g.X.Key.ByteString.bytes g.X.Value.ByteString.bytes g.X.Digest.Digest.bytes g.P.Policy.rules (Follows g.C.Store g.X.Meaning g.X.Key.ByteString.bytes g.X.Value.ByteString.bytes g.X.Digest.Digest.bytes c.put_made.new.session c.put_made.result)
-          c.in-Database.x c.merkleize_batch-made.new.database c.args.session.now.table.items c.args.session.now.opened c.args.number c.args.policy.now (option_map g.X.Value.ByteString.bytes c.args.metadata.now) c.in-Some.batch c.merkleize_batch-made.result s (held-at g.C.Store g.X.Meaning g.X.Key.ByteString.bytes g.X.Value.ByteString.bytes g.X.Digest.Digest.bytes c.args.session.now c.in-Database.is s k) sound
+          c.in-Database.x c.merkleize_batch-made.new.database c.args.session.now.table.items c.args.session.now.opened c.args.number c.args.policy.now (option_map g.X.Value.ByteString.bytes c.args.metadata.now) c.in-Some.batch c.merkleize_batch-made.result s (held-at g.C.Store g.X.Meaning g.X.Key.ByteString.bytes g.X.Value.ByteString.bytes g.X.Digest.Digest.bytes c.args.session.now c.in-Database.is s k)
           (reads.same, reads.store, reads.numbered)
           c.merkleize_batch-made.ensures.made
           (sym c.in-Some.ensures.value)

@@ -37,7 +37,7 @@ returns-in-Some-slot_at g c = record {
       let held = rw c.in-Database.is at k in
       rw c.in-Some.is (named_read g.C.Store g.X.Meaning g.X.Key.ByteString.bytes g.X.Value.ByteString.bytes g.X.Digest.Digest.bytes c.read_slot.result c.in-Database.x c.read_slot.new.database c.args.session.now.table.items c.args.session.now.opened c.in-Some.number (map g.X.Key.ByteString.bytes c.args.keys.now) s held
       (c.read_slot.ensures.same, c.read_slot.ensures.store, c.read_slot.ensures.numbered)
-      (λ list named tells stands in_had is. c.read_slot.ensures.machine s list named tells stands in_had
+      (λ list named stands in_had is. c.read_slot.ensures.machine s list named stands in_had
       (subst (λ a. SlotIs g.C.Store g.X.Meaning s.had a named) (sym c.in-Some-slot_at.ensures) is)));
   store = unchanged-at g.C.Store g.X.Meaning.inside c.in-Database.is c.read_slot.ensures.store;
   uses = uses-at g.C.Store g.X.Meaning.inside c.in-Database.is c.read_slot.ensures.uses;

@@ -26,7 +26,7 @@ returns-in-Ok g c =
       machine = λ s k sound more rest told choices.
           resolve_made g.C.Store g.X.Meaning g.X.Key.ByteString.bytes g.X.Value.ByteString.bytes g.X.Digest.Digest.bytes g.P.Policy.rules c.args.policy.now (option_map g.X.Value.ByteString.bytes c.args.metadata.now) (slot_views g.X.Value.ByteString.bytes c.args.resolution.now.slots.items) (write_views g.X.Key.ByteString.bytes g.X.Value.ByteString.bytes c.args.resolution.now.others.items)
           (Follows g.C.Store g.X.Meaning g.X.Key.ByteString.bytes g.X.Value.ByteString.bytes g.X.Digest.Digest.bytes c.put_made.new.session c.put_made.result)
-          c.in-Database.x c.resolve_batch-made.new.database c.args.session.now.table.items c.args.session.now.opened c.args.number c.in-Ok.batch c.resolve_batch-made.result s (held-at g.C.Store g.X.Meaning g.X.Key.ByteString.bytes g.X.Value.ByteString.bytes g.X.Digest.Digest.bytes c.args.session.now c.in-Database.is s k) sound
+          c.in-Database.x c.resolve_batch-made.new.database c.args.session.now.table.items c.args.session.now.opened c.args.number c.in-Ok.batch c.resolve_batch-made.result s (held-at g.C.Store g.X.Meaning g.X.Key.ByteString.bytes g.X.Value.ByteString.bytes g.X.Digest.Digest.bytes c.args.session.now c.in-Database.is s k)
           (reads.same, reads.store, reads.numbered)
           (length-map c.args.resolution.now.slots.items (slot_view g.X.Value.ByteString.bytes) ∙ sym (c.len.ensures ∙ c.args.resolution.now.slots.ok.0) ∙ taken.1)
           c.resolve_batch-made.ensures.made

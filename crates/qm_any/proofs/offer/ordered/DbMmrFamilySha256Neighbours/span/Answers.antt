@@ -40,5 +40,5 @@ returns-in-Err g c = record {
     faults = record { later = (c.get_span.ensures.reads.left).read.keeps.later; failed = λ fault. log-rose g.C.Store c.args.self.now.log c.get_span.new.self.log c.in-Err.error c.in-Err.ensures.reads.error (cc fault) };
   };
   never = log-kept g.C.Store c.args.self.now.log c.get_span.new.self.log c.in-Err.error c.in-Err.ensures.reads.error;
-  refused = λ list is tells. log-untold g.C.Store c.args.self.now.log c.get_span.new.self.log c.in-Err.error (c.in-Err.ensures.reads.whole list is) c.in-Err.ensures.reads.error;
+  refused = λ list is. log-untold g.C.Store c.args.self.now.log c.get_span.new.self.log c.in-Err.error (c.in-Err.ensures.reads.whole list is) c.in-Err.ensures.reads.error;
 }

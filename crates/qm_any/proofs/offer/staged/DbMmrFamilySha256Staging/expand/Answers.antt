@@ -16,7 +16,7 @@ returns-in-Err g c = record {
   readable = tt;
   range = tt;
   values = tt;
-  failure = λ list chain above ws keys is batch. memory-failure _ _ _ _ _;
+  failure = λ list chain above ws keys is batch. memory-failure _ _ _ _;
   reads = unread-memory _ g.C.Store c.args.self.now (Err Memory) Memory refl refl;
   never = memory-not_stale;
 }

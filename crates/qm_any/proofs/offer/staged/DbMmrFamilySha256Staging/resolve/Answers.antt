@@ -22,7 +22,7 @@ returns-in_err-metadata g c =
         fit = IfOk-from_err c.from_residual.result _ c.from_residual.ensures.0;
         made = IfOk-from_err c.from_residual.result _ c.from_residual.ensures.0;
         stale = err-memory c.from_residual.result exit.0 _ exit.1 exit.2 (λ stale. absurd (memory-not_stale stale));
-        refused = err-memory c.from_residual.result exit.0 _ exit.1 exit.2 (λ fresh tells. tt);
+        refused = err-memory c.from_residual.result exit.0 _ exit.1 exit.2 (λ fresh. tt);
       };
       reads = unread-memory _ g.C.Store c.args.self.now c.from_residual.result exit.0 exit.1 exit.2;
     }

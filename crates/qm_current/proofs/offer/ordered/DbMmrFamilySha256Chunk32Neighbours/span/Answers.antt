@@ -49,5 +49,5 @@ returns-in-Err g c =
         faults = record { later = c.get_span.ensures.reads.left.read.keeps.later; failed = λ fault. log-rose g.C.Store old new c.in-Err.error c.in-Err.ensures.reads.error (cc fault) };
       };
       never = log-kept g.C.Store old new c.in-Err.error c.in-Err.ensures.reads.error;
-      refused = λ list is tells. log-untold g.C.Store old new c.in-Err.error (c.in-Err.ensures.reads.whole list is.at.any) c.in-Err.ensures.reads.error;
+      refused = λ list is. log-untold g.C.Store old new c.in-Err.error (c.in-Err.ensures.reads.whole list is.at.any) c.in-Err.ensures.reads.error;
     }

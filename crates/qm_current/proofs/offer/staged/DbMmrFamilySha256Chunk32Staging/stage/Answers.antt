@@ -18,7 +18,7 @@ pub returns-in-Err : goal.returns-in-Err
 returns-in-Err g c = record {
   readable = tt;
   values = tt;
-  failure = λ list chain above ws is batch. memory-failure _ _ _ _ _;
+  failure = λ list chain above ws is batch. memory-failure _ _ _ _;
   reads = unread-memory _ g.C.Store c.args.self.now (Err Memory) Memory refl refl;
   never = memory-not_stale;
 }
