@@ -1,7 +1,6 @@
 -- What a call that takes the database by value leaves, and what it does to the store.
-use Rattle.std.specs.Prelude.{◌≡◌, ◌≤◌, List, IsSome, Result, Ok, Err}
-use Rattle.qm_model.specs.Live.{floor}
-use Rattle.qm_model.specs.Operations.{Bytes, Operation}
+use Rattle.std.specs.Prelude.{◌≡◌, List, Result, Ok, Err}
+use Rattle.qm_model.specs.Operations.{Bytes}
 use Rattle.qm_model.specs.StoreModel.{appended, Becomes, Grows}
 use Rattle.qm_store.specs.declared.Store as store
 use Rattle.qm_store.specs.declared.refusal.Given.{Given}
@@ -27,10 +26,6 @@ pub record Appended {C : Type 0} (members : store.Ghosts C) (old new : C) (more 
 pub record AppendedPart {C : Type 0} (members : store.Ghosts C) (old new : C) (more : List Bytes) : Type 0 where
   pub start : members.start new ≡ members.start old
   pub told : Grows (members.told old) (members.told new) more
-
--- a store starts at a list's floor or before, and tells its items
-abbrev pub TellsFrom : {C : Type 0} → store.Ghosts C → C → List Operation → Type 0
-TellsFrom members c list = (members.start c ≤ floor list) × IsSome (members.told c)
 
 -- a store has what it had
 pub record IsUnchanged {C : Type 0} (members : store.Ghosts C) (old new : C) : Type 0 where
