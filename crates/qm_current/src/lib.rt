@@ -6,6 +6,7 @@ mod boundary;
 mod config;
 pub mod db;
 mod durable;
+pub mod laws;
 mod made;
 mod nodes;
 mod offer;
