@@ -299,11 +299,15 @@ module _ {X C B S M K V D : Type 0} (members : stores.Ghosts C) (means : meaning
       (get_or table h Gone) (slot_at s.table h) (k.slots h) e)))
       (λ r other told. absurd (none_some (none other) told))
 
+  -- a first part of these was appended to a database's store, and no more is stable if there are none
+  abbrev GrownPart : X → Option Stored → List Bytes → Type 0
+  GrownPart x left more = model.Grows (members.told (means.inside x)) left more × (more ≡ [] → model.Turns (members.told (means.inside x)) left (λ s t. t.stable ≡ s.stable))
+
   -- what an apply leaves in the store
   left_in : (peakless : IsBare means.scheme) (x : X) (left : Option Stored) (table : List (Slot B S M)) (opened : ℕ) (h : ℕ) (batch : M) (s : State) (list : List Operation)
       → Holds members means (Database x) table opened s → Counts means.scheme s.log → Contains s.had list → s.log.list ≡ list → Apart root s.had
       → ((chain : Chain) (tip : List Operation) → means.is_merkleized batch chain tip → (fits root (commitment root list) chain ≡ true → IsOnChain list chain)
-      → model.Grows (members.told (means.inside x)) left (cond (fits root (commitment root list) chain) (map (spelling means.scheme.form) (drop (length list) tip)) []))
+      → GrownPart x left (cond (fits root (commitment root list) chain) (map (spelling means.scheme.form) (drop (length list) tip)) []))
       → (a : Slot B S M) (b : machine.Slot) → SlotIs members means s.had a b → merkleized_of a ≡ Some batch
       → IsLeft means.scheme left s.log ((apply_in means.scheme s h list b).1).log
   left_in peakless x left table opened h batch s list k counts in_had log_is apart grown (Merkleized w) (machine.merkleized chain tip) is e =
@@ -311,17 +315,17 @@ module _ {X C B S M K V D : Type 0} (members : stores.Ghosts C) (means : meaning
       let batch_is : means.is_merkleized batch chain tip = subst (λ v. means.is_merkleized v chain tip) same is.0 in
       by_fit (fits root (commitment root list) chain) (grown chain tip batch_is (λ fit. on_chain-fits root s.had list chain apart in_had is.1 fit))
     where
-      by_fit : (t : Bool) → model.Grows (members.told (means.inside x)) left (cond t (map (spelling means.scheme.form) (drop (length list) tip)) [])
+      by_fit : (t : Bool) → GrownPart x left (cond t (map (spelling means.scheme.form) (drop (length list) tip)) [])
           → IsLeft means.scheme left s.log ((cond t (lines.Applied (length tip), record s { database = Some tip; log = record s.log { list = tip } }) (refuse s refusals.StaleBatch)).1).log
-      by_fit true part = left_appended means.scheme peakless (members.told (means.inside x)) left s.log (record s.log { list = tip }) (drop (length list) tip) counts k.store.told k.start k.within (ap (λ xs. drop (length xs) tip) log_is) (leaves-now _ _ _ _ part)
-      by_fit false part = left_appended means.scheme peakless (members.told (means.inside x)) left s.log s.log [] counts k.store.told k.start k.within (drop_all (length s.log.list) s.log.list (le_refl (length s.log.list))) (leaves-now _ _ _ _ part)
+      by_fit true part = left_appended means.scheme peakless (members.told (means.inside x)) left s.log (record s.log { list = tip }) (drop (length list) tip) counts k.store.told k.start k.within (ap (λ xs. drop (length xs) tip) log_is) (leaves-now _ _ _ _ part.0) part.1
+      by_fit false part = left_appended means.scheme peakless (members.told (means.inside x)) left s.log s.log [] counts k.store.told k.start k.within (drop_all (length s.log.list) s.log.list (le_refl (length s.log.list))) (leaves-now _ _ _ _ part.0) part.1
   left_in peakless x left table opened h batch s list k counts in_had log_is apart grown (Merkleized w) b is e = absurd is
   left_in peakless x left table opened h batch s list k counts in_had log_is apart grown a b is e = absurd (cc)
 
   pub apply_left : (peakless : IsBare means.scheme) (x : X) (left : Option Stored) (table : List (Slot B S M)) (opened : ℕ) (h : ℕ) (batch : M) (s : State)
       → Holds members means (Database x) table opened s → IsSteady means.scheme s → Apart root s.had
       → ((list : List Operation) (chain : Chain) (tip : List Operation) → means.stands x list → means.is_merkleized batch chain tip → (fits root (commitment root list) chain ≡ true → IsOnChain list chain)
-      → model.Grows (members.told (means.inside x)) left (cond (fits root (commitment root list) chain) (map (spelling means.scheme.form) (drop (length list) tip)) []))
+      → GrownPart x left (cond (fits root (commitment root list) chain) (map (spelling means.scheme.form) (drop (length list) tip)) []))
       → merkleized_of (get_or table h Gone) ≡ Some batch
       → IsLeft means.scheme left s.log ((machine.apply means.scheme s h).1).log
   apply_left peakless x left table opened h batch s k sound apart grown e =

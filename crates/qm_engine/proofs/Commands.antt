@@ -71,7 +71,7 @@ pub left_none : (m : Scheme) (before after : Log) (left : Option Stored) → Has
 left_none m before after left has = record {
   log = before;
   has = has;
-  may = subst (λ list. MayBe before after (record before { list = list })) (append-nil before.list) (grown 0 before.stable (omega arith));
+  may = subst (λ list. MayBe before after (record before { list = list })) (append-nil before.list) (grown 0 before.stable (omega arith) (λ same. refl));
 }
 
 pub left_none-log : (m : Scheme) (before after : Log) (left : Option Stored) (has : HasLog m left before) → (left_none m before after left has).log ≡ before
@@ -79,11 +79,11 @@ unfolding left_none
 left_none-log m before after left has = refl
 
 -- all of it, of which more is stable
-pub left_stable : (m : Scheme) (left : Option Stored) (before after : Log) (k : ℕ) → before.stable ≤ k → HasLog m left (record before { stable = k }) → IsLeft m left before after
-left_stable m left before after k more has = record {
+pub left_stable : (m : Scheme) (left : Option Stored) (before after : Log) (k : ℕ) → before.stable ≤ k → (after ≡ before → k ≡ before.stable) → HasLog m left (record before { stable = k }) → IsLeft m left before after
+left_stable m left before after k more same has = record {
   log = record before { stable = k };
   has = has;
-  may = subst (λ list. MayBe before after (record before { list = list; stable = k })) (append-nil before.list) (grown 0 k more);
+  may = subst (λ list. MayBe before after (record before { list = list; stable = k })) (append-nil before.list) (grown 0 k more same);
 }
 
 -- the answer that refuses so

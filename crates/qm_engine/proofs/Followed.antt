@@ -190,7 +190,7 @@ module _ (m : Scheme) {P : Type 0} (rules : Rules P) where
 
   -- whatever may be left
   pub may-kept : (before after log : Log) → IsKept (engine_of m rules) before → IsKept (engine_of m rules) after → Followed before after → MayBe before after log → log.stable ≤ length log.list → IsKept (engine_of m rules) log
-  may-kept before after _ kept next followed (grown count stable more) within = grown-kept-part before after count stable kept next followed more within
+  may-kept before after _ kept next followed (grown count stable more same) within = grown-kept-part before after count stable kept next followed more within
   may-kept before after _ kept next followed (cut to stable final long enough) within = cut-kept-part before after to stable kept next followed long enough within
   may-kept before after _ kept next followed (counted more starts) within = record { made = next.made; start = le_trans starts next.start; stable = next.stable; chunks = by (chunks_of m) next.chunks }
     where

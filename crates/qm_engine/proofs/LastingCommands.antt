@@ -166,7 +166,7 @@ module _ {X C B S M K V D : Type 0} (members : stores.Ghosts C) (means : meaning
       where
         by : (settling : Result X (Refusal X C)) → IsSettling means members After Left x settling → (list : List Operation) → s.database ≡ Some list → means.stands x list → IsLeft means.scheme (members.told (store_given means.inside (given_after settling))) s.log (machine.settled s.log)
         by (Ok after) done list is stands =
-            left_stable means.scheme (members.told (means.inside after)) s.log (machine.settled s.log) (length s.log.list) k.within (settled_told after done list is stands)
+            left_stable means.scheme (members.told (means.inside after)) s.log (machine.settled s.log) (length s.log.list) k.within (λ same. ap (λ (l : Log). l.stable) same) (settled_told after done list is stands)
         by (Err r) done list is stands =
             subst (λ given. IsLeft means.scheme (members.told (store_given means.inside given)) s.log (machine.settled s.log)) (sym done.failed.given)
             (failing list is (members.told done.failed.store) (done.failed.left.told list (writes-of means means.scheme.grafts x list stands)))

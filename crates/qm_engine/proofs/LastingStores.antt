@@ -6,7 +6,7 @@ use Rattle.std.specs.List.{concat, drop-map, list_any}
 use Rattle.std.proofs.Math.Seq.{drop-append_seam, take-append_seam}
 use Rattle.std.proofs.lemmas.Bool.{cases_lt, eqb-true, lt-ltb, le-ltb, ltb-false}
 use Rattle.std.proofs.lemmas.Nat.{div-add-mod', mul-le, pow_pos}
-use Rattle.std.proofs.lemmas.List.{length-map, length-drop, map-append, take-map, take-take, take-append-le, drop-append-le, drop-take, drop-drop}
+use Rattle.std.proofs.lemmas.List.{length-map, length-take, length-drop, map-append, take-map, take-take, take-append-le, drop-append-le, drop_all, drop-take, drop-drop}
 use Rattle.qm_model.specs.Operations.{Bytes, Operation, fresh}
 use Rattle.qm_model.specs.Forms.{spelling}
 use Rattle.qm_model.specs.Trees.{peaks}
@@ -47,6 +47,9 @@ pub turned-each : (o new : Option Stored) (R Q : Stored → Stored → Type 0) �
 turned-each None new R Q each is = is
 turned-each (Some s) None R Q each is = absurd is
 turned-each (Some s) (Some t) R Q each is = each s t is
+
+pub between : (o new : Option Stored) (s t : Stored) (R : Stored → Stored → Type 0) → o ≡ Some s → new ≡ Some t → Turns o new R → R s t
+between o new s t R is now made = subst (λ p. Turns (Some s) p R) now (subst (λ p. Turns p new R) is made)
 
 -- What stands beside the items.
 
@@ -383,8 +386,8 @@ module _ (m : Scheme) (bare : IsBare m) where
   -- What is left.
 
   pub left_appended : (told left : Option Stored) (before after : Log) (more : List Operation) → Counts m before → HasLog m told before → before.start ≤ before.stable → before.stable ≤ length before.list → drop (length before.list) after.list ≡ more
-      → Turns told left (HasAppended (map (spelling m.form) more)) → IsLeft m left before after
-  left_appended told left before after more counts has start within grows made =
+      → Turns told left (HasAppended (map (spelling m.form) more)) → (map (spelling m.form) more ≡ [] → Turns told left (λ s t. t.stable ≡ s.stable)) → IsLeft m left before after
+  left_appended told left before after more counts has start within grows made still =
       let t = turned told left has.stored (HasAppended (map (spelling m.form) more)) has.is made in
       let a = t.2 in
       let log = record before { list = before.list ++ take a.count more; stable = t.0.stable } in
@@ -395,13 +398,17 @@ module _ (m : Scheme) (bare : IsBare m) where
         log = log;
         has = record { stored = t.0; is = t.1; has = subst (own.IsStored (engine_of m policies) log) (ap (λ xs. record (appended xs has.stored) { stable = t.0.stable; past = t.0.past }) (sym (take-map (spelling m.form) a.count more)) ∙ sym a.reads) part };
         may = subst (λ xs. MayBe before after (record before { list = before.list ++ take a.count xs; stable = t.0.stable })) grows
-            (grown a.count t.0.stable (let low = a.least_stable in omega (arith, low, has.has.stable)));
+            (grown a.count t.0.stable (let low = a.least_stable in omega (arith, low, has.has.stable))
+            (λ same.
+            let none : more ≡ [] = sym grows ∙ ap (λ (l : Log). drop (length before.list) l.list) same ∙ drop_all (length before.list) before.list (le_refl (length before.list)) in
+            let stays = between told left has.stored t.0 (λ s t. t.stable ≡ s.stable) has.is t.1 (still (ap (map (spelling m.form)) none)) in
+            omega (arith, stays, has.has.stable)));
       }
 
   -- a beginning of the list that has what was stable and stays
-  may_cut : (before after : Log) (to stable : ℕ) → before.stable ≤ length before.list → after.stable ≡ length after.list → least before after ≤ to → least before after ≤ stable
+  may_cut : (before after : Log) (to stable : ℕ) → before.stable ≤ length before.list → after.stable ≡ length after.list → least before after ≤ to → least before after ≤ stable → stable ≤ length before.list
       → MayBe before after (record before { list = take to before.list; stable = stable })
-  may_cut before after to stable within whole low low_stable = by (cases_lt before.stable after.stable) (cases_lt (length after.list) (length before.list))
+  may_cut before after to stable within whole low low_stable high = by (cases_lt before.stable after.stable) (cases_lt (length after.list) (length before.list))
     where
       all : before.stable ≡ length before.list → length after.list ≡ length before.list → before.stable ≤ least before after
       all full same = at (length after.list == 0)
@@ -417,15 +424,16 @@ module _ (m : Scheme) (bare : IsBare m) where
           let full : before.stable ≡ length before.list = omega (arith, within, whole, same, longer) in
           let least_is = all full (omega (arith, within, whole, same, longer)) in
           subst (λ xs. MayBe before after (record before { list = xs; stable = stable })) (append-nil before.list ∙ sym (take_all to before.list (omega (arith, low, least_is, full))))
-          (grown 0 stable (omega (arith, low_stable, least_is)))
+          (grown 0 stable (omega (arith, low_stable, least_is)) (λ same. omega (arith, low_stable, least_is, full, high)))
 
   -- such a one of a store that was cut there
-  left_cut : (left : Option Stored) (before after : Log) (s t : Stored) (to : ℕ) → FrontCounts m before to → own.IsStored (engine_of m policies) before s → before.start ≤ to → before.stable ≤ length before.list → after.stable ≡ length after.list
-      → left ≡ Some t → t ≡ record (left_at to s) { stable = t.stable; past = t.past } → least before after ≤ to → least before after ≤ t.stable → IsLeft m left before after
-  left_cut left before after s t to front has later within whole told same low low_stable = record {
+  left_cut : (left : Option Stored) (before after : Log) (s t : Stored) (to : ℕ) → FrontCounts m before to → own.IsStored (engine_of m policies) before s → before.start ≤ to → before.start ≤ length before.list → before.stable ≤ length before.list → after.stable ≡ length after.list
+      → left ≡ Some t → t ≡ record (left_at to s) { stable = t.stable; past = t.past } → t.stable ≤ end_of t → least before after ≤ to → least before after ≤ t.stable → IsLeft m left before after
+  left_cut left before after s t to front has later inside within whole told same high low low_stable = record {
     log = record before { list = take to before.list; stable = t.stable };
     has = record { stored = t; is = told; has = subst (own.IsStored (engine_of m policies) (record before { list = take to before.list; stable = t.stable })) (sym same) (stored-cut before s has front.low front.counts front.on to t.stable t.past later front.begins) };
-    may = may_cut before after to t.stable within whole low low_stable;
+    may = may_cut before after to t.stable within whole low low_stable
+        (let end = end-whole before s has inside in omega (arith, high, end, ap (λ (x : Stored). x.start) same, ap (λ (x : Stored). length x.items) same, length-take (to - s.start) s.items));
   }
 
   least-stable : (before after : Log) → least before after ≤ before.stable
@@ -445,8 +453,8 @@ module _ (m : Scheme) (bare : IsBare m) where
       let low = i.may.stable in
       let low_stable = r.least_stable in
       let least_is = least-stable before after in
-      left_cut left before after has.stored t.0 i.to (front-stable m before i.to counts (omega (arith, low, has.has.stable))) has.has (omega (arith, start, low, has.has.stable)) within whole t.1 (r.reads ∙ ap (λ (x : Stored). record x { stable = t.0.stable; past = t.0.past }) i.same)
-      (omega (arith, low, least_is, has.has.stable)) (omega (arith, low_stable, least_is, has.has.stable))
+      left_cut left before after has.stored t.0 i.to (front-stable m before i.to counts (omega (arith, low, has.has.stable))) has.has (omega (arith, start, low, has.has.stable)) (omega (arith, start, within)) within whole t.1 (r.reads ∙ ap (λ (x : Stored). record x { stable = t.0.stable; past = t.0.past }) i.same)
+      r.within (omega (arith, low, least_is, has.has.stable)) (omega (arith, low_stable, least_is, has.has.stable))
 
   -- a restart chose an end
   pub left_restarted : (told left : Option Stored) (before after : Log) → Counts m before → HasLog m told before → before.start ≤ before.stable → before.stable ≤ length before.list → after.stable ≡ length after.list
@@ -459,7 +467,8 @@ module _ (m : Scheme) (bare : IsBare m) where
       record {
         log = record before { list = take r.to before.list; stable = r.to };
         has = record { stored = t.0; is = t.1; has = subst (own.IsStored (engine_of m policies) (record before { list = take r.to before.list; stable = r.to })) (sym r.same) (stored-restarted before has.stored has.has before counts (goes-on before) r.to (omega (arith, start, low, has.has.stable)) (settled-within before r.to (omega (arith, low, has.has.stable)))) };
-        may = may_cut before after r.to r.to within whole (omega (arith, low, least_is, has.has.stable)) (omega (arith, low, least_is, has.has.stable));
+        may = may_cut before after r.to r.to within whole (omega (arith, low, least_is, has.has.stable)) (omega (arith, low, least_is, has.has.stable))
+            (let high = r.may.within in let end = end-whole before has.stored has.has (omega (arith, start, within)) in omega (arith, high, end));
       }
 
   -- a destroy failed
@@ -472,8 +481,8 @@ module _ (m : Scheme) (bare : IsBare m) where
           let i = r.left in
           let low = i.may.stable in
           let low_stable = r.least_stable in
-          left_cut left before no_log has.stored t i.to (front-stable m before i.to counts (omega (arith, low, has.has.stable))) has.has (omega (arith, start, low, has.has.stable)) within refl told (r.reads ∙ ap (λ (x : Stored). record x { stable = t.stable; past = t.past }) i.same)
-          (omega (arith, low, has.has.stable)) (omega (arith, low_stable, has.has.stable))
+          left_cut left before no_log has.stored t i.to (front-stable m before i.to counts (omega (arith, low, has.has.stable))) has.has (omega (arith, start, low, has.has.stable)) (omega (arith, start, within)) within refl told (r.reads ∙ ap (λ (x : Stored). record x { stable = t.stable; past = t.past }) i.same)
+          r.within (omega (arith, low, has.has.stable)) (omega (arith, low_stable, has.has.stable))
       by (t, told, inr r) =
           let i = r.left in
           let none : i.to ≡ 0 = let high = i.may.within in omega (arith, high) in
@@ -512,7 +521,7 @@ module _ (m : Scheme) (bare : IsBare m) where
   may-whole : (before after : Log) → before.stable ≤ length before.list → after.stable ≡ length after.list → length before.list ≤ length after.list → MayBe before after (machine.settled before)
   may-whole before after within whole long =
       subst (λ xs. MayBe before after (record before { list = xs; stable = length before.list })) (take_all (length before.list) before.list (le_refl (length before.list)))
-      (may_cut before after (length before.list) (length before.list) within whole (let low = least-stable before after in omega (arith, low, within)) (let low = least-stable before after in omega (arith, low, within)))
+      (may_cut before after (length before.list) (length before.list) within whole (let low = least-stable before after in omega (arith, low, within)) (let low = least-stable before after in omega (arith, low, within)) (le_refl (length before.list)))
 
   pub may-before : (before : Log) (to : ℕ) → before.stable ≤ length before.list → MayBe before (machine.pruned m.grafts to before) (before-start m to before)
   may-before before to within = by (cases_lt before.chunks (chunks_after m.grafts before.chunks to))
@@ -660,18 +669,18 @@ module _ (m : Scheme) (bare : IsBare m) where
   left_taken told left log zero has within none few new = record {
     log = taken_up fresh log;
     has = new;
-    may = subst (λ xs. MayBe (record log { list = xs }) (taken_up fresh log) (taken_up fresh log)) (sym (none refl)) (grown 1 1 (omega (arith, within, ap length (none refl))));
+    may = subst (λ xs. MayBe (record log { list = xs }) (taken_up fresh log) (taken_up fresh log)) (sym (none refl)) (grown 1 1 (omega (arith, within, ap length (none refl))) (λ same. absurd (omega (arith, ap (λ (l : Log). length l.list) same))));
   }
   left_taken told left log (suc j) has within none few new =
       let after = taken_up (take (suc j) log.list) log in
       let size = length-take-le (suc j) log.list few in
       let low = least-within log after (omega (arith, size)) in
-      record { log = after; has = new; may = may_cut log after (suc j) (length (take (suc j) log.list)) within refl (omega (arith, low, size)) low }
+      record { log = after; has = new; may = may_cut log after (suc j) (length (take (suc j) log.list)) within refl (omega (arith, low, size)) low (omega (arith, size, few)) }
 
   pub left_opening : (told left : Option Stored) (log : Log) (n : ℕ) → TakenCounts log n → HasLog m told log → log.start ≤ log.stable → log.stable ≤ length log.list → log.start ≤ n → (n ≡ 0 → log.list ≡ []) → n ≤ length log.list
       → Turns told left (LeavesOpening m n) → IsLeft m left log (taken_up (opened_list n log.list) log)
   left_opening told left log zero counts has start within behind none few made =
-      left_appended told left log (taken_up fresh log) fresh counts.0 has start within (ap (λ xs. drop (length xs) fresh) (none refl)) made
+      left_appended told left log (taken_up fresh log) fresh counts.0 has start within (ap (λ xs. drop (length xs) fresh) (none refl)) made (λ bare. absurd (omega (arith, ap length bare)))
   left_opening told left log (suc j) counts has start within behind none few made =
       let after = taken_up (take (suc j) log.list) log in
       let t = turned told left has.stored (λ s. ReadsAs (min s.stable (suc j)) (RewindLeaves (suc j) s)) has.is made in
@@ -682,5 +691,5 @@ module _ (m : Scheme) (bare : IsBare m) where
       let low_stable = least-stable log after in
       let from = i.may.stable in
       let stays = r.least_stable in
-      left_cut left log after has.stored t.0 i.to (front-opened log j i.to counts (omega (arith, from, has.has.stable))) has.has (omega (arith, start, behind, from, has.has.stable)) within refl t.1 (r.reads ∙ ap (λ (x : Stored). record x { stable = t.0.stable; past = t.0.past }) i.same)
-      (omega (arith, low, low_stable, from, size, has.has.stable)) (omega (arith, low, low_stable, stays, size, has.has.stable))
+      left_cut left log after has.stored t.0 i.to (front-opened log j i.to counts (omega (arith, from, has.has.stable))) has.has (omega (arith, start, behind, from, has.has.stable)) (omega (arith, start, within)) within refl t.1 (r.reads ∙ ap (λ (x : Stored). record x { stable = t.0.stable; past = t.0.past }) i.same)
+      r.within (omega (arith, low, low_stable, from, size, has.has.stable)) (omega (arith, low, low_stable, stays, size, has.has.stable))

@@ -56,7 +56,7 @@ module _ (m : Scheme) {P : Type 0} (rules : Rules P) (before after : Log) (kept 
       by false e (inr (begins, inr starts)) = omega (arith, kept-low m rules before kept, starts, low_after)
 
   may-low : (log : Log) → MayBe before after log → log.start ≤ length log.list
-  may-low log (grown count stable low) = omega (arith, low_before, length-append before.list (take count (drop (length before.list) after.list)))
+  may-low log (grown count stable low same) = omega (arith, low_before, length-append before.list (take count (drop (length before.list) after.list)))
   may-low log (cut to stable final low low_stable) = omega (arith, low_before, above-least, low, length-take to before.list)
   may-low log (counted more starts) = omega (arith, starts, low_after)
   may-low log (moved behind) = low_after

@@ -37,11 +37,11 @@ abbrev pub IsFinal : Log → Log → Type 0
 IsFinal before after = (before.stable < after.stable) ⊎ (length after.list < length before.list)
 
 -- The log before a command, and the one after it; what may be left of it: the list before, with a first part of what the
--- command appends to it; if the command makes more stable or the list shorter, a beginning of the list that has what was
+-- command appends to it, and no more of it stable if the command leaves the log as it is; if the command makes more stable or the list shorter, a beginning of the list that has what was
 -- stable before and stays; the log after it, if the command takes away what stands before a location, or that from where the store
 -- started, if the command counts more pruned chunks; and nothing, if the command leaves nothing.
 pub data MayBe (before after : Log) : Log → Type 0 where
-  grown : (count stable : ℕ) → before.stable ≤ stable → MayBe before after (record before { list = before.list ++ take count (drop (length before.list) after.list); stable = stable })
+  grown : (count stable : ℕ) → before.stable ≤ stable → (after ≡ before → stable ≡ before.stable) → MayBe before after (record before { list = before.list ++ take count (drop (length before.list) after.list); stable = stable })
   cut : (to stable : ℕ) → IsFinal before after → least before after ≤ to → least before after ≤ stable → MayBe before after (record before { list = take to before.list; stable = stable })
   counted : before.chunks < after.chunks → before.start ≤ after.start → MayBe before after (record after { start = before.start })
   moved : before.start < after.start → MayBe before after after

@@ -112,6 +112,11 @@ pub ok-both : {T E P Q R : Type 0} (done : Result T E) → OnOk done P → OnOk 
 ok-both (Ok x) p q give = give p q
 ok-both (Err e) p q give = tt
 
+-- what follows if it did not
+pub err-both : {T E P Q R : Type 0} (done : Result T E) → OnErr done P → OnErr done Q → (P → Q → R) → OnErr done R
+err-both (Ok x) p q give = tt
+err-both (Err e) p q give = give p q
+
 -- what holds of a log over a store that was called, if the call came off
 pub after-ok : {C D E G : Type 0} (done : Result ⊤ E) (made : Result (Log C D) G) (new : C) (tree : Kept D) (P : Log C D → Type 0) →
     IfOk made (λ log. (done ≡ Ok tt) × (log.store ≡ new) × (log.tree ≡ tree)) → OnOk done (P (record { store = new; tree = tree })) → IfOk made P

@@ -2,7 +2,7 @@
 use Rattle.std.proofs.Common.{◌≡◌, ◌≤◌, List, [], ◌∷◌, ◌++◌, take, length, ap, sym, subst, append-nil, length-append, arith, refl, Option, Some, None}
 use Rattle.std.proofs.Math.Seq.{take-length}
 use Rattle.qm_model.specs.Operations.{Bytes}
-use Rattle.qm_model.specs.StoreModel.{Stored, end_of, rest_of, found_by, appended, IsImage, HasAppended, Becomes, Fails, Grows, without_items, except_items}
+use Rattle.qm_model.specs.StoreModel.{Stored, end_of, rest_of, found_by, appended, IsImage, HasAppended, Turns, Becomes, Fails, Grows, without_items, except_items}
 use Rattle.qm_model.proofs.Stores.{fails-unmoved, found-image, image-grown}
 use Rattle.qm_base.specs.declared.error.Error.{Error}
 use Rattle.qm_store.specs.declared.Store as store
@@ -38,6 +38,16 @@ part-whole (Some s) (Some t) more made = subst (λ u. Fails (HasAppended more) (
   each = λ image may. image-grown more s (record image { ends = s.ends }) (found-image s image may);
 })
 
+-- as much is stable as before of what has grown, and of what is as it was
+still-grown : (old new : Option Stored) (more : List Bytes) → Becomes old new (appended more) → Turns old new (λ s t. t.stable ≡ s.stable)
+still-grown None new more made = made
+still-grown (Some s) None more made = absurd made
+still-grown (Some s) (Some t) more made = ap (λ (x : Stored). x.stable) made
+
+still-self : (o : Option Stored) → Turns o o (λ s t. t.stable ≡ s.stable)
+still-self None = refl
+still-self (Some s) = refl
+
 -- what is told has grown by none of these
 part-none : (o : Option Stored) (more : List Bytes) → Grows o o more
 part-none None more = refl
@@ -49,11 +59,11 @@ module _ {C : Type 0} (members : store.Ghosts C) (old new : C) where
   grown-appended more is = record { start = is.start; told = is.told }
 
   pub grown-appended-part : (more : List Bytes) → HasGrownPart members old new more → AppendedPart members old new more
-  grown-appended-part more is = record { start = is.start; told = is.told }
+  grown-appended-part more is = record { start = is.start; told = is.told; still = is.still }
 
   -- what has grown has grown by a first part
   pub appended-part : (more : List Bytes) → Appended members old new more → AppendedPart members old new more
-  appended-part more is = record { start = is.start; told = part-whole (members.told old) (members.told new) more is.told }
+  appended-part more is = record { start = is.start; told = part-whole (members.told old) (members.told new) more is.told; still = λ none. still-grown (members.told old) (members.told new) more is.told }
 
   -- a store that is kept is unchanged
   pub kept-unchanged : IsKept members old new → IsUnchanged members old new
@@ -61,7 +71,7 @@ module _ {C : Type 0} (members : store.Ghosts C) (old new : C) where
 
   -- and one that is unchanged has grown by a first part of any items: none of them
   pub unchanged-appended-part : (more : List Bytes) → IsUnchanged members old new → AppendedPart members old new more
-  unchanged-appended-part more is = record { start = is.start; told = subst (λ o. Grows (members.told old) o more) (sym is.told) (part-none (members.told old) more) }
+  unchanged-appended-part more is = record { start = is.start; told = subst (λ o. Grows (members.told old) o more) (sym is.told) (part-none (members.told old) more); still = λ none. subst (λ o. Turns (members.told old) o (λ s t. t.stable ≡ s.stable)) (sym is.told) (still-self (members.told old)) }
 
   -- what a store tells beside its items stays if these grow
   pub appended-beside : (more : List Bytes) → Appended members old new more → except_items (members.told new) ≡ except_items (members.told old)

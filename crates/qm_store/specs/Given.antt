@@ -1,7 +1,7 @@
 -- What a call that takes the database by value leaves, and what it does to the store.
-use Rattle.std.specs.Prelude.{◌≡◌, List, Result, Ok, Err}
+use Rattle.std.specs.Prelude.{◌≡◌, List, [], Result, Ok, Err}
 use Rattle.qm_model.specs.Operations.{Bytes}
-use Rattle.qm_model.specs.StoreModel.{appended, Becomes, Grows}
+use Rattle.qm_model.specs.StoreModel.{appended, Turns, Becomes, Grows}
 use Rattle.qm_store.specs.declared.Store as store
 use Rattle.qm_store.specs.declared.refusal.Given.{Given}
 use Rattle.qm_store.specs.declared.refusal.Given.TheVariants.{Database, Store}
@@ -22,10 +22,11 @@ pub record Appended {C : Type 0} (members : store.Ghosts C) (old new : C) (more 
   pub start : members.start new ≡ members.start old
   pub told : Becomes (members.told old) (members.told new) (appended more)
 
--- they grew by a first part of these, and no fewer are stable
+-- they grew by a first part of these, and no fewer are stable, and no more if there are none
 pub record AppendedPart {C : Type 0} (members : store.Ghosts C) (old new : C) (more : List Bytes) : Type 0 where
   pub start : members.start new ≡ members.start old
   pub told : Grows (members.told old) (members.told new) more
+  pub still : more ≡ [] → Turns (members.told old) (members.told new) (λ s t. t.stable ≡ s.stable)
 
 -- a store has what it had
 pub record IsUnchanged {C : Type 0} (members : store.Ghosts C) (old new : C) : Type 0 where

@@ -2,7 +2,7 @@
 use Rattle.std.specs.Prelude.{◌≡◌, ◌⊎◌, ◌≤◌, ℕ, suc, ◌+◌, ◌-◌, List, [], ◌∷◌, length, take, drop, map, Option, Some, IfSome}
 use Rattle.std.specs.List.{concat}
 use Rattle.qm_model.specs.Causes.{IsCause}
-use Rattle.qm_model.specs.StoreModel.{Stored, appended, pruned, IsOldOrNew, ReadsAs, Becomes, Leaves, Grows}
+use Rattle.qm_model.specs.StoreModel.{Stored, appended, pruned, IsOldOrNew, ReadsAs, Turns, Becomes, Leaves, Grows}
 use Rattle.qm_model.specs.Operations.{Bytes}
 use Rattle.qm_model.specs.Trees.{Shape, leaf, peaks, leaf_digest, digest_of}
 use Rattle.qm_base.specs.declared.error.Error.{Error}
@@ -57,12 +57,13 @@ pub record HasGrown {C : Type 0} (members : store.Ghosts C) (old new : C) (more 
   pub end : members.«end» new ≡ members.«end» old + length more
   pub told : Becomes (members.told old) (members.told new) (appended more)
 
--- they grew by a first part of these
+-- they grew by a first part of these, and no more is stable if there are none
 pub record HasGrownPart {C : Type 0} (members : store.Ghosts C) (old new : C) (more : List Bytes) : Type 0 where
   pub start : members.start new ≡ members.start old
   pub from : members.«end» old ≤ members.«end» new
   pub within : members.«end» new ≤ members.«end» old + length more
   pub told : Grows (members.told old) (members.told new) more
+  pub still : more ≡ [] → Turns (members.told old) (members.told new) (λ s t. t.stable ≡ s.stable)
 
 -- a store was made this, and starts and ends where it did
 pub record HasBecome {C : Type 0} (members : store.Ghosts C) (old new : C) (f : Stored → Stored) : Type 0 where

@@ -147,7 +147,8 @@ pub trait Store {
         ensures cause { IsCause (faults self.old) (faults self.new)
             (IsErrOf result StoreError.Failed) };
 
-    /// Puts these after the last item. After an error a first part of them may be there.
+    /// Puts these after the last item. After an error a first part of them may be there; if there are none to put, no more is
+    /// stable.
     fn append(&mut self, added: &[Vec<u8>]) -> Result<(), StoreError>
         requires room { end self.old + length added.now ≤ 2 ^ 62 }
         ensures ok { OnOk result
@@ -155,6 +156,8 @@ pub trait Store {
         ensures ok_end { OnOk result (end self.new ≡ end self.old + length added.now) }
         ensures err { OnErr result
             (Grows (told self.old) (told self.new) (map (λ v. v.items) added.now)) }
+        ensures still { OnErr result (length added.now ≡ 0
+            → Turns (told self.old) (told self.new) (λ s new. new.stable ≡ s.stable)) }
         ensures same_start { start self.new ≡ start self.old }
         ensures grows { end self.old ≤ end self.new }
         ensures within { end self.new ≤ end self.old + length added.now }

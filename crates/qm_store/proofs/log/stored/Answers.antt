@@ -1,11 +1,11 @@
-use Rattle.std.proofs.Common.{◌≡◌, ◌≤◌, map, sym, subst, arith, Result, Ok, Err, IfErr}
+use Rattle.std.proofs.Common.{◌≡◌, ◌∙◌, ◌≤◌, length, map, ap, sym, subst, arith, Result, Ok, Err, IfErr}
 use Rattle.std.specs.Prelude.{IsErrOf}
 use Rattle.std.proofs.lemmas.List.{length-map}
-use Rattle.std.proofs.lemmas.Result.{IfOk-weaker, on_err_weaker}
+use Rattle.std.proofs.lemmas.Result.{IfOk-weaker}
 use Rattle.qm_model.specs.Causes.{IsCause}
 use Rattle.qm_store.specs.declared.StoreError.TheVariants as stores
 use Rattle.qm_store.specs.Log.{Log, HasGrown, HasGrownPart, IsRefused}
-use Rattle.qm_store.proofs.Stores.{after-ok, ok-both, refused-after}
+use Rattle.qm_store.proofs.Stores.{after-ok, err-both, ok-both, refused-after}
 use Rattle.qm_store.proofs.log.stored.Goals as goal
 
 -- what an error says of each value
@@ -32,7 +32,7 @@ returns g c = record {
       let more = map (λ v. v.items) c.args.items.now in
       of-each c.log_after.result (λ (log : Log g.row.C.Denot g.row.H-Digest.Denot). log.store ≡ c.args.store) (λ log r. IsRefused members (λ old now. HasGrownPart members old now more) log r.given r.error) (λ log same.
       refused-after members (λ old now. HasGrownPart members old now more) log new c.append-done.result c.log_after.result c.log_after.ensures.err
-      (on_err_weaker c.append-done.result (λ told. subst (λ s. HasGrownPart members s new more) (sym same)
-      (record { start = c.append-done.ensures.same_start; from = c.append-done.ensures.grows; within = omega (arith, c.append-done.ensures.within, length-map c.args.items.now (λ v. v.items)); told = told })) c.append-done.ensures.err)
+      (err-both c.append-done.result c.append-done.ensures.err c.append-done.ensures.still (λ told still. subst (λ s. HasGrownPart members s new more) (sym same)
+      (record { start = c.append-done.ensures.same_start; from = c.append-done.ensures.grows; within = omega (arith, c.append-done.ensures.within, length-map c.args.items.now (λ v. v.items)); told = told; still = λ none. still (sym (length-map c.args.items.now (λ v. v.items)) ∙ ap length none) })))
       (subst (λ s. IsCause (members.faults s) (members.faults new) (IsErrOf c.append-done.result stores.Failed)) (sym same) c.append-done.ensures.cause));
 }

@@ -20,7 +20,8 @@ returns-in-Ok-clause-left g c = λ opened s k sound apart.
     apply_left g.C.Store g.X.Meaning g.X.Key.ByteString.bytes g.X.Value.ByteString.bytes g.X.Digest.Digest.bytes g.met.X.Common.bare c.in-Database.x (g.C.Store.told (g.X.Meaning.inside c.in-Ok.x)) c.args.table.now.items opened c.args.number c.in-Some.batch.now s (rw c.in-Database.is at k) sound apart
     (λ list chain tip stands is on.
     let fit = c.in-Ok.ensures.fit list chain tip stands is in
-    rw fit (appended-part g.C.Store (g.X.Meaning.inside c.in-Database.x) (g.X.Meaning.inside c.in-Ok.x) (map (spelling g.X.Meaning.scheme.form) (drop (length list) tip)) (c.in-Ok.ensures.grown list chain tip stands is (on fit))).told)
+    let part = appended-part g.C.Store (g.X.Meaning.inside c.in-Database.x) (g.X.Meaning.inside c.in-Ok.x) (map (spelling g.X.Meaning.scheme.form) (drop (length list) tip)) (c.in-Ok.ensures.grown list chain tip stands is (on fit)) in
+    rw fit (part.told, part.still))
     (sym c.in-Some.ensures)
 
 pub returns-in-Err-clause-machine : goal.returns-in-Err-clause-machine
@@ -31,7 +32,7 @@ returns-in-Err-clause-machine g c = λ opened s k sound more rest told choices.
 pub returns-in-Err-clause-left : goal.returns-in-Err-clause-left
 returns-in-Err-clause-left g c = λ opened s k sound apart.
     apply_left g.C.Store g.X.Meaning g.X.Key.ByteString.bytes g.X.Value.ByteString.bytes g.X.Digest.Digest.bytes g.met.X.Common.bare c.in-Database.x (g.C.Store.told (store_given g.X.Meaning.inside c.in-Err.refusal.given)) c.args.table.now.items opened c.args.number c.in-Some.batch.now s (rw c.in-Database.is at k) sound apart
-    (λ list chain tip stands is on. (c.in-Err.ensures.kept list chain tip stands is).told) (sym c.in-Some.ensures)
+    (λ list chain tip stands is on. let part = c.in-Err.ensures.kept list chain tip stands is in (part.told, part.still)) (sym c.in-Some.ensures)
 
 pub returns-in-Store-clause-left : goal.returns-in-Store-clause-left
 returns-in-Store-clause-left g c = λ opened s k sound apart. let held = rw c.in-Store.is at k in rw c.without_database.ensures.given (left_none g.X.Meaning.scheme s.log _ (g.C.Store.told c.in-Store.store) held.store.told)

@@ -1,4 +1,4 @@
-use Rattle.std.proofs.Common.{min, map, rules, arith}
+use Rattle.std.proofs.Common.{◌≡◌, length, min, map, refl, rules, arith}
 use Rattle.std.proofs.lemmas.Grind.{common_steps}
 use Rattle.qm_model.specs.StoreModel.{IsImage, IsOldOrNew, RewindLeaves, ReadsAs, HasAppended, DestroyLeaves, Fails, appended, pruned, with_metadata}
 use Rattle.qm_model.proofs.Stores.{reads-kept, reads-kept-or, reads-kept-rewind, reads-kept-append, reads-kept-destroy, fails-unmoved}
@@ -16,6 +16,7 @@ append-tells c =
       within = grind (arith, common_steps);
       cause = search rules;
       err = kept-on_err c.result old.held c.new.self.now.held (Fails (HasAppended (map (λ v. v.items) c.args.added.now)) (λ s. IsImage (appended (map (λ v. v.items) c.args.added.now) s))) (held-on_err c.result old c.new.self.now c.ensures.fault c.ensures.memory) (fails-unmoved (HasAppended (map (λ v. v.items) c.args.added.now)) (λ s. IsImage (appended (map (λ v. v.items) c.args.added.now) s)) old.held (reads-kept-append (map (λ v. v.items) c.args.added.now) old.held (held-inside old c.ensures.inside)));
+      still = kept-on_err c.result old.held c.new.self.now.held (λ s t. length c.args.added.now ≡ 0 → t.stable ≡ s.stable) (held-on_err c.result old c.new.self.now c.ensures.fault c.ensures.memory) (λ none. refl);
     }
 
 pub commit-tells : goal.commit-tells
