@@ -1,6 +1,6 @@
 -- The loop over the lines of an input: one line more, and its ends.
 use Rattle.std.proofs.Common.{◌≡◌, ◌≢◌, inl, ◌≤◌, ◌<◌, ℕ, suc, ◌+◌, List, [], ◌∷◌, ◌++◌, length, length-append, take, Option, Some, None, IfSome, option_map, arith, refl, sym, ◌∙◌, ap, subst}
-use Rattle.std.specs.Prelude.{IfNone, IsSome}
+use Rattle.std.specs.Prelude.{IfNone, IsSome, Contains}
 use Rattle.std.proofs.lemmas.List.{flat_map_more}
 use Rattle.qm_model.specs.Operations.{Bytes}
 use Rattle.qm_model.specs.Own.{Log, IsKept}
@@ -8,7 +8,7 @@ use Rattle.qm_model.specs.StoreModel.{Stored, end_of}
 use Rattle.qm_model.specs.Batches.{Apart}
 use Rattle.qm_model.proofs.Chains.{Begins-self}
 use Rattle.qm_model.specs.Policies.{Policy, policies}
-use Rattle.qm_machine.specs.Lines.{Line, Answer}
+use Rattle.qm_machine.specs.Lines.{Line, Answer, Destroy}
 use Rattle.qm_machine.specs.Machine.{State, choices_after, initial, turn, answers}
 use Rattle.qm_model.specs.Schemes.{Scheme, engine_of}
 use Rattle.qm_machine.specs.Grammar.{lines_of, line_of, commands_in}
@@ -119,6 +119,10 @@ same_turn m s c = turn_relabelled policy_view rules_of policies same_step m s (o
 pub same_chosen : (c : Command Bytes Bytes AnyPolicy) (more : List ℕ) → IsChosen (own_line c) more → IsChosen (byte_line c) more
 same_chosen c more chosen rest = ap (λ line. choices_after line (more ++ rest)) (sym (relabelled_line c)) ∙ (choices-relabelled policy_view (own_line c) (more ++ rest) ∙ chosen rest)
 
+-- and destroys the store only if this does
+pub same_destroy : (c : Command Bytes Bytes AnyPolicy) → own_line c ≡ Destroy → byte_line c ≡ Destroy
+same_destroy c is = sym (relabelled_line c) ∙ ap (relabelled policy_view) is
+
 -- the next line of an input
 module _ (input rest line behind : Bytes) (k : ℕ) (at : IsAt input rest k) (found : lines_of rest ≡ line ∷ lines_of behind) where
   pub at_next : (o : Option (Line Policy)) → line_of line ≡ o → IsSome o → IsAt input behind (k + 1)
@@ -129,6 +133,10 @@ module _ (input rest line behind : Bytes) (k : ℕ) (at : IsAt input rest k) (fo
   pub at_short : (o : Option (Line Policy)) → line_of line ≡ o → IsSome o → k < length (commands_in input)
   at_short None e some = absurd (cc some)
   at_short (Some c) e some = at_within input rest line behind k at found c e
+
+  -- one that destroys the store is among the commands
+  pub at_destroy : line_of line ≡ Some Destroy → Contains (commands_in input) Destroy
+  at_destroy is = (k, at_within input rest line behind k at found Destroy is, sym (at_command input rest line behind k at found Destroy is))
 
   module _ (m : Scheme) (log : Log) (choices : List ℕ) where
     -- it was answered

@@ -4,7 +4,7 @@ use Rattle.qm_model.specs.Operations.{Bytes}
 use Rattle.qm_model.specs.Opening.{Chunks}
 use Rattle.qm_model.specs.Schemes.{chunks_of}
 use Rattle.qm_model.specs.StoreModel.{Stored, Turns, except_items, without_items}
-use Rattle.qm_machine.specs.Lines.{Line, Answer}
+use Rattle.qm_machine.specs.Lines.{Line, Answer, Destroy}
 use Rattle.qm_machine.specs.Machine.{State}
 use Rattle.qm_store.specs.declared.Store as stores
 use Rattle.qm_store.specs.declared.refusal.Given.{Given}
@@ -17,7 +17,7 @@ use Rattle.qm_engine.specs.declared.session.Turn.TheVariants.{Reply, Memory, Sto
 use Rattle.qm_engine.specs.Stores.{HasEnds}
 use Rattle.qm_engine.specs.Session.{Obeys, ObeysSteady, ObeysHeldSteady, LeavesHeldSteady, IfReply, Uses, Handles, HandlesLine, IsChosen, Performs, PerformsHeld}
 use Rattle.qm_engine.proofs.Commands.{left_none, stored-same}
-use Rattle.qm_engine.proofs.LastingStores.{stay-same}
+use Rattle.qm_engine.proofs.LastingStores.{stay-same, turns-looser}
 
 -- it keeps what the machine does
 pub obeys_steady : {X C B S M K V D : Type 0} (members : stores.Ghosts C) (means : meaning.Ghosts X C B S M) (key : K → Bytes) (value : V → Bytes) (digest : D → Bytes) (old new : Session X C B S M) (turn : Turn K V D) (next : State → Answer × State)
@@ -25,7 +25,7 @@ pub obeys_steady : {X C B S M K V D : Type 0} (members : stores.Ghosts C) (means
 obeys_steady members means key value digest old new turn next obeys = λ s k sound more rest told choices. obeys s k
 
 -- and what stands beside the items
-pub beside-items : (chunks : Option Chunks) (o new : Option Stored) → except_items new ≡ except_items o → Turns o new (HasEnds chunks [])
+pub beside-items : {Destroyed : Type 0} (chunks : Option Chunks) (o new : Option Stored) → except_items new ≡ except_items o → Turns o new (HasEnds chunks Destroyed [])
 beside-items chunks None None e = refl
 beside-items chunks None (Some t) e = absurd (cc)
 beside-items chunks (Some s) None e = absurd (cc)
@@ -33,14 +33,14 @@ beside-items chunks (Some s) (Some t) e =
     let same : without_items t ≡ without_items s = cc in
     record { metadata = inl (stay-same chunks s.metadata t.metadata (ap (λ x. x.metadata) same)); ends = ap (λ x. x.ends) same ∙ sym (append-nil s.ends) }
 
-pub uses_handles : {C K V D : Type 0} (chunks : Option Chunks) (members : stores.Ghosts C) (old new : C) (turn : Turn K V D) → Uses members old new turn → Handles chunks members old new turn
+pub uses_handles : {C K V D : Type 0} (chunks : Option Chunks) (members : stores.Ghosts C) (old new : C) (turn : Turn K V D) → Uses members old new turn → Handles chunks ⊥ members old new turn
 uses_handles chunks members old new turn uses = record { beside = beside-items chunks (members.told old) (members.told new) uses.beside; later = uses.later; fault = uses.fault }
 
 -- a command that takes no choice
-pub handles_line : {C K V D P : Type 0} (chunks : Option Chunks) (members : stores.Ghosts C) (line : Line P) (old new : C) (turn : Turn K V D) → IsChosen line [] → Handles chunks members old new turn → HandlesLine chunks members line old new turn
-handles_line chunks members line old new turn chosen handles = record {
+pub handles_line : {C K V D P Destroyed : Type 0} (chunks : Option Chunks) (members : stores.Ghosts C) (line : Line P) (old new : C) (turn : Turn K V D) → IsChosen line [] → (Destroyed → line ≡ Destroy) → Handles chunks Destroyed members old new turn → HandlesLine chunks members line old new turn
+handles_line chunks members line old new turn chosen destroys handles = record {
   more = [];
-  beside = handles.beside;
+  beside = turns-looser chunks [] (members.told old) (members.told new) destroys handles.beside;
   chosen = if_reply turn chosen;
   later = handles.later;
   fault = handles.fault;
@@ -52,7 +52,7 @@ handles_line chunks members line old new turn chosen handles = record {
     if_reply StoreFault chosen = tt
 
 pub uses_line : {C K V D P : Type 0} (chunks : Option Chunks) (members : stores.Ghosts C) (line : Line P) (old new : C) (turn : Turn K V D) → IsChosen line [] → Uses members old new turn → HandlesLine chunks members line old new turn
-uses_line chunks members line old new turn chosen uses = handles_line chunks members line old new turn chosen (uses_handles chunks members old new turn uses)
+uses_line chunks members line old new turn chosen uses = handles_line chunks members line old new turn chosen (λ never. absurd never) (uses_handles chunks members old new turn uses)
 
 module _ {X C B S M K V D P : Type 0} {members : stores.Ghosts C} {means : meaning.Ghosts X C B S M} {key : K → Bytes} {value : V → Bytes} {digest : D → Bytes} {line : Line P} {next : State → Answer × State} where
   -- A command that reads: its store has what it had.
@@ -88,14 +88,15 @@ module _ {X C B S M K V D P : Type 0} {members : stores.Ghosts C} {means : meani
   performs-telling chosen obeys never = performs-beside chosen obeys refl never
 
   -- One that takes what is held goes by no choice and counts no opening.
-  pub performs-held : {table : List (Slot B S M)} {opened : ℕ} {old new : Given X C} {turn : Turn K V D} → IsChosen line []
+  pub performs-held : {Destroyed : Type 0} {table : List (Slot B S M)} {opened : ℕ} {old new : Given X C} {turn : Turn K V D} → IsChosen line []
+      → (Destroyed → line ≡ Destroy)
       → ObeysHeldSteady members means key value digest table opened old opened new turn next
       → LeavesHeldSteady members means table opened old new next
-      → Handles (chunks_of means.scheme) members (store_given means.inside old) (store_given means.inside new) turn
+      → Handles (chunks_of means.scheme) Destroyed members (store_given means.inside old) (store_given means.inside new) turn
       → PerformsHeld members means key value digest line next table opened old opened new turn
-  performs-held {old} {new} {turn} chosen machine left handles = record {
+  performs-held {old} {new} {turn} chosen destroys machine left handles = record {
     machine = machine;
     left = left;
-    handles = handles_line (chunks_of means.scheme) members line (store_given means.inside old) (store_given means.inside new) turn chosen handles;
+    handles = handles_line (chunks_of means.scheme) members line (store_given means.inside old) (store_given means.inside new) turn chosen destroys handles;
     opened = omega arith;
   }

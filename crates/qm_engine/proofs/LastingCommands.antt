@@ -1,6 +1,6 @@
 -- The commands that make a store last, and that open and end a database.
 use Rattle.std.proofs.Common.{◌≡◌, ◌⊎◌, inl, inr, ℕ, ◌≤◌, ◌<◌, cond, List, [], ◌∷◌, ◌++◌, length, take, Option, Some, None, Result, Ok, Err, IfSome, IfOk, IfErr, arith, refl, sym, ◌∙◌, ap, subst, le_refl, append-nil, length-take-le}
-use Rattle.std.specs.Prelude.{slice_index_or, min, max, nat_lt, ◌^◌}
+use Rattle.std.specs.Prelude.{slice_index_or, min, max, nat_lt, ◌^◌, ⊤}
 use Rattle.std.proofs.lemmas.Bool.{cases_lt, lt-ltb, le-ltb}
 use Rattle.qm_model.specs.Causes.{Rose}
 use Rattle.qm_model.specs.Live.{floor}
@@ -86,7 +86,7 @@ writes-of means None x list stands = tt
 writes-of means (Some g) x list stands = stands
 
 -- a command that does nothing to the store, and is not told as its fault
-pub same_handles : {C K V D : Type 0} (chunks : Option Chunks) (members : stores.Ghosts C) (c : C) (answer : reply.Reply K V D) → Handles {K = K} {V = V} {D = D} chunks members c c (Reply answer)
+pub same_handles : {C K V D Destroyed : Type 0} (chunks : Option Chunks) (members : stores.Ghosts C) (c : C) (answer : reply.Reply K V D) → Handles {K = K} {V = V} {D = D} chunks Destroyed members c c (Reply answer)
 same_handles chunks members c answer = record { beside = turns-same chunks (members.told c) (members.told c) refl; later = le_refl (members.faults c); fault = λ e. absurd (cc) }
 
 module _ {X C B S M K V D : Type 0} (members : stores.Ghosts C) (means : meaning.Ghosts X C B S M) (key : K → Bytes) (value : V → Bytes) (digest : D → Bytes) where
@@ -119,9 +119,9 @@ module _ {X C B S M K V D : Type 0} (members : stores.Ghosts C) (means : meaning
 
   -- A call that failed gives up the store.
   given-up_handles : (x : X) (r : Refusal X C) (Left : C → Type 0) → (up : IsGivenUp means members x Left r) → model.Turns (members.told (means.inside x)) (members.told up.store) (StaysBeside means.scheme)
-      → Handles (chunks_of means.scheme) members (means.inside x) (store_given means.inside r.given) (turn_of_error {K = K} {V = V} {D = D} r.error)
+      → Handles (chunks_of means.scheme) ⊥ members (means.inside x) (store_given means.inside r.given) (turn_of_error {K = K} {V = V} {D = D} r.error)
   given-up_handles x r Left up beside =
-      subst (λ given. Handles {K = K} {V = V} {D = D} (chunks_of means.scheme) members (means.inside x) (store_given means.inside given) (turn_of_error r.error)) (sym up.given)
+      subst (λ given. Handles {K = K} {V = V} {D = D} (chunks_of means.scheme) ⊥ members (means.inside x) (store_given means.inside given) (turn_of_error r.error)) (sym up.given)
       record {
         beside = stays-beside means.scheme (members.told (means.inside x)) (members.told up.store) beside;
         later = up.cause.later;
@@ -192,7 +192,7 @@ module _ {X C B S M K V D : Type 0} (members : stores.Ghosts C) (means : meaning
           (subst (λ ops. model.Turns (members.told (means.inside x)) left (LeavesSync means.scheme ops)) (sym (steady.held list is).0) made)
 
   pub settled_handles : (x : X) (After : List Operation → Stored → Stored) (Left : List Operation → Stored → Stored → Type 0) (settling : Result X (Refusal X C)) → IsSettling means members After Left x settling
-      → Handles (chunks_of means.scheme) members (means.inside x) (store_given means.inside (given_after settling)) (turn_settled {K = K} {V = V} {D = D} settling)
+      → Handles (chunks_of means.scheme) ⊥ members (means.inside x) (store_given means.inside (given_after settling)) (turn_settled {K = K} {V = V} {D = D} settling)
   settled_handles x After Left (Ok after) done = record {
     beside = stays-beside means.scheme (members.told (means.inside x)) (members.told (means.inside after)) done.store.beside;
     later = done.later;
@@ -296,15 +296,15 @@ module _ {X C B S M K V D : Type 0} (members : stores.Ghosts C) (means : meaning
             (up.left.told s.log.list (writes-of means means.scheme.grafts x s.log.list (subst (means.stands x) (sym (same-list list is stands within)) stands))))))
 
   pub pruned_handles : (x : X) (to : ℕ) (pruning : Result X (Refusal X C)) → IfOk pruning (IsPruned means members to x) → IfErr pruning (IsUnpruned means members to x)
-      → Handles (chunks_of means.scheme) members (means.inside x) (store_given means.inside (given_after pruning)) (turn_settled {K = K} {V = V} {D = D} pruning)
+      → Handles (chunks_of means.scheme) ⊥ members (means.inside x) (store_given means.inside (given_after pruning)) (turn_settled {K = K} {V = V} {D = D} pruning)
   pruned_handles x to (Ok after) done denied = record {
     beside = stays-beside means.scheme (members.told (means.inside x)) (members.told (means.inside after)) done.store.beside;
     later = done.later;
     fault = λ e. absurd (cc);
   }
   pruned_handles x to (Err r) done (inl (bound, past, bound_is, given, error)) =
-      subst (λ g. Handles {K = K} {V = V} {D = D} (chunks_of means.scheme) members (means.inside x) (store_given means.inside g) (turn_of_error r.error)) (sym given)
-      (subst (λ e. Handles {K = K} {V = V} {D = D} (chunks_of means.scheme) members (means.inside x) (means.inside x) (turn_of_error e)) (sym error) (same_handles (chunks_of means.scheme) members (means.inside x) _))
+      subst (λ g. Handles {K = K} {V = V} {D = D} (chunks_of means.scheme) ⊥ members (means.inside x) (store_given means.inside g) (turn_of_error r.error)) (sym given)
+      (subst (λ e. Handles {K = K} {V = V} {D = D} (chunks_of means.scheme) ⊥ members (means.inside x) (means.inside x) (turn_of_error e)) (sym error) (same_handles (chunks_of means.scheme) members (means.inside x) _))
   pruned_handles x to (Err r) done (inr (fits, up)) = given-up_handles x r _ up up.left.beside
 
   -- A database is closed.
@@ -353,26 +353,26 @@ module _ {X C B S M K V D : Type 0} (members : stores.Ghosts C) (means : meaning
         (with_held members means x s.had s.database s (λ list. (lines.Done, record (machine.closed s) { log = no_log })) (λ next. IsLeft means.scheme (members.told failed.store) s.log (next.1).log) k.database
         (λ list is stands in_had. left_destroyed means.scheme peakless (members.told (means.inside x)) (members.told failed.store) s.log steady.counts k.store.told k.start k.within failed.left))
 
-  destroy-beside : (chunks : Option Chunks) (s t : Stored) → DestroyLeaves s t → HasEnds chunks [] s t
-  destroy-beside chunks s t (inl r) = let same = imaged-beside s t r in record { metadata = inl (stay-same chunks s.metadata t.metadata same.0); ends = same.1 ∙ sym (append-nil s.ends) }
-  destroy-beside chunks s t (inr r) =
+  destroy-beside : {Destroyed : Type 0} (chunks : Option Chunks) (s t : Stored) → Destroyed → DestroyLeaves s t → HasEnds chunks Destroyed [] s t
+  destroy-beside chunks s t told (inl r) = let same = imaged-beside s t r in record { metadata = inl (stay-same chunks s.metadata t.metadata same.0); ends = same.1 ∙ sym (append-nil s.ends) }
+  destroy-beside chunks s t told (inr r) =
       let i = r.left in
-      record { metadata = inr (stay-same chunks [] t.metadata (ap (λ x. x.metadata) r.reads ∙ ap (λ x. x.metadata) i.same)); ends = ap (λ x. x.ends) r.reads ∙ (ap (λ x. x.ends) i.same ∙ sym (append-nil s.ends)) }
+      record { metadata = inr (told, stay-same chunks [] t.metadata (ap (λ x. x.metadata) r.reads ∙ ap (λ x. x.metadata) i.same)); ends = ap (λ x. x.ends) r.reads ∙ (ap (λ x. x.ends) i.same ∙ sym (append-nil s.ends)) }
 
-  pub destroyed_handles : (x : X) (c : C) → Becomes (members.told (means.inside x)) (members.told c) destroyed → members.faults (means.inside x) ≤ members.faults c
-      → Handles {K = K} {V = V} {D = D} (chunks_of means.scheme) members (means.inside x) c (Reply replies.Done)
-  destroyed_handles x c made later = record {
-    beside = became (members.told (means.inside x)) (members.told c) destroyed (HasEnds (chunks_of means.scheme) []) (λ s. record { metadata = inr (stay-same (chunks_of means.scheme) [] [] refl); ends = sym (append-nil s.ends) }) made;
+  pub destroyed_handles : {Destroyed : Type 0} (x : X) (c : C) → Destroyed → Becomes (members.told (means.inside x)) (members.told c) destroyed → members.faults (means.inside x) ≤ members.faults c
+      → Handles {K = K} {V = V} {D = D} (chunks_of means.scheme) Destroyed members (means.inside x) c (Reply replies.Done)
+  destroyed_handles {Destroyed} x c told made later = record {
+    beside = became (members.told (means.inside x)) (members.told c) destroyed (HasEnds (chunks_of means.scheme) Destroyed []) (λ s. record { metadata = inr (told, stay-same (chunks_of means.scheme) [] [] refl); ends = sym (append-nil s.ends) }) made;
     later = later;
     fault = λ e. absurd (cc);
   }
 
-  pub undestroyed_handles : (x : X) (refusal : Refusal X C) → IsGivenUp means members x (λ c. model.Turns (members.told (means.inside x)) (members.told c) DestroyLeaves) refusal
-      → Handles (chunks_of means.scheme) members (means.inside x) (store_given means.inside refusal.given) (turn_of_error {K = K} {V = V} {D = D} refusal.error)
-  undestroyed_handles x refusal failed =
-      subst (λ given. Handles {K = K} {V = V} {D = D} (chunks_of means.scheme) members (means.inside x) (store_given means.inside given) (turn_of_error refusal.error)) (sym failed.given)
+  pub undestroyed_handles : {Destroyed : Type 0} (x : X) (refusal : Refusal X C) → Destroyed → IsGivenUp means members x (λ c. model.Turns (members.told (means.inside x)) (members.told c) DestroyLeaves) refusal
+      → Handles (chunks_of means.scheme) Destroyed members (means.inside x) (store_given means.inside refusal.given) (turn_of_error {K = K} {V = V} {D = D} refusal.error)
+  undestroyed_handles {Destroyed} x refusal told failed =
+      subst (λ given. Handles {K = K} {V = V} {D = D} (chunks_of means.scheme) Destroyed members (means.inside x) (store_given means.inside given) (turn_of_error refusal.error)) (sym failed.given)
       record {
-        beside = turned-each (members.told (means.inside x)) (members.told failed.store) DestroyLeaves (HasEnds (chunks_of means.scheme) []) (destroy-beside (chunks_of means.scheme)) failed.left;
+        beside = turned-each (members.told (means.inside x)) (members.told failed.store) DestroyLeaves (HasEnds (chunks_of means.scheme) Destroyed []) (λ s t. destroy-beside (chunks_of means.scheme) s t told) failed.left;
         later = failed.cause.later;
         fault = λ e. failed.cause.failed (fault-told refusal.error e);
       }
@@ -381,7 +381,7 @@ module _ {X C B S M K V D : Type 0} (members : stores.Ghosts C) (means : meaning
   module _ (held : Given X C) (table : List (Slot B S M)) (opened : ℕ) (s : State) (k : Holds members means held table opened s) (steady : IsSteady means.scheme s) (c : C) (peakless : IsBare means.scheme) where
     -- the store chose the first of the ends to come
     pub crashed_turn : (more rest : List ℕ) → model.Turns (members.told (store_given means.inside held)) (members.told c) HasRestarted → members.start c ≡ members.start (store_given means.inside held)
-        → model.Turns (members.told (store_given means.inside held)) (members.told c) (HasEnds (chunks_of means.scheme) more) → s.choices ≡ more ++ rest → Goes (Reply replies.Done) (Store c) table opened (machine.crash s)
+        → model.Turns (members.told (store_given means.inside held)) (members.told c) (HasEnds (chunks_of means.scheme) ⊤ more) → s.choices ≡ more ++ rest → Goes (Reply replies.Done) (Store c) table opened (machine.crash s)
     crashed_turn more rest made start told choices apart =
         let r = has-restarted means.scheme peakless (members.told (store_given means.inside held)) (members.told c) s.log more rest steady.counts k.store.told k.start k.within made told in
         let chosen : slice_index_or s.choices 0 0 ≡ r.0 = ap (λ xs. slice_index_or xs 0 0) (choices ∙ ap (λ xs. xs ++ rest) r.3) in
@@ -410,7 +410,7 @@ module _ {X C B S M K V D : Type 0} (members : stores.Ghosts C) (means : meaning
     pub uncrashed_left : model.Turns (members.told (store_given means.inside held)) (members.told c) (λ t. ReadsAs t.stable (IsImage t)) → IsLeft means.scheme (members.told c) s.log ((machine.crash s).1).log
     uncrashed_left made = left_imaged means.scheme peakless (members.told (store_given means.inside held)) (members.told c) s.log ((machine.crash s).1).log steady.counts k.store.told k.start k.within (at-end _ s.log k.within) made
 
-  restarted-beside : (chunks : Option Chunks) (o new : Option Stored) → model.Turns o new HasRestarted → (to : ℕ) × model.Turns o new (HasEnds chunks (to ∷ []))
+  restarted-beside : {Destroyed : Type 0} (chunks : Option Chunks) (o new : Option Stored) → model.Turns o new HasRestarted → (to : ℕ) × model.Turns o new (HasEnds chunks Destroyed (to ∷ []))
   restarted-beside chunks None new is = (0, is)
   restarted-beside chunks (Some s) None is = absurd is
   restarted-beside chunks (Some s) (Some t) is = (is.to, record { metadata = inl (stay-same chunks s.metadata t.metadata (ap (λ x. x.metadata) is.same)); ends = ap (λ x. x.ends) is.same })

@@ -1,6 +1,6 @@
 -- Stores and their logs: what each call of a store makes of the log that it has, and what is left of one that failed.
 use Rattle.std.proofs.Common.{◌≡◌, ◌⊎◌, inl, inr, ℕ, zero, suc, ◌*◌, ◌-◌, ◌<◌, ◌≤◌, ◌^◌, ◌/◌, Bool, true, false, cond, List, [], ◌∷◌, ◌++◌, length, take, drop, map, Option, Some, None, refl, sym, ap, ◌∙◌, subst, arith, append-nil, append_assoc, take_all, le_refl, length-take-le}
-use Rattle.std.specs.Prelude.{min, max, ◌==◌, option_map, IfSome, nat_lt, not, is_none, filter, bytes_eq, if◌then◌else◌}
+use Rattle.std.specs.Prelude.{min, max, ◌==◌, option_map, IfSome, nat_lt, not, is_none, filter, bytes_eq, if◌then◌else◌, ⊤}
 use Rattle.std.specs.Option.{option_map_or}
 use Rattle.std.specs.List.{concat, drop-map, list_any}
 use Rattle.std.proofs.Math.Seq.{drop-append_seam, take-append_seam}
@@ -64,54 +64,62 @@ stay-through : (chunks : Option Chunks) (a b c : List Named) → StayNamed chunk
 stay-through None a b c one two = two ∙ one
 stay-through (Some k) a b c one two = λ name other. two name other ∙ one name other
 
-pub beside-self : (chunks : Option Chunks) (s : Stored) → HasEnds chunks [] s s
+pub beside-self : {Destroyed : Type 0} (chunks : Option Chunks) (s : Stored) → HasEnds chunks Destroyed [] s s
 beside-self chunks s = record { metadata = inl (stay-self chunks s.metadata); ends = sym (append-nil s.ends) }
 
-pub beside-through : (chunks : Option Chunks) (a b : List ℕ) (s t u : Stored) → HasEnds chunks a s t → HasEnds chunks b t u → HasEnds chunks (a ++ b) s u
-beside-through chunks a b s t u one two = record {
+pub beside-through : {A B D : Type 0} (chunks : Option Chunks) (a b : List ℕ) (s t u : Stored) → (A → D) → (B → D) → HasEnds chunks A a s t → HasEnds chunks B b t u → HasEnds chunks D (a ++ b) s u
+beside-through chunks a b s t u before behind one two = record {
   metadata = elim two.metadata [
     | inl later ↦ elim one.metadata [
       | inl stays ↦ inl (stay-through chunks s.metadata t.metadata u.metadata stays later)
-      | inr none ↦ inr (stay-through chunks [] t.metadata u.metadata none later)
+      | inr none ↦ inr (before none.0, stay-through chunks [] t.metadata u.metadata none.1 later)
     ]
-    | inr none ↦ inr none
+    | inr none ↦ inr (behind none.0, none.1)
   ];
   ends = two.ends ∙ ap (λ xs. xs ++ b) one.ends ∙ append_assoc s.ends a b;
 }
 
-pub turns-self : (chunks : Option Chunks) (o : Option Stored) → Turns o o (HasEnds chunks [])
+pub turns-self : {Destroyed : Type 0} (chunks : Option Chunks) (o : Option Stored) → Turns o o (HasEnds chunks Destroyed [])
 turns-self chunks None = refl
 turns-self chunks (Some s) = beside-self chunks s
 
-pub turns-same : (chunks : Option Chunks) (o new : Option Stored) → new ≡ o → Turns o new (HasEnds chunks [])
-turns-same chunks o new same = subst (λ p. Turns o p (HasEnds chunks [])) (sym same) (turns-self chunks o)
+pub turns-same : {Destroyed : Type 0} (chunks : Option Chunks) (o new : Option Stored) → new ≡ o → Turns o new (HasEnds chunks Destroyed [])
+turns-same {Destroyed} chunks o new same = subst (λ p. Turns o p (HasEnds chunks Destroyed [])) (sym same) (turns-self chunks o)
 
-pub turns-through : (chunks : Option Chunks) (a b : List ℕ) (o p q : Option Stored) → Turns o p (HasEnds chunks a) → Turns p q (HasEnds chunks b) → Turns o q (HasEnds chunks (a ++ b))
-turns-through chunks a b None p q one two = by p one two
+-- it may be that the store was destroyed, if what tells so follows
+looser : {A B S T : Type 0} → (A → B) → S ⊎ (A × T) → S ⊎ (B × T)
+looser follows (inl s) = inl s
+looser follows (inr (a, t)) = inr (follows a, t)
+
+pub turns-looser : {A B : Type 0} (chunks : Option Chunks) (more : List ℕ) (o new : Option Stored) → (A → B) → Turns o new (HasEnds chunks A more) → Turns o new (HasEnds chunks B more)
+turns-looser {A} {B} chunks more o new follows is = turned-each o new (HasEnds chunks A more) (HasEnds chunks B more) (λ s t r. record { metadata = looser follows r.metadata; ends = r.ends }) is
+
+pub turns-through : {A B D : Type 0} (chunks : Option Chunks) (a b : List ℕ) (o p q : Option Stored) → (A → D) → (B → D) → Turns o p (HasEnds chunks A a) → Turns p q (HasEnds chunks B b) → Turns o q (HasEnds chunks D (a ++ b))
+turns-through {A} {B} chunks a b None p q before behind one two = by p one two
   where
-    by : (p : Option Stored) → p ≡ None → Turns p q (HasEnds chunks b) → q ≡ None
+    by : (p : Option Stored) → p ≡ None → Turns p q (HasEnds chunks B b) → q ≡ None
     by None e two = two
     by (Some t) e two = absurd (cc)
-turns-through chunks a b (Some s) None q one two = absurd one
-turns-through chunks a b (Some s) (Some t) None one two = absurd two
-turns-through chunks a b (Some s) (Some t) (Some u) one two = beside-through chunks a b s t u one two
+turns-through chunks a b (Some s) None q before behind one two = absurd one
+turns-through chunks a b (Some s) (Some t) None before behind one two = absurd two
+turns-through chunks a b (Some s) (Some t) (Some u) before behind one two = beside-through chunks a b s t u before behind one two
 
 -- the ends tell which these are
 cancelled : (xs a b : List ℕ) → xs ++ a ≡ xs ++ b → a ≡ b
 cancelled xs a b e = sym (drop-append_seam xs a) ∙ ap (drop (length xs)) e ∙ drop-append_seam xs b
 
-pub turns-told : (chunks : Option Chunks) (a b : List ℕ) (s : Stored) (new : Option Stored) → Turns (Some s) new (HasEnds chunks a) → Turns (Some s) new (HasEnds chunks b) → a ≡ b
+pub turns-told : {A B : Type 0} (chunks : Option Chunks) (a b : List ℕ) (s : Stored) (new : Option Stored) → Turns (Some s) new (HasEnds chunks A a) → Turns (Some s) new (HasEnds chunks B b) → a ≡ b
 turns-told chunks a b s None one two = absurd one
 turns-told chunks a b s (Some t) one two = cancelled s.ends a b (sym one.ends ∙ two.ends)
 
 -- what is as beside the items, and only there
-pub turns-beside : (chunks : Option Chunks) (o new : Option Stored) (R : Stored → Stored → Type 0) → ((s t : Stored) → R s t → (t.metadata ≡ s.metadata) × (t.ends ≡ s.ends)) → Turns o new R → Turns o new (HasEnds chunks [])
-turns-beside chunks o new R each is =
-    turned-each o new R (HasEnds chunks []) (λ s t r. let same = each s t r in record { metadata = inl (stay-same chunks s.metadata t.metadata same.0); ends = same.1 ∙ sym (append-nil s.ends) }) is
+pub turns-beside : {Destroyed : Type 0} (chunks : Option Chunks) (o new : Option Stored) (R : Stored → Stored → Type 0) → ((s t : Stored) → R s t → (t.metadata ≡ s.metadata) × (t.ends ≡ s.ends)) → Turns o new R → Turns o new (HasEnds chunks Destroyed [])
+turns-beside {Destroyed} chunks o new R each is =
+    turned-each o new R (HasEnds chunks Destroyed []) (λ s t r. let same = each s t r in record { metadata = inl (stay-same chunks s.metadata t.metadata same.0); ends = same.1 ∙ sym (append-nil s.ends) }) is
 
 -- the same of a call that may write the metadata that counts chunks
-pub stays-beside : (m : Scheme) (o new : Option Stored) → Turns o new (StaysBeside m) → Turns o new (HasEnds (chunks_of m) [])
-stays-beside m o new is = turned-each o new (StaysBeside m) (HasEnds (chunks_of m) []) (λ s t r. record { metadata = inl r.metadata; ends = r.ends ∙ sym (append-nil s.ends) }) is
+pub stays-beside : {Destroyed : Type 0} (m : Scheme) (o new : Option Stored) → Turns o new (StaysBeside m) → Turns o new (HasEnds (chunks_of m) Destroyed [])
+stays-beside {Destroyed} m o new is = turned-each o new (StaysBeside m) (HasEnds (chunks_of m) Destroyed []) (λ s t r. record { metadata = inl r.metadata; ends = r.ends ∙ sym (append-nil s.ends) }) is
 
 -- Logs.
 
@@ -365,12 +373,12 @@ module _ (m : Scheme) (bare : IsBare m) where
   has-emptied told new log has made = has-become told new log no_log destroyed has made (λ s is. stored-empty s)
 
   -- if a restart chose this end
-  pub has-restarted : (told new : Option Stored) (log : Log) (more rest : List ℕ) → Counts m log → HasLog m told log → log.start ≤ log.stable → log.stable ≤ length log.list → Turns told new HasRestarted → Turns told new (HasEnds (chunks_of m) more)
+  pub has-restarted : (told new : Option Stored) (log : Log) (more rest : List ℕ) → Counts m log → HasLog m told log → log.start ≤ log.stable → log.stable ≤ length log.list → Turns told new HasRestarted → Turns told new (HasEnds (chunks_of m) ⊤ more)
       → (to : ℕ) × (log.stable ≤ to) × (to ≤ length log.list) × (more ≡ to ∷ []) × HasLog m new (record log { list = take to log.list; stable = to })
   has-restarted told new log more rest counts has start within made told_more =
       let t = turned told new has.stored HasRestarted has.is made in
       let r = t.2 in
-      let ends = turned told new has.stored (HasEnds (chunks_of m) more) has.is told_more in
+      let ends = turned told new has.stored (HasEnds (chunks_of m) ⊤ more) has.is told_more in
       let same : t.0 ≡ ends.0 = some-same (sym t.1 ∙ ends.1) in
       let low = r.may.stable in
       let high = r.may.within in

@@ -1,7 +1,7 @@
 -- The loop over the commands: one more, and its ends.
 use Rattle.std.proofs.Common.{◌≡◌, ◌≤◌, ◌<◌, ℕ, suc, ◌+◌, List, [], ◌∷◌, ◌++◌, length, get_or, take, map, Option, Some, None, IfSome, arith, refl, sym, ◌∙◌, ap, subst, add-one}
-use Rattle.std.specs.Prelude.{All, IfNone, slice_index_or}
-use Rattle.std.proofs.lemmas.List.{take_all, take_more, get_or-map}
+use Rattle.std.specs.Prelude.{All, Contains, IfNone, slice_index_or, ⊤}
+use Rattle.std.proofs.lemmas.List.{take_all, take_more, get_or-map, length-map}
 use Rattle.qm_model.specs.Causes.{Rose}
 use Rattle.qm_model.specs.Own.{Log, IsKept, IsOwn}
 use Rattle.qm_model.specs.StoreModel.{Stored, end_of, Turns}
@@ -50,6 +50,10 @@ none-at P is told = subst (λ o. IfNone o P) is told
 
 pub line_here : {A B : Type 0} (f : A → B) (xs : List A) (i : ℕ) (x : A) → i < length xs → x ≡ get_or xs i x → f x ≡ get_or (map f xs) i (f x)
 line_here f xs i x h e = ap f e ∙ sym (get_or-map f xs i x (f x) h)
+
+-- a command of a run is among its lines
+pub command-among : {A B : Type 0} (f : A → B) (xs : List A) (i : ℕ) (x : A) → i < length xs → x ≡ get_or xs i x → Contains (map f xs) (f x)
+command-among f xs i x h e = (i, subst (λ n. i < n) (sym (length-map xs f)) h, sym (line_here f xs i x h e))
 
 pub Rose-wider : (a b c d : ℕ) → a ≤ b → Rose b c → c ≤ d → Rose a d
 Rose-wider a b c d p q r = omega arith
@@ -174,10 +178,10 @@ module _ {X C B S M : Type 0} (members : stores.Ghosts C) (means : meaning.Ghost
 
 -- The choices that a run's store made, by its parts.
 
-pub none-more : (chunks : Option Chunks) (o new : Option Stored) (stored : Stored) (more : List ℕ) → o ≡ Some stored → new ≡ o → Turns o new (HasEnds chunks more) → more ≡ []
+pub none-more : (chunks : Option Chunks) (o new : Option Stored) (stored : Stored) (more : List ℕ) → o ≡ Some stored → new ≡ o → Turns o new (HasEnds chunks ⊤ more) → more ≡ []
 none-more chunks o new stored more is same told =
-    turns-told chunks more [] stored (Some stored) (subst (λ p. Turns (Some stored) p (HasEnds chunks more)) (same ∙ is) (subst (λ p. Turns p new (HasEnds chunks more)) is told)) (beside-self chunks stored)
+    turns-told chunks more [] stored (Some stored) (subst (λ p. Turns (Some stored) p (HasEnds chunks ⊤ more)) (same ∙ is) (subst (λ p. Turns p new (HasEnds chunks ⊤ more)) is told)) (beside-self {⊤} chunks stored)
 
-pub more-parts : (chunks : Option Chunks) (o p q : Option Stored) (stored : Stored) (a b more : List ℕ) → o ≡ Some stored → Turns o p (HasEnds chunks a) → Turns p q (HasEnds chunks b) → Turns o q (HasEnds chunks more) → more ≡ a ++ b
+pub more-parts : {A B : Type 0} (chunks : Option Chunks) (o p q : Option Stored) (stored : Stored) (a b more : List ℕ) → o ≡ Some stored → Turns o p (HasEnds chunks A a) → Turns p q (HasEnds chunks B b) → Turns o q (HasEnds chunks ⊤ more) → more ≡ a ++ b
 more-parts chunks o p q stored a b more is one two told =
-    turns-told chunks more (a ++ b) stored q (subst (λ x. Turns x q (HasEnds chunks more)) is told) (subst (λ x. Turns x q (HasEnds chunks (a ++ b))) is (turns-through chunks a b o p q one two))
+    turns-told chunks more (a ++ b) stored q (subst (λ x. Turns x q (HasEnds chunks ⊤ more)) is told) (subst (λ x. Turns x q (HasEnds chunks ⊤ (a ++ b))) is (turns-through chunks a b o p q (λ before. tt) (λ behind. tt) one two))

@@ -1,6 +1,6 @@
 -- What a command that moves a batch of the table, or reads through one, tells at each of its ways out.
 use Rattle.std.proofs.Common.{◌≡◌, ◌≢◌, ◌++◌, ℕ, true, false, List, get_or, set, Option, Some, None, option_map, Result, Err, refl, sym, ◌∙◌, ap, subst}
-use Rattle.std.specs.Prelude.{IsErrOf, IfSome, is_some}
+use Rattle.std.specs.Prelude.{IsErrOf, IfSome, is_some, ⊤}
 use Rattle.qm_model.specs.Live.{live_keys}
 use Rattle.qm_model.specs.Operations.{Bytes, Operation}
 use Rattle.qm_model.specs.Writes.{Write}
@@ -96,7 +96,7 @@ module _ {X C B S M K V D : Type 0} (members : stores.Ghosts C) (means : meaning
   abbrev pub MovesSteady : (State → Answer × State) → List (Slot B S M) → Given X C → Turn K V D → Type 0
   MovesSteady next table new turn = record {
     machine : (s : State) → Stands members means old s → IsSteady means.scheme s
-        → (more rest : List ℕ) → Turns (members.told (store_given means.inside old.held)) (members.told (store_given means.inside new)) (HasEnds (chunks_of means.scheme) more) → s.choices ≡ more ++ rest
+        → (more rest : List ℕ) → Turns (members.told (store_given means.inside old.held)) (members.told (store_given means.inside new)) (HasEnds (chunks_of means.scheme) ⊤ more) → s.choices ≡ more ++ rest
         → Goes table new turn (next s);
     store : IsUnchanged members (store_given means.inside old.held) (store_given means.inside new);
     uses : Uses members (store_given means.inside old.held) (store_given means.inside new) turn;

@@ -1,10 +1,10 @@
 -- What a run holds, and the state of the machine that it stands for.
-use Rattle.std.specs.Prelude.{◌≡◌, ◌+◌, ◌≤◌, ℕ, List, [], ◌++◌, length, Contains, Option, Some, None, IfSome, slice_index_or}
+use Rattle.std.specs.Prelude.{◌≡◌, ◌+◌, ◌≤◌, ℕ, List, [], ◌++◌, length, Contains, Option, Some, None, IfSome, slice_index_or, ⊤}
 use Rattle.qm_model.specs.Causes.{IsCause, Rose}
 use Rattle.qm_model.specs.Live.{floor}
 use Rattle.qm_model.specs.Operations.{Bytes, Operation}
 use Rattle.qm_model.specs.Batches.{IsAmong, Apart}
-use Rattle.qm_machine.specs.Lines.{Line, Answer}
+use Rattle.qm_machine.specs.Lines.{Line, Answer, Destroy}
 use Rattle.qm_model.specs.StoreModel.{Turns, except_items}
 use Rattle.qm_machine.specs.Machine.{State, slot_at, choices_after}
 use Rattle.qm_machine.specs.Machine as machine
@@ -106,14 +106,14 @@ module _ {X C B S M : Type 0} (members : store.Ghosts C) (means : meaning.Ghosts
     abbrev pub ObeysHeldSteady : List (Slot B S M) → ℕ → Given X C → ℕ → Given X C → Turn K V D → (State → Answer × State) → Type 0
     ObeysHeldSteady table before old after new turn next =
         (s : State) → Holds members means old table before s → IsSteady means.scheme s
-        → (more rest : List ℕ) → Turns (members.told (store_given means.inside old)) (members.told (store_given means.inside new)) (HasEnds (chunks_of means.scheme) more) → s.choices ≡ more ++ rest
+        → (more rest : List ℕ) → Turns (members.told (store_given means.inside old)) (members.told (store_given means.inside new)) (HasEnds (chunks_of means.scheme) ⊤ more) → s.choices ≡ more ++ rest
         → FollowsHeld table after new turn (next s)
 
     -- So does a session.
     abbrev pub ObeysSteady : Session X C B S M → Session X C B S M → Turn K V D → (State → Answer × State) → Type 0
     ObeysSteady old new turn next =
         (s : State) → Stands members means old s → IsSteady means.scheme s
-        → (more rest : List ℕ) → Turns (members.told (store_given means.inside old.held)) (members.told (store_given means.inside new.held)) (HasEnds (chunks_of means.scheme) more) → s.choices ≡ more ++ rest
+        → (more rest : List ℕ) → Turns (members.told (store_given means.inside old.held)) (members.told (store_given means.inside new.held)) (HasEnds (chunks_of means.scheme) ⊤ more) → s.choices ≡ more ++ rest
         → Follows new turn (next s)
 
     -- The same of a command that leaves the session as it is.
@@ -135,10 +135,15 @@ pub record TurnReads {X C B S M K V D : Type 0} (members : store.Ghosts C) (mean
   pub store : IsUnchanged members (means.inside old) (means.inside new)
   pub faults : IsCause (members.faults (means.inside old)) (members.faults (means.inside new)) (turn ≡ StoreFault)
 
--- A turn handles the store: it puts no metadata but that which counts these chunks, and no restart chooses an end; the count of faults has
--- not fallen, and it rose if a fault is told.
-pub record Handles {C K V D : Type 0} (chunks : Option Chunks) (members : store.Ghosts C) (old new : C) (turn : Turn K V D) : Type 0 where
-  pub beside : Turns (members.told old) (members.told new) (HasEnds chunks [])
+-- a database is open
+abbrev pub IsOpen : {X C : Type 0} → Given X C → Type 0
+IsOpen (Database x) = ⊤
+IsOpen (Store c) = ⊥
+
+-- A turn handles the store: it puts no metadata but that which counts these chunks, takes the rest away only if it destroys the store, and no
+-- restart chooses an end; the count of faults has not fallen, and it rose if a fault is told.
+pub record Handles {C K V D : Type 0} (chunks : Option Chunks) (Destroyed : Type 0) (members : store.Ghosts C) (old new : C) (turn : Turn K V D) : Type 0 where
+  pub beside : Turns (members.told old) (members.told new) (HasEnds chunks Destroyed [])
   pub later : members.faults old ≤ members.faults new
   pub fault : turn ≡ StoreFault → Rose (members.faults old) (members.faults new)
 
@@ -146,10 +151,10 @@ pub record Handles {C K V D : Type 0} (chunks : Option Chunks) (members : store.
 abbrev pub IsChosen : {P : Type 0} → Line P → List ℕ → Type 0
 IsChosen line more = (rest : List ℕ) → choices_after line (more ++ rest) ≡ rest
 
--- A command's turn handles the store, and the ends that the command takes were chosen, if it has a reply.
+-- A command's turn handles the store, which it destroys only if it is a `destroy`, and the ends that the command takes were chosen, if it has a reply.
 pub record HandlesLine {C K V D P : Type 0} (chunks : Option Chunks) (members : store.Ghosts C) (line : Line P) (old new : C) (turn : Turn K V D) : Type 0 where
   pub more : List ℕ
-  pub beside : Turns (members.told old) (members.told new) (HasEnds chunks more)
+  pub beside : Turns (members.told old) (members.told new) (HasEnds chunks (line ≡ Destroy) more)
   pub chosen : IfReply turn (λ _. IsChosen line more)
   pub later : members.faults old ≤ members.faults new
   pub fault : turn ≡ StoreFault → Rose (members.faults old) (members.faults new)

@@ -20,10 +20,10 @@ pub record IsStored {C : Type 0} (members : store.Ghosts C) (m : Scheme) (c : C)
   pub start : members.start c ≡ log.start
   pub told : HasLog m (members.told c) log
 
--- what a store has beside items, head and stable length: calls put no metadata but that which counts these chunks, and a destroyed store
--- has none; the ends that its restarts chose stay, and these are new
-pub record HasEnds (chunks : Option Chunks) (more : List ℕ) (old new : Stored) : Type 0 where
-  pub metadata : StayNamed chunks old.metadata new.metadata ⊎ StayNamed chunks [] new.metadata
+-- what a store has beside items, head and stable length: calls put no metadata but that which counts these chunks, and the rest may be gone
+-- only if it was destroyed; the ends that its restarts chose stay, and these are new
+pub record HasEnds (chunks : Option Chunks) (Destroyed : Type 0) (more : List ℕ) (old new : Stored) : Type 0 where
+  pub metadata : StayNamed chunks old.metadata new.metadata ⊎ (Destroyed × StayNamed chunks [] new.metadata)
   pub ends : new.ends ≡ old.ends ++ more
 
 -- What a failed command leaves.

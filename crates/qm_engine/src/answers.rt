@@ -1,10 +1,11 @@
 // The lines of an input, answered one by one.
 
-ghost use Rattle.std.specs.Prelude.{ℕ, List, ◌≡◌, ◌≢◌, ◌+◌, ◌++◌, ◌∷◌, [], ◌^◌, ◌<◌, ◌≤◌, Some, None, IfNone, IfSome, OnOk, OnErr, OnSome, IsSome, length};
+ghost use Rattle.std.specs.Prelude.{ℕ, List, ◌≡◌, ◌≢◌, ◌+◌, ◌++◌, ◌∷◌, [], ◌^◌, ◌<◌, ◌≤◌, Some, None, IfNone, IfSome, OnOk, OnErr, OnSome, IsSome, Contains, length, ⊤};
 ghost use Rattle.qm_model.specs.Causes.{Rose};
 ghost use Rattle.qm_model.specs.Batches.{Apart};
 ghost use Rattle.qm_machine.specs.Grammar.{line_of, commands_in, bad_in};
 ghost use Rattle.qm_model.specs.Policies.{policies};
+ghost use Rattle.qm_machine.specs.Lines.{Destroy};
 ghost use Rattle.qm_machine.specs.Machine as machine;
 ghost use Rattle.qm_machine.specs.Text.{reply_line};
 ghost use Rattle.qm_lines.specs.Views.{line_view, answer_view};
@@ -78,7 +79,7 @@ fn answer<X: Answering<C>, C: Store, P: Policy<X::Family, X::Key, X::Value> + Tw
     ensures machine { (s : machine.State) → Stands C.Store X.Meaning session s → IsSteady X.scheme s
         → (more rest : List ℕ)
         → Turns (C.told (store_given X.inside session.held))
-        (C.told (store_given X.inside result.0.held)) (HasEnds (chunks_of X.scheme) more)
+        (C.told (store_given X.inside result.0.held)) (HasEnds (chunks_of X.scheme) ⊤ more)
         → s.choices ≡ more ++ rest
         → IfNone result.1
         (let next = machine.turn X.scheme P.rules s (line_view X.Key.bytes X.Value.bytes (λ p. p) command.now) in
@@ -91,7 +92,8 @@ fn answer<X: Answering<C>, C: Store, P: Policy<X::Family, X::Key, X::Value> + Tw
     ensures cause { IfSome result.1 (λ e. (e ≢ Ending.Done) × (e ≢ Ending.BadLine)) }
     ensures ends { (more : List ℕ)
         × Turns (C.told (store_given X.inside session.held))
-        (C.told (store_given X.inside result.0.held)) (HasEnds (chunks_of X.scheme) more)
+        (C.told (store_given X.inside result.0.held)) (HasEnds (chunks_of X.scheme)
+        (line_view X.Key.bytes X.Value.bytes (λ p. p) command.now ≡ Destroy) more)
         × IfNone result.1
         (IsChosen (line_view X.Key.bytes X.Value.bytes (λ p. p) command.now) more) }
     ensures later { C.faults (store_given X.inside session.held)
@@ -128,7 +130,7 @@ fn answer_line<X: Answering<C, Key = ByteKey, Value = ByteValue>, C: Store>(
     ensures machine { (s : machine.State) → Stands C.Store X.Meaning session s → IsSteady X.scheme s
         → (more rest : List ℕ)
         → Turns (C.told (store_given X.inside session.held))
-        (C.told (store_given X.inside result.0.held)) (HasEnds (chunks_of X.scheme) more)
+        (C.told (store_given X.inside result.0.held)) (HasEnds (chunks_of X.scheme) ⊤ more)
         → s.choices ≡ more ++ rest
         → IfNone result.1 (IfSome (line_of line.now) (λ command.
         let next = machine.turn X.scheme policies s command in
@@ -148,7 +150,8 @@ fn answer_line<X: Answering<C, Key = ByteKey, Value = ByteValue>, C: Store>(
     ensures not_done { IfSome result.1 (λ e. e ≢ Ending.Done) }
     ensures ends { (more : List ℕ)
         × Turns (C.told (store_given X.inside session.held))
-        (C.told (store_given X.inside result.0.held)) (HasEnds (chunks_of X.scheme) more)
+        (C.told (store_given X.inside result.0.held))
+        (HasEnds (chunks_of X.scheme) (line_of line.now ≡ Some Destroy) more)
         × IfNone result.1 (IfSome (line_of line.now) (λ command. IsChosen command more)) }
     ensures later { C.faults (store_given X.inside session.held)
         ≤ C.faults (store_given X.inside result.0.held) }
@@ -181,7 +184,7 @@ pub fn answer_lines<X: Answering<C, Key = ByteKey, Value = ByteValue>, C: Store,
 ) -> Answered<C>
     ensures machine { IfSome (C.told store) (λ stored.
         (log : Log) → IsOwn (engine_of X.scheme policies) log stored → (choices : List ℕ)
-        → Turns (C.told store) (C.told result.store) (HasEnds (chunks_of X.scheme) choices)
+        → Turns (C.told store) (C.told result.store) (HasEnds (chunks_of X.scheme) ⊤ choices)
         → IsAnswered X.scheme policies log choices (commands_in input.now) result.answered
         result.text.items (C.told result.store)) }
     ensures done { result.ending ≡ Ending.Done
@@ -192,7 +195,8 @@ pub fn answer_lines<X: Answering<C, Key = ByteKey, Value = ByteValue>, C: Store,
     ensures short { result.ending ≡ Ending.StoreFault
         → result.answered < length (commands_in input.now) }
     ensures ends { (choices : List ℕ)
-        × Turns (C.told store) (C.told result.store) (HasEnds (chunks_of X.scheme) choices) }
+        × Turns (C.told store) (C.told result.store)
+        (HasEnds (chunks_of X.scheme) (Contains (commands_in input.now) Destroy) choices) }
     ensures bound { result.answered ≤ length input.now }
     ensures later { C.faults store ≤ C.faults result.store }
     ensures fault { result.ending ≡ Ending.StoreFault

@@ -1,8 +1,9 @@
 //! A run of a list of commands.
 
-ghost use Rattle.std.specs.Prelude.{ℕ, List, ◌≡◌, ◌≢◌, ◌+◌, ◌++◌, ◌∷◌, [], ◌^◌, ◌<◌, ◌≤◌, Option, Some, None, IfNone, IfSome, IfOk, IfErr, OnSome, OnOk, OnErr, length, map};
+ghost use Rattle.std.specs.Prelude.{ℕ, List, ◌≡◌, ◌≢◌, ◌+◌, ◌++◌, ◌∷◌, [], ◌^◌, ◌<◌, ◌≤◌, Option, Some, None, IfNone, IfSome, IfOk, IfErr, OnSome, OnOk, OnErr, Contains, length, map, ⊤};
 ghost use Rattle.qm_model.specs.Causes.{Rose};
 ghost use Rattle.qm_model.specs.Batches.{Apart};
+ghost use Rattle.qm_machine.specs.Lines.{Destroy};
 ghost use Rattle.qm_machine.specs.Machine as machine;
 ghost use Rattle.qm_lines.specs.Views.{line_view, answer_view};
 ghost use Rattle.qm_store.specs.Given.{store_given};
@@ -67,7 +68,7 @@ fn step<X: Answering<C>, C: Store, P: Policy<X::Family, X::Key, X::Value> + Twin
     ensures machine { (s : machine.State) → Stands C.Store X.Meaning session s → IsSteady X.scheme s
         → (more rest : List ℕ)
         → Turns (C.told (store_given X.inside session.held))
-        (C.told (store_given X.inside result.0.held)) (HasEnds (chunks_of X.scheme) more)
+        (C.told (store_given X.inside result.0.held)) (HasEnds (chunks_of X.scheme) ⊤ more)
         → s.choices ≡ more ++ rest
         → IfNone result.1
         (let next = machine.turn X.scheme P.rules s (line_view X.Key.bytes X.Value.bytes (λ p. p) command.now) in
@@ -83,7 +84,8 @@ fn step<X: Answering<C>, C: Store, P: Policy<X::Family, X::Key, X::Value> + Twin
     ensures not_done { IfSome result.1 (λ e. e ≢ End.Done) }
     ensures ends { (more : List ℕ)
         × Turns (C.told (store_given X.inside session.held))
-        (C.told (store_given X.inside result.0.held)) (HasEnds (chunks_of X.scheme) more)
+        (C.told (store_given X.inside result.0.held)) (HasEnds (chunks_of X.scheme)
+        (line_view X.Key.bytes X.Value.bytes (λ p. p) command.now ≡ Destroy) more)
         × IfNone result.1
         (IsChosen (line_view X.Key.bytes X.Value.bytes (λ p. p) command.now) more) }
     ensures later { C.faults (store_given X.inside session.held)
@@ -135,7 +137,7 @@ pub fn run<X: Answering<C>, C: Store, P: Policy<X::Family, X::Key, X::Value> + T
 ) -> Outcome<X, C>
     ensures machine { IfSome (C.told store) (λ stored.
         (log : Log) → IsOwn (engine_of X.scheme P.rules) log stored → (choices : List ℕ)
-        → Turns (C.told store) (C.told result.store) (HasEnds (chunks_of X.scheme) choices)
+        → Turns (C.told store) (C.told result.store) (HasEnds (chunks_of X.scheme) ⊤ choices)
         → IsRun X.scheme P.rules log choices
         (map (line_view X.Key.bytes X.Value.bytes (λ p. p)) commands.now)
         (map (answer_view X.Key.bytes X.Value.bytes X.Digest.bytes) result.replies.items)
@@ -144,7 +146,9 @@ pub fn run<X: Answering<C>, C: Store, P: Policy<X::Family, X::Key, X::Value> + T
     ensures short { result.end ≡ End.StoreFault
         → length result.replies.items < length commands.now }
     ensures ends { (choices : List ℕ)
-        × Turns (C.told store) (C.told result.store) (HasEnds (chunks_of X.scheme) choices) }
+        × Turns (C.told store) (C.told result.store) (HasEnds (chunks_of X.scheme)
+        (Contains (map (line_view X.Key.bytes X.Value.bytes (λ p. p)) commands.now) Destroy)
+        choices) }
     ensures later { C.faults store ≤ C.faults result.store }
     ensures fault { result.end ≡ End.StoreFault → Rose (C.faults store) (C.faults result.store) }
 {

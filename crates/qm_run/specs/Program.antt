@@ -1,5 +1,5 @@
 -- What the program may answer, write and leave.
-use Rattle.std.specs.Prelude.{◌≡◌, ◌≤◌, ◌<◌, ◌⊎◌, ℕ, suc, Bool, true, false, ◌&&◌, if◌then◌else◌, List, [], ◌∷◌, ◌++◌, length, take, codes, Option, None, Some, option_map, is_some, bytes_eq, decimal}
+use Rattle.std.specs.Prelude.{◌≡◌, ◌≤◌, ◌<◌, ◌⊎◌, ℕ, suc, Bool, true, false, ◌&&◌, if◌then◌else◌, List, [], ◌∷◌, ◌++◌, length, take, codes, Option, None, Some, option_map, is_some, bytes_eq, decimal, ⊤}
 use Rattle.std.specs.Option.{option_and_then}
 use Rattle.qm_model.specs.Operations.{Bytes}
 use Rattle.qm_model.specs.Opening.{Chunks}
@@ -122,4 +122,4 @@ module _ (m : Scheme) (log : Log) (choices : List ℕ) (input : Bytes) where
 abbrev pub Says : Scheme → Stored → Bytes → ℕ → Type 0 → Bytes → Option Stored → Type 0
 Says m stored input status rose written left =
     (log : Log) → IsOwn (engine_of m policies) log stored
-    → (choices : List ℕ) → Turns (Some stored) left (HasEnds (chunks_of m) choices) → SaysOver m log choices input status rose written left
+    → (choices : List ℕ) → Turns (Some stored) left (HasEnds (chunks_of m) ⊤ choices) → SaysOver m log choices input status rose written left

@@ -1,6 +1,6 @@
 //! Runs of commands that were read already.
 
-ghost use Rattle.std.specs.Prelude.{◌≡◌, ◌≤◌, ◌<◌, List, ℕ, IfSome, false, length, map};
+ghost use Rattle.std.specs.Prelude.{◌≡◌, ◌≤◌, ◌<◌, List, ℕ, IfSome, false, length, map, ⊤};
 ghost use Rattle.qm_model.specs.Causes.{Rose};
 ghost use Rattle.qm_model.specs.Mmr as trees;
 ghost use Rattle.qm_model.specs.Own.{Log, IsOwn};
@@ -43,7 +43,7 @@ fn run_any<
     ensures machine { IfSome (C.told store) (λ stored. (log : Log)
         → IsOwn (engine_of (scheme trees.mmr U.form) P.rules) log stored → (choices : List ℕ)
         → Turns (C.told store) (C.told result.store)
-        (HasEnds (chunks_of (scheme trees.mmr U.form)) choices)
+        (HasEnds (chunks_of (scheme trees.mmr U.form)) ⊤ choices)
         → IsRun (scheme trees.mmr U.form) P.rules log choices
         (map (line_view ⟦<ByteKey as ByteString>⟧.bytes ⟦<ByteValue as ByteString>⟧.bytes
         (λ p. p)) commands.now)
@@ -79,7 +79,7 @@ pub fn run_commands<C: Store + Drop, P: Policy<mmr::Family, ByteKey, ByteValue> 
     ensures machine { IfSome (C.told store) (λ stored. (log : Log)
         → IsOwn (engine_of (machine_at false false) P.rules) log stored → (choices : List ℕ)
         → Turns (C.told store) (C.told result.store)
-        (HasEnds (chunks_of (machine_at false false)) choices)
+        (HasEnds (chunks_of (machine_at false false)) ⊤ choices)
         → IsRun (machine_at false false) P.rules log choices
         (map (line_view ⟦<ByteKey as ByteString>⟧.bytes ⟦<ByteValue as ByteString>⟧.bytes
         (λ p. p)) commands.now)

@@ -1,11 +1,12 @@
 //! The program's top call.
 
-ghost use Rattle.std.specs.Prelude.{List, ◌≡◌, ◌≢◌, ◌↔◌, ◌≤◌, ◌<◌, ◌+◌, ◌++◌, ◌^◌, ◌⊎◌, ℕ, false, true, Some, None, IfOk, IfSome, IsSome, ◌&&◌, if◌then◌else◌, codes, length, map, bytes_eq};
+ghost use Rattle.std.specs.Prelude.{List, ◌≡◌, ◌≢◌, ◌↔◌, ◌≤◌, ◌<◌, ◌+◌, ◌++◌, ◌^◌, ◌⊎◌, ℕ, false, true, Some, None, IfOk, IfSome, IsSome, ◌&&◌, if◌then◌else◌, codes, length, map, bytes_eq, Contains};
 ghost use Rattle.std.specs.Io.KnownBytes.{IsAtEnd};
 ghost use Rattle.std.specs.String.{string_bytes};
 ghost use Rattle.qm_model.specs.Causes.{Rose};
 ghost use Rattle.qm_model.specs.Operations.{Bytes};
-ghost use Rattle.qm_machine.specs.Grammar.{bad_in};
+ghost use Rattle.qm_machine.specs.Grammar.{bad_in, commands_in};
+ghost use Rattle.qm_machine.specs.Lines.{Destroy};
 ghost use Rattle.qm_model.specs.StoreModel.{Turns};
 ghost use Rattle.qm_engine.specs.Stores.{HasEnds};
 ghost use Rattle.qm_model.specs.Mmr as trees;
@@ -164,7 +165,8 @@ fn serve<
         × Says X.scheme stored input.now result.0
         (Rose (C.faults store) (C.faults result.1)) written (C.told result.1))) }
     ensures ends { (choices : List ℕ)
-        × Turns (C.told store) (C.told result.1) (HasEnds (chunks_of X.scheme) choices) }
+        × Turns (C.told store) (C.told result.1)
+        (HasEnds (chunks_of X.scheme) (Contains (commands_in input.now) Destroy) choices) }
     ensures write { result.0 ≡ 4 → Rose (K.faults sink.old) (K.faults sink.new) }
     ensures store { result.0 ≡ 6 → Rose (C.faults store) (C.faults result.1) }
     ensures codes { (result.0 ≡ 0)
@@ -204,7 +206,8 @@ fn serve_any<
         (Rose (C.faults store) (C.faults result.1)) written (C.told result.1))) }
     ensures ends { (choices : List ℕ)
         × Turns (C.told store) (C.told result.1)
-        (HasEnds (chunks_of (scheme trees.mmr U.form)) choices) }
+        (HasEnds (chunks_of (scheme trees.mmr U.form)) (Contains (commands_in input.now) Destroy)
+        choices) }
     ensures write { result.0 ≡ 4 → Rose (K.faults sink.old) (K.faults sink.new) }
     ensures store { result.0 ≡ 6 → Rose (C.faults store) (C.faults result.1) }
     ensures codes { (result.0 ≡ 0)
@@ -230,7 +233,8 @@ fn serve_current<
         (Rose (C.faults store) (C.faults result.1)) written (C.told result.1))) }
     ensures ends { (choices : List ℕ)
         × Turns (C.told store) (C.told result.1)
-        (HasEnds (chunks_of (current trees.mmr U.form)) choices) }
+        (HasEnds (chunks_of (current trees.mmr U.form)) (Contains (commands_in input.now) Destroy)
+        choices) }
     ensures write { result.0 ≡ 4 → Rose (K.faults sink.old) (K.faults sink.new) }
     ensures store { result.0 ≡ 6 → Rose (C.faults store) (C.faults result.1) }
     ensures codes { (result.0 ≡ 0)
@@ -256,7 +260,9 @@ fn run<C: Store + Drop, K: Sink, G: Gate>(
         × Says (machine_of named) stored input.now result.0
         (Rose (C.faults store) (C.faults result.1)) written (C.told result.1))) }
     ensures ends { (choices : List ℕ)
-        × Turns (C.told store) (C.told result.1) (HasEnds (chunks_of (machine_of named)) choices) }
+        × Turns (C.told store) (C.told result.1)
+        (HasEnds (chunks_of (machine_of named)) (Contains (commands_in input.now) Destroy)
+        choices) }
     ensures write { result.0 ≡ 4 → Rose (K.faults sink.old) (K.faults sink.new) }
     ensures store { result.0 ≡ 6 → Rose (C.faults store) (C.faults result.1) }
     ensures codes { (result.0 ≡ 0)
@@ -304,7 +310,8 @@ pub fn qmdb_main<C: Store + Drop, S: Source, K: Sink, G: Gate>(
     ensures unread { result.0 ≡ 1 → source.new ≡ source.old }
     ensures ends { (choices : List ℕ)
         × Turns (C.told store) (C.told result.1)
-        (HasEnds (chunks_named (map string_bytes words.now)) choices) }
+        (HasEnds (chunks_named (map string_bytes words.now))
+        (IfSome (S.left source.old) (λ input. Contains (commands_in input) Destroy)) choices) }
 
     // When each status comes.
     ensures usage { (result.0 ≡ 1) ↔ (are_words (map string_bytes words.now) ≡ false) }

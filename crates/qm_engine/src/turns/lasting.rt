@@ -4,7 +4,7 @@ ghost use Rattle.qm_model.specs.Schemes.{chunks_of};
 ghost use Rattle.qm_machine.specs.Lines.{Crash};
 ghost use Rattle.qm_machine.specs.Machine as machine;
 ghost use Rattle.qm_store.specs.Given.{store_given};
-ghost use Rattle.qm_engine.specs.Session.{ObeysHeld, ObeysHeldSteady, LeavesHeld, LeavesHeldSteady, Handles, HandlesLine};
+ghost use Rattle.qm_engine.specs.Session.{ObeysHeld, ObeysHeldSteady, LeavesHeld, LeavesHeldSteady, IsOpen, Handles, HandlesLine};
 ghost use Rattle.qm_engine.specs.Turn.{given_after, turn_settled};
 
 use crate::session::{Turn, into_store, no_database, turn_of};
@@ -30,7 +30,7 @@ pub fn open<X: Durable<C>, C: Store>(
     ensures left { (table : _) (count : ℕ)
         → LeavesHeldSteady C.Store X.Meaning table count held result.0 (λ s.
         machine.open_store X.scheme s max_size) }
-    ensures handles { Handles (chunks_of X.scheme) C.Store (store_given X.inside held)
+    ensures handles { Handles (chunks_of X.scheme) ⊥ C.Store (store_given X.inside held)
         (store_given X.inside result.0) result.1 }
     ensures opened { opened.new ≤ opened.old + 1 }
 {
@@ -78,7 +78,7 @@ pub fn commit<X: Durable<C>, C: Store>(
         result.0 result.1 machine.commit }
     ensures left { (table : _) (count : ℕ)
         → LeavesHeldSteady C.Store X.Meaning table count held result.0 machine.commit }
-    ensures handles { Handles (chunks_of X.scheme) C.Store (store_given X.inside held)
+    ensures handles { Handles (chunks_of X.scheme) ⊥ C.Store (store_given X.inside held)
         (store_given X.inside result.0) result.1 }
 {
     match held {
@@ -97,7 +97,7 @@ pub fn sync<X: Durable<C>, C: Store>(
         held count result.0 result.1 machine.commit }
     ensures left { (table : _) (count : ℕ)
         → LeavesHeldSteady C.Store X.Meaning table count held result.0 machine.commit }
-    ensures handles { Handles (chunks_of X.scheme) C.Store (store_given X.inside held)
+    ensures handles { Handles (chunks_of X.scheme) ⊥ C.Store (store_given X.inside held)
         (store_given X.inside result.0) result.1 }
 {
     match held {
@@ -118,7 +118,7 @@ pub fn prune<X: Durable<C>, C: Store>(
     ensures left { (table : _) (count : ℕ)
         → LeavesHeldSteady C.Store X.Meaning table count held result.0 (λ s.
         machine.prune X.scheme s to) }
-    ensures handles { Handles (chunks_of X.scheme) C.Store (store_given X.inside held)
+    ensures handles { Handles (chunks_of X.scheme) ⊥ C.Store (store_given X.inside held)
         (store_given X.inside result.0) result.1 }
 {
     match held {
@@ -136,7 +136,7 @@ pub fn close<X: Durable<C>, C: Store>(
         result.0 result.1 machine.close }
     ensures left { (table : _) (count : ℕ)
         → LeavesHeld C.Store X.Meaning table count held result.0 machine.close }
-    ensures handles { Handles (chunks_of X.scheme) C.Store (store_given X.inside held)
+    ensures handles { Handles (chunks_of X.scheme) ⊥ C.Store (store_given X.inside held)
         (store_given X.inside result.0) result.1 }
 {
     match held {
@@ -154,7 +154,7 @@ pub fn destroy<X: Durable<C>, C: Store>(
         result.0 result.1 machine.destroy }
     ensures left { (table : _) (count : ℕ)
         → LeavesHeldSteady C.Store X.Meaning table count held result.0 machine.destroy }
-    ensures handles { Handles (chunks_of X.scheme) C.Store (store_given X.inside held)
+    ensures handles { Handles (chunks_of X.scheme) (IsOpen held) C.Store (store_given X.inside held)
         (store_given X.inside result.0) result.1 }
 {
     match held {

@@ -12,10 +12,10 @@ use Rattle.qm_engine.specs.Stores.{IsLeft}
 use Rattle.qm_engine.specs.Session.{Holds, IsChosen}
 use Rattle.qm_store.specs.Given.{store_given}
 use Rattle.qm_engine.specs.Answered.{after_line}
-use Rattle.qm_engine.proofs.LastingStores.{turns-self}
+use Rattle.qm_engine.proofs.LastingStores.{turns-looser, turns-self}
 use Rattle.qm_engine.proofs.Commands.{left_none}
 use Rattle.qm_engine.proofs.Loops.{ended-at}
-use Rattle.qm_engine.proofs.Answerings.{none-any, none-then, same_turn, same_chosen, some-then, memory_cause, memory-no_fault, memory-not_bad, bad-not_done, bad-no_fault, none-not_some, one_at_most, line_is}
+use Rattle.qm_engine.proofs.Answerings.{none-any, none-then, same_turn, same_chosen, same_destroy, some-then, memory_cause, memory-no_fault, memory-not_bad, bad-not_done, bad-no_fault, none-not_some, one_at_most, line_is}
 use Rattle.qm_engine.proofs.answers.answer_line.Goals as goal
 
 pub returns-in-Err : goal.returns-in-Err
@@ -76,7 +76,7 @@ returns-in-Ok-Some g c =
       not_done = some-then c.answer-answered.result.1 c.answer-answered.ensures.cause (λ e why. why.0);
       ends = (
         ends.0,
-        ends.1,
+        turns-looser (chunks_of g.X.Meaning.scheme) ends.0 _ _ (λ destroys. sym line ∙ ap Some (same_destroy c.in-Ok-Some.command destroys)) ends.1,
         subst (λ (o : Option (Line Policy)). IfNone c.answer-answered.result.1 (IfSome o (λ command. IsChosen command ends.0))) line (none-then c.answer-answered.result.1 (same_chosen c.in-Ok-Some.command ends.0) ends.2),
       );
       later = c.answer-answered.ensures.later;

@@ -12,10 +12,10 @@ use Rattle.qm_store.specs.Given.{store_given}
 use Rattle.qm_engine.specs.Stores.{HasLog}
 use Rattle.qm_engine.specs.Runs.{after}
 use Rattle.qm_engine.specs.Answered.{IsAnswered}
-use Rattle.qm_engine.proofs.LastingStores.{turns-same, turns-through}
+use Rattle.qm_engine.proofs.LastingStores.{turns-looser, turns-same, turns-through}
 use Rattle.qm_engine.proofs.Loops.{ended-at, none-at, Between, each, log-of, begins-between, none-more, more-parts, Rose-wider}
 use Rattle.qm_engine.proofs.Owned.{own-of}
-use Rattle.qm_engine.proofs.Answerings.{at_next, at_short, line_step, line_goes, line-own, answered_in, answered_at, memory_cause, memory-not_fault, done-not_bad, done-not_fault}
+use Rattle.qm_engine.proofs.Answerings.{at_next, at_short, at_destroy, line_step, line_goes, line-own, answered_in, answered_at, memory_cause, memory-not_fault, done-not_bad, done-not_fault}
 use Rattle.qm_engine.proofs.answers.answer_lines.Goals as goal
 
 pub loop-line-init : goal.loop-line-init
@@ -62,7 +62,7 @@ returns-in-Some-ended g c =
           (answered_in c.args.input.now c.loop-line.rest.now c.in-Some.line.now c.in-Some.behind.now c.loop-line.answered c.loop-line.invariant.at c.in-Some.ensures.some
           m log (before.0 ++ behind.0) c.loop-line.text.items _
           (λ s. Between g.C.Store g.X.Meaning policies c.loop-line.session behind.0 s)
-          (c.loop-line.invariant.machine stored log is own before.0 behind.0 before.1)
+          (c.loop-line.invariant.machine stored log is own before.0 behind.0 (turns-looser (chunks_of g.X.Meaning.scheme) before.0 (g.C.Store.told c.args.store) _ (λ destroyed. tt) before.1))
           (λ s between none. own-of m policies _ s.log (rw (sym (c.answer_line-next.ensures.unused none)) at between.stands.store.told) between.sound.kept)
           (λ s between apart. line-own g.C.Store g.X.Meaning c.loop-line.session behind.0 (line_of c.in-Some.line.now) _ s (rw c.returned.ensures.store at c.returned.ensures.stable) between apart
           (c.answer_line-next.ensures.left s between.stands (sound-steady m policies g.X.Meaning.bounds s between.sound) apart)))));
@@ -73,7 +73,11 @@ returns-in-Some-ended g c =
       short = λ e.
           at_short c.args.input.now c.loop-line.rest.now c.in-Some.line.now c.in-Some.behind.now c.loop-line.answered c.loop-line.invariant.at c.in-Some.ensures.some
           (line_of c.in-Some.line.now) refl (c.answer_line-next.ensures.fault_command (c.in-Some-ended.is ∙ ap Some e));
-      ends = rw c.returned.ensures.store (before.0 ++ behind.0, turns-through (chunks_of g.X.Meaning.scheme) before.0 behind.0 (g.C.Store.told c.args.store) _ _ before.1 behind.1);
+      ends = rw c.returned.ensures.store (
+        before.0 ++ behind.0,
+        turns-through (chunks_of g.X.Meaning.scheme) before.0 behind.0 (g.C.Store.told c.args.store) _ _ (λ among. among)
+            (at_destroy c.args.input.now c.loop-line.rest.now c.in-Some.line.now c.in-Some.behind.now c.loop-line.answered c.loop-line.invariant.at c.in-Some.ensures.some) before.1 behind.1,
+      );
       bound = omega (arith, c.loop-line.invariant.room);
       later = rw c.returned.ensures.store (omega (arith, c.loop-line.invariant.later, c.answer_line-next.ensures.later));
       fault = λ e.
@@ -94,7 +98,11 @@ loop-line-preserved g c =
       room = omega (arith, c.in-Some.ensures.shorter);
       opened = omega arith;
       later = omega arith;
-      ends = (before.0 ++ behind.0, turns-through (chunks_of g.X.Meaning.scheme) before.0 behind.0 (g.C.Store.told c.args.store) _ _ before.1 behind.1);
+      ends = (
+        before.0 ++ behind.0,
+        turns-through (chunks_of g.X.Meaning.scheme) before.0 behind.0 (g.C.Store.told c.args.store) _ _ (λ among. among)
+            (at_destroy c.args.input.now c.loop-line.rest.now c.in-Some.line.now c.in-Some.behind.now c.loop-line.answered c.loop-line.invariant.at c.in-Some.ensures.some) before.1 behind.1,
+      );
       machine = λ stored log is own more rest told.
           subst (λ xs. Apart m.root (after m policies log xs lines (k + 1)).had → (c.answer_line-next.new.text.items ≡ text_of (answers m policies (initial log xs) (take (k + 1) lines))) × Between g.C.Store g.X.Meaning policies c.answer_line-next.result.0 rest (after m policies log xs lines (k + 1)))
           (sym (ap (λ xs. xs ++ rest) (more-parts (chunks_of g.X.Meaning.scheme) (g.C.Store.told c.args.store) _ _ stored before.0 behind.0 more is before.1 behind.1 told) ∙ append_assoc before.0 behind.0 rest))
@@ -102,9 +110,9 @@ loop-line-preserved g c =
           m log (before.0 ++ (behind.0 ++ rest)) (line_of c.in-Some.line.now) refl some c.loop-line.text.items c.answer_line-next.new.text.items
           (λ s. Between g.C.Store g.X.Meaning policies c.loop-line.session (behind.0 ++ rest) s)
           (λ s. Between g.C.Store g.X.Meaning policies c.answer_line-next.result.0 rest s)
-          (c.loop-line.invariant.machine stored log is own before.0 (behind.0 ++ rest) before.1)
+          (c.loop-line.invariant.machine stored log is own before.0 (behind.0 ++ rest) (turns-looser (chunks_of g.X.Meaning.scheme) before.0 (g.C.Store.told c.args.store) _ (λ destroyed. tt) before.1))
           (line_goes g.C.Store g.X.Meaning c.loop-line.session c.answer_line-next.result.0 behind.0 rest c.loop-line.text.items c.answer_line-next.new.text.items (line_of c.in-Some.line.now) (none-at _ c.in_default-ended.is behind.2)
-          (λ s stands steady choices. none-at _ c.in_default-ended.is (c.answer_line-next.ensures.machine s stands steady behind.0 rest behind.1 choices))));
+          (λ s stands steady choices. none-at _ c.in_default-ended.is (c.answer_line-next.ensures.machine s stands steady behind.0 rest (turns-looser (chunks_of g.X.Meaning.scheme) behind.0 _ _ (λ destroyed. tt) behind.1) choices))));
     }
 
 pub returns : goal.returns

@@ -1,3 +1,4 @@
+use Rattle.std.specs.Prelude.{Contains}
 use Rattle.std.proofs.Common.{◌≡◌, ◌+◌, ◌++◌, ◌∷◌, [], length, map, take, arith, refl, sym, ◌∙◌, ap, subst, Some, append_assoc, append-nil}
 use Rattle.std.proofs.lemmas.List.{length-map}
 use Rattle.qm_model.specs.Batches.{Apart}
@@ -9,8 +10,8 @@ use Rattle.qm_model.specs.Own.{IsKept}
 use Rattle.qm_engine.specs.Stores.{HasLog}
 use Rattle.qm_engine.specs.Runs.{IsRun, after}
 use Rattle.qm_machine.proofs.Sounds.{kept-low, sound-steady}
-use Rattle.qm_engine.proofs.LastingStores.{turns-same, turns-through}
-use Rattle.qm_engine.proofs.Loops.{ended-at, none-at, Between, each, loop_step, ended_in, ended_at, line_here, log-of, begins-between, goes-between, own-left, none-more, more-parts, Rose-wider}
+use Rattle.qm_engine.proofs.LastingStores.{turns-same, turns-through, turns-looser}
+use Rattle.qm_engine.proofs.Loops.{ended-at, none-at, Between, each, loop_step, ended_in, ended_at, line_here, log-of, begins-between, goes-between, own-left, none-more, more-parts, Rose-wider, command-among}
 use Rattle.qm_engine.proofs.Answerings.{end-memory_not_done, end-memory_not_fault, end-done_not_fault}
 use Rattle.qm_engine.proofs.runs.run.Goals as goal
 
@@ -65,12 +66,16 @@ returns-in-Some g c =
           (rw (length-map c.args.commands.now f) c.loop-command-test.true)
           (line_here f c.args.commands.now i c.command-item.result c.loop-command-test.true c.command-item.is)
           (length-map c.loop-command.replies.items a ∙ c.loop-command.invariant.count)
-          (c.loop-command.invariant.machine stored log is own before.0 behind.0 before.1)
+          (c.loop-command.invariant.machine stored log is own before.0 behind.0 (turns-looser (chunks_of g.X.Meaning.scheme) before.0 (g.C.Store.told c.args.store) _ (λ destroyed. tt) before.1))
           (λ s between apart. own-left g.C.Store g.X.Meaning g.P.Policy.rules c.loop-command.session behind.0 (f c.command-item.result) _ s (rw c.returned.ensures.store at c.returned.ensures.stable) between apart
           (c.step-next.ensures.left s between.stands (sound-steady g.X.Meaning.scheme g.P.Policy.rules g.X.Meaning.bounds s between.sound) apart)))));
       done = λ e. absurd (ended-at _ c.in-Some.is c.step-next.ensures.not_done e);
       short = λ e. omega (arith, ap length kept, c.loop-command.invariant.count, c.loop-command-test.true);
-      ends = rw c.returned.ensures.store (before.0 ++ behind.0, turns-through (chunks_of g.X.Meaning.scheme) before.0 behind.0 (g.C.Store.told c.args.store) _ _ before.1 behind.1);
+      ends = rw c.returned.ensures.store (
+        before.0 ++ behind.0,
+        turns-through (chunks_of g.X.Meaning.scheme) before.0 behind.0 (g.C.Store.told c.args.store) _ _ (λ among. among)
+            (λ destroys. subst (Contains (map f c.args.commands.now)) destroys (command-among f c.args.commands.now i c.command-item.result c.loop-command-test.true c.command-item.is)) before.1 behind.1,
+      );
       later = rw c.returned.ensures.store (omega (arith, c.loop-command.invariant.later, c.step-next.ensures.later));
       fault = λ e.
           let rose = c.step-next.ensures.fault (c.in-Some.is ∙ ap Some e) in
@@ -93,7 +98,11 @@ loop-command-preserved g c =
       count = grown ∙ ap (λ n. n + 1) c.loop-command.invariant.count;
       opened = omega arith;
       later = omega arith;
-      ends = (before.0 ++ behind.0, turns-through (chunks_of g.X.Meaning.scheme) before.0 behind.0 (g.C.Store.told c.args.store) _ _ before.1 behind.1);
+      ends = (
+        before.0 ++ behind.0,
+        turns-through (chunks_of g.X.Meaning.scheme) before.0 behind.0 (g.C.Store.told c.args.store) _ _ (λ among. among)
+            (λ destroys. subst (Contains (map f c.args.commands.now)) destroys (command-among f c.args.commands.now i c.command-item.result c.loop-command-test.true c.command-item.is)) before.1 behind.1,
+      );
       machine = λ stored log is own more rest told.
           subst (λ xs. Apart m.root (after m rules log xs lines (i + 1)).had → (map a c.step-next.new.replies.items ≡ answers m rules (initial log xs) (take (i + 1) lines)) × Between g.C.Store g.X.Meaning rules c.step-next.result.0 rest (after m rules log xs lines (i + 1)))
           (sym (ap (λ xs. xs ++ rest) (more-parts (chunks_of g.X.Meaning.scheme) (g.C.Store.told c.args.store) _ _ stored before.0 behind.0 more is before.1 behind.1 told) ∙ append_assoc before.0 behind.0 rest))
@@ -102,9 +111,9 @@ loop-command-preserved g c =
           (λ s. Between g.C.Store g.X.Meaning rules c.step-next.result.0 rest s)
           (rw (length-map c.args.commands.now f) c.loop-command-test.true)
           (line_here f c.args.commands.now i c.command-item.result c.loop-command-test.true c.command-item.is)
-          (c.loop-command.invariant.machine stored log is own before.0 (behind.0 ++ rest) before.1)
+          (c.loop-command.invariant.machine stored log is own before.0 (behind.0 ++ rest) (turns-looser (chunks_of g.X.Meaning.scheme) before.0 (g.C.Store.told c.args.store) _ (λ destroyed. tt) before.1))
           (goes-between g.C.Store g.X.Meaning rules c.loop-command.session c.step-next.result.0 behind.0 rest (f c.command-item.result) (λ s. map a c.step-next.new.replies.items ≡ map a c.loop-command.replies.items ++ (turn m rules s (f c.command-item.result)).0 ∷ []) chosen
-          (λ s stands sound choices. none-at _ c.in_default.is (c.step-next.ensures.machine s stands sound behind.0 rest behind.1 choices))));
+          (λ s stands sound choices. none-at _ c.in_default.is (c.step-next.ensures.machine s stands sound behind.0 rest (turns-looser (chunks_of g.X.Meaning.scheme) behind.0 _ _ (λ destroyed. tt) behind.1) choices))));
     }
 
 pub returns : goal.returns

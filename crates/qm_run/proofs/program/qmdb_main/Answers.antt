@@ -1,15 +1,17 @@
+use Rattle.qm_model.specs.Schemes.{chunks_of}
+use Rattle.qm_machine.specs.Lines.{Destroy}
 use Rattle.std.proofs.Common.{◌≡◌, ◌<◌, ◌++◌, ℕ, List, [], length, map, sym, Some, None, Err, refl, ◌∙◌, ap, subst, inl, inr, IfSome}
-use Rattle.std.specs.Prelude.{IsSome, is_some}
+use Rattle.std.specs.Prelude.{IsSome, is_some, Contains}
 use Rattle.std.proofs.lemmas.Bool.{false≢true}
 use Rattle.std.specs.String.{string_bytes}
 use Rattle.qm_model.specs.Causes.{Rose}
 use Rattle.qm_model.specs.Operations.{Bytes}
-use Rattle.qm_machine.specs.Grammar.{bad_in}
+use Rattle.qm_machine.specs.Grammar.{bad_in, commands_in}
 use Rattle.qm_lines.specs.declared.whole.TheConstants.{LIMIT}
 use Rattle.qm_engine.specs.Stores.{HasEnds}
 use Rattle.qm_model.specs.StoreModel.{Turns}
 use Rattle.qm_run.specs.Program.{Says, chunks_named, kind_of_words, machine_of}
-use Rattle.qm_engine.proofs.LastingStores.{turns-self}
+use Rattle.qm_engine.proofs.LastingStores.{turns-self, turns-looser}
 use Rattle.qm_engine.proofs.Loops.{each}
 use Rattle.qm_run.proofs.Sayings.{says_nothing, says_unstarted, unchanged, each_input, each_more, both, at_none, at_kind, named-chunks, differ, no_four, at_most_seven, not_both, served-not_early, served-few, served-good, served-bad}
 use Rattle.qm_run.proofs.program.qmdb_main.Goals as goal
@@ -126,8 +128,14 @@ returns-in-Ok g c =
           subst (λ i. IfSome (g.K.Sink.text c.args.sink.now) (λ before. (w : Bytes) × (g.K.Sink.text c.run.new.sink ≡ Some (before ++ w)) × Says m stored i c.run.result.0 rose w (g.C.Store.told c.run.result.1))) (c.deref.ensures.value ∙ e) served));
       untouched = served-not_early c.run.ensures.codes;
       unread = λ e. served-not_early c.run.ensures.codes (inl e);
-      ends = subst (λ chunks. (choices : List ℕ) × Turns (g.C.Store.told c.args.store) (g.C.Store.told c.run.result.1) (HasEnds chunks choices))
-          (sym (named-chunks (kind_of_words (map string_bytes c.args.words.now)) c.in-Some.named (sym c.kind_from.ensures ∙ c.in-Some.is))) c.run.ensures.ends;
+      ends =
+          let chosen = c.run.ensures.ends in
+          subst (λ chunks. (choices : List ℕ) × Turns (g.C.Store.told c.args.store) (g.C.Store.told c.run.result.1) (HasEnds chunks (IfSome (g.S.Source.left c.args.source.now) (λ input. Contains (commands_in input) Destroy)) choices))
+          (sym (named-chunks (kind_of_words (map string_bytes c.args.words.now)) c.in-Some.named (sym c.kind_from.ensures ∙ c.in-Some.is))) (
+            chosen.0,
+            turns-looser (chunks_of (machine_of c.in-Some.named)) chosen.0 (g.C.Store.told c.args.store) (g.C.Store.told c.run.result.1)
+                (λ among. each_more (g.S.Source.left c.args.source.now) c.in-Ok.ensures.all (λ input is same. subst (λ i. Contains (commands_in i) Destroy) (c.deref.ensures.value ∙ same) among)) chosen.1,
+          );
       usage = (λ e. served-not_early c.run.ensures.codes (inl e), λ none. absurd (false≢true (sym none ∙ are)));
       read = λ e. served-not_early c.run.ensures.codes (inr (inl e));
       steady = λ other. c.in-Ok.ensures.steady (λ e. absurd (cc e));

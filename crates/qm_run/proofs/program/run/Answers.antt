@@ -1,3 +1,6 @@
+use Rattle.qm_machine.specs.Lines.{Destroy}
+use Rattle.qm_machine.specs.Grammar.{commands_in}
+use Rattle.std.specs.Prelude.{Contains}
 use Rattle.std.proofs.Common.{◌≡◌, ℕ, List, IfSome, subst}
 use Rattle.qm_model.specs.Causes.{Rose}
 use Rattle.qm_model.specs.Schemes.{chunks_of}
@@ -15,7 +18,7 @@ returns-in-false-false-clause-headline g c =
 
 pub returns-in-false-false-clause-ends : goal.returns-in-false-false-clause-ends
 returns-in-false-false-clause-ends g c =
-    subst (λ m. (choices : List ℕ) × Turns (g.C.Store.told c.args.store) (g.C.Store.told c.serve_any-in-false-false.result.1) (HasEnds (chunks_of m) choices))
+    subst (λ m. (choices : List ℕ) × Turns (g.C.Store.told c.args.store) (g.C.Store.told c.serve_any-in-false-false.result.1) (HasEnds (chunks_of m) (Contains (commands_in c.args.input.now) Destroy) choices))
     (machine-named c.args.named c.in-false-false.is-0 c.in-false-false.is-1) c.serve_any-in-false-false.ensures.ends
 
 pub returns-in-false-true-clause-headline : goal.returns-in-false-true-clause-headline
@@ -26,7 +29,7 @@ returns-in-false-true-clause-headline g c =
 
 pub returns-in-false-true-clause-ends : goal.returns-in-false-true-clause-ends
 returns-in-false-true-clause-ends g c =
-    subst (λ m. (choices : List ℕ) × Turns (g.C.Store.told c.args.store) (g.C.Store.told c.serve_any.result.1) (HasEnds (chunks_of m) choices))
+    subst (λ m. (choices : List ℕ) × Turns (g.C.Store.told c.args.store) (g.C.Store.told c.serve_any.result.1) (HasEnds (chunks_of m) (Contains (commands_in c.args.input.now) Destroy) choices))
     (machine-named c.args.named c.in-false-true.is-0 c.in-false-true.is-1) c.serve_any.ensures.ends
 
 pub returns-in-true-false-clause-headline : goal.returns-in-true-false-clause-headline
@@ -37,7 +40,7 @@ returns-in-true-false-clause-headline g c =
 
 pub returns-in-true-false-clause-ends : goal.returns-in-true-false-clause-ends
 returns-in-true-false-clause-ends g c =
-    subst (λ m. (choices : List ℕ) × Turns (g.C.Store.told c.args.store) (g.C.Store.told c.serve_current-in-true-false.result.1) (HasEnds (chunks_of m) choices))
+    subst (λ m. (choices : List ℕ) × Turns (g.C.Store.told c.args.store) (g.C.Store.told c.serve_current-in-true-false.result.1) (HasEnds (chunks_of m) (Contains (commands_in c.args.input.now) Destroy) choices))
     (machine-named c.args.named c.in-true-false.is-0 c.in-true-false.is-1) c.serve_current-in-true-false.ensures.ends
 
 pub returns-in-true-true-clause-headline : goal.returns-in-true-true-clause-headline
@@ -48,5 +51,5 @@ returns-in-true-true-clause-headline g c =
 
 pub returns-in-true-true-clause-ends : goal.returns-in-true-true-clause-ends
 returns-in-true-true-clause-ends g c =
-    subst (λ m. (choices : List ℕ) × Turns (g.C.Store.told c.args.store) (g.C.Store.told c.serve_current.result.1) (HasEnds (chunks_of m) choices))
+    subst (λ m. (choices : List ℕ) × Turns (g.C.Store.told c.args.store) (g.C.Store.told c.serve_current.result.1) (HasEnds (chunks_of m) (Contains (commands_in c.args.input.now) Destroy) choices))
     (machine-named c.args.named c.in-true-true.is-0 c.in-true-true.is-1) c.serve_current.ensures.ends

@@ -1,3 +1,4 @@
+use Rattle.std.specs.Prelude.{⊤}
 use Rattle.std.proofs.Common.{◌≡◌, ℕ, List, ◌++◌, [], take, refl, sym, ◌∙◌, subst, inl, inr}
 use Rattle.qm_model.specs.Causes.{Rose, Grows, GrowsPart}
 use Rattle.qm_model.specs.Operations.{Bytes}
@@ -21,7 +22,7 @@ returns-in-Err-clause-headline g c =
     let is : (log : Log) (choices : List ℕ) → IsWhole g.X.Meaning.scheme log choices input rose k ending = λ log choices. is_whole g.X.Meaning.scheme log choices input rose k ending c.answer_lines-text.ensures.done c.answer_lines-text.ensures.bad c.answer_lines-text.ensures.fault c.answer_lines-text.ensures.short in
     unchanged g.X.Meaning.scheme stored input 5 rose left (g.K.Sink.text c.args.sink.now)
     (λ log own choices turns. says_part g.X.Meaning.scheme log choices input rose 5 [] left k (inr refl)
-    (partial g.X.Meaning.scheme log choices input rose text k left (answered log own choices (subst (λ o. Turns o left (HasEnds (chunks_of g.X.Meaning.scheme) choices)) (sym told) turns)) ending (is log choices) 0)))
+    (partial g.X.Meaning.scheme log choices input rose text k left (answered log own choices (subst (λ o. Turns o left (HasEnds (chunks_of g.X.Meaning.scheme) ⊤ choices)) (sym told) turns)) ending (is log choices) 0)))
 
 pub returns-in-Ok-write_all-clause-headline : goal.returns-in-Ok-write_all-clause-headline
 returns-in-Ok-write_all-clause-headline g c =
@@ -37,7 +38,7 @@ returns-in-Ok-write_all-clause-headline g c =
     subst (λ s. Told g.X.Meaning.scheme stored input s rose left (g.K.Sink.text c.args.sink.now) (g.K.Sink.text c.write_all.new.sink)) (sym c.status_of.ensures)
     (grown g.X.Meaning.scheme stored input (tail_status ending) rose left (g.K.Sink.text c.args.sink.now) (g.K.Sink.text c.write_all.new.sink) (text ++ tail_text ending k)
     (subst (Grows (g.K.Sink.text c.args.sink.now) (g.K.Sink.text c.write_all.new.sink)) spelt c.in-Ok-write_all.ensures.ok)
-    (λ log own choices turns. whole g.X.Meaning.scheme log choices input rose text k left (answered log own choices (subst (λ o. Turns o left (HasEnds (chunks_of g.X.Meaning.scheme) choices)) (sym told) turns)) ending (is log choices))))
+    (λ log own choices turns. whole g.X.Meaning.scheme log choices input rose text k left (answered log own choices (subst (λ o. Turns o left (HasEnds (chunks_of g.X.Meaning.scheme) ⊤ choices)) (sym told) turns)) ending (is log choices))))
 
 pub returns-in-Err-Failed-clause-headline : goal.returns-in-Err-Failed-clause-headline
 returns-in-Err-Failed-clause-headline g c =
@@ -53,7 +54,7 @@ returns-in-Err-Failed-clause-headline g c =
     grown_part g.X.Meaning.scheme stored input 4 rose left (g.K.Sink.text c.args.sink.now) (g.K.Sink.text c.write_all.new.sink) (text ++ tail_text ending k)
     (subst (GrowsPart (g.K.Sink.text c.args.sink.now) (g.K.Sink.text c.write_all.new.sink)) spelt c.in-Err-Failed.ensures.err)
     (λ n log own choices turns. says_part g.X.Meaning.scheme log choices input rose 4 (take n (text ++ tail_text ending k)) left k (inl refl)
-    (partial g.X.Meaning.scheme log choices input rose text k left (answered log own choices (subst (λ o. Turns o left (HasEnds (chunks_of g.X.Meaning.scheme) choices)) (sym told) turns)) ending (is log choices) n)))
+    (partial g.X.Meaning.scheme log choices input rose text k left (answered log own choices (subst (λ o. Turns o left (HasEnds (chunks_of g.X.Meaning.scheme) ⊤ choices)) (sym told) turns)) ending (is log choices) n)))
 
 pub returns-clause-headline : goal.returns-clause-headline
 returns-clause-headline g c =
@@ -69,4 +70,4 @@ returns-clause-headline g c =
     grown_part g.X.Meaning.scheme stored input 5 rose left (g.K.Sink.text c.args.sink.now) (g.K.Sink.text c.write_all.new.sink) (text ++ tail_text ending k)
     (subst (GrowsPart (g.K.Sink.text c.args.sink.now) (g.K.Sink.text c.write_all.new.sink)) spelt c.in-Err-Memory.ensures.err)
     (λ n log own choices turns. says_part g.X.Meaning.scheme log choices input rose 5 (take n (text ++ tail_text ending k)) left k (inr refl)
-    (partial g.X.Meaning.scheme log choices input rose text k left (answered log own choices (subst (λ o. Turns o left (HasEnds (chunks_of g.X.Meaning.scheme) choices)) (sym told) turns)) ending (is log choices) n)))
+    (partial g.X.Meaning.scheme log choices input rose text k left (answered log own choices (subst (λ o. Turns o left (HasEnds (chunks_of g.X.Meaning.scheme) ⊤ choices)) (sym told) turns)) ending (is log choices) n)))

@@ -1,3 +1,6 @@
+use Rattle.qm_machine.specs.Lines.{Destroy}
+use Rattle.qm_machine.specs.Grammar.{commands_in}
+use Rattle.std.specs.Prelude.{Contains}
 use Rattle.std.proofs.Common.{◌≡◌, ℕ, List, IfSome, refl, subst}
 use Rattle.qm_model.specs.Causes.{Rose}
 use Rattle.qm_model.specs.Mmr.{mmr}
@@ -16,5 +19,5 @@ returns-clause-headline g c =
 
 pub returns-clause-ends : goal.returns-clause-ends
 returns-clause-ends g c =
-    subst (λ m. (choices : List ℕ) × Turns (g.C.Store.told c.args.store) (g.C.Store.told c.serve.result.1) (HasEnds (chunks_of m) choices))
+    subst (λ m. (choices : List ℕ) × Turns (g.C.Store.told c.args.store) (g.C.Store.told c.serve.result.1) (HasEnds (chunks_of m) (Contains (commands_in c.args.input.now) Destroy) choices))
     (current-same g.U.Update.form g.I.Unordered.index_key) c.serve.ensures.ends

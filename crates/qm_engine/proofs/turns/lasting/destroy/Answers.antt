@@ -18,11 +18,11 @@ returns-in-Ok-clause-left g c = λ table opened s k steady apart.
     destroyed_left g.C.Store g.X.Meaning g.X.Key.ByteString.bytes g.X.Value.ByteString.bytes g.X.Digest.Digest.bytes c.in-Database.x table opened s (rw c.in-Database.is at k) g.met.X.Common.bare c.in-Ok.store c.in-Ok.ensures.told
 
 pub returns-in-Ok-clause-handles : goal.returns-in-Ok-clause-handles
-returns-in-Ok-clause-handles g c = rw c.in-Database.is (destroyed_handles g.C.Store g.X.Meaning g.X.Key.ByteString.bytes g.X.Value.ByteString.bytes g.X.Digest.Digest.bytes c.in-Database.x c.in-Ok.store c.in-Ok.ensures.told c.in-Ok.ensures.later)
+returns-in-Ok-clause-handles g c = rw c.in-Database.is (destroyed_handles g.C.Store g.X.Meaning g.X.Key.ByteString.bytes g.X.Value.ByteString.bytes g.X.Digest.Digest.bytes c.in-Database.x c.in-Ok.store tt c.in-Ok.ensures.told c.in-Ok.ensures.later)
 
 pub returns-in-Err-clause-left : goal.returns-in-Err-clause-left
 returns-in-Err-clause-left g c = λ table opened s k steady apart.
     undestroyed_left g.C.Store g.X.Meaning g.X.Key.ByteString.bytes g.X.Value.ByteString.bytes g.X.Digest.Digest.bytes c.in-Database.x table opened s (rw c.in-Database.is at k) g.met.X.Common.bare steady c.in-Err.field-0 c.in-Err.ensures.failed
 
 pub returns-in-Err-clause-handles : goal.returns-in-Err-clause-handles
-returns-in-Err-clause-handles g c = rw (c.in-Database.is, c.turn_of.ensures) (undestroyed_handles g.C.Store g.X.Meaning g.X.Key.ByteString.bytes g.X.Value.ByteString.bytes g.X.Digest.Digest.bytes c.in-Database.x c.in-Err.field-0 c.in-Err.ensures.failed)
+returns-in-Err-clause-handles g c = rw (c.in-Database.is, c.turn_of.ensures) (undestroyed_handles g.C.Store g.X.Meaning g.X.Key.ByteString.bytes g.X.Value.ByteString.bytes g.X.Digest.Digest.bytes c.in-Database.x c.in-Err.field-0 tt c.in-Err.ensures.failed)
