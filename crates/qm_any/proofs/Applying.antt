@@ -13,10 +13,10 @@ pub after-both : {X C : Type 0} (inside : X → C) (r : Result X (Refusal X C)) 
 after-both inside (Ok x) P p q = p
 after-both inside (Err e) P p q = q
 
--- what is told of an error by three clauses
-pub err-three : {X E : Type 0} {P Q R S : E → Type 0} (r : Result X E) → IfErr r P → IfErr r Q → IfErr r R → ((e : E) → P e → Q e → R e → S e) → IfErr r S
-err-three (Ok x) p q s join = tt
-err-three (Err e) p q s join = join e p q s
+-- what is told of an error by four clauses
+pub err-four : {X E : Type 0} {P Q R T S : E → Type 0} (r : Result X E) → IfErr r P → IfErr r Q → IfErr r R → IfErr r T → ((e : E) → P e → Q e → R e → T e → S e) → IfErr r S
+err-four (Ok x) p q s t join = tt
+err-four (Err e) p q s t join = join e p q s t
 
 module _ {P : Type 0} (e : Error) (why : (e ≡ errors.Memory) ⊎ ((e ≡ errors.StaleBatch) × P)) where
   -- what a stale batch tells

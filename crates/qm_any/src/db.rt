@@ -2,7 +2,7 @@
 
 ghost use Rattle.std.specs.Prelude.{◌≡◌, ◌≢◌, ◌⊎◌, ◌↔◌, ◌≤◌, ◌+◌, ◌^◌, ◌++◌, ◌∷◌, ℕ, [], List, nat_lt, true, false, length, map, option_map, Contains, IsSome, IfSome, if◌then◌else◌, IfOk, IfErr, OnOk, OnErr};
 ghost use Rattle.qm_model.specs.Batches.{Chain, IsOnChain, begun_on};
-ghost use Rattle.qm_model.specs.Causes.{IsCause};
+ghost use Rattle.qm_model.specs.Causes.{IsCause, Rose};
 ghost use Rattle.qm_model.specs.Live as lives;
 ghost use Rattle.qm_model.specs.Forms.{spelling};
 ghost use Rattle.qm_model.specs.Operations.{Operation, IsCommitEnded};
@@ -315,8 +315,8 @@ impl<
     }
 
     /// Appends the operations that the database does not have yet, those of kept ancestors that are not applied and the batch's own, and
-    /// updates the index. `StaleBatch` gives the database back as it was. Want of memory gives back the database as it was or, once the
-    /// store was called, the store, which may have a first part of the new operations. A failed store is given back so too.
+    /// updates the index. `StaleBatch` gives the database back as it was, and so does want of memory before the store was called. Want of
+    /// memory after that gives back the store, which may have a first part of the new operations; a failed store is given back so too.
     pub fn apply_batch(
         self,
         alloc: Global,
@@ -331,6 +331,8 @@ impl<
             → IfOk result (λ next. ⟦<Self as LaidOut>⟧.stands next tip) }
         ensures moved { IfOk result (λ next. (next.commitment ≡ batch.now.bounds.tip)
             × (next.activity.pruned ≡ self.activity.pruned)) }
+        ensures called { IfOk result (λ next.
+            Rose (C.calls self.log.store) (C.calls next.log.store)) }
         ensures fits { OnOk result (can_apply self batch.now ≡ true) }
         ensures appends { (chain : Chain) (tip : List Operation)
             → IsMade ⟦<Self as LaidOut>⟧.layout.hashing batch.now chain tip
@@ -390,6 +392,8 @@ impl<
             (map (λ v. v.items) lacking.entry.items.items)) }
         ensures back { IfErr result (λ r. (x : Database C H.Digest) → r.given ≡ Given.Database x
             → (x ≡ self) × (r.error ≡ Error.Memory)) }
+        ensures called { IfErr result (λ r. (s : C) → r.given ≡ Given.Store s
+            → Rose (C.calls self.log.store) (C.calls s)) }
         ensures causes { IfErr result (λ r.
             (r.error ≡ Error.Memory) ⊎ (r.error ≡ Error.Journal JournalError.Store)) }
         ensures cause { IfErr result (λ r.
@@ -897,6 +901,7 @@ fn given_back<
     ensures store { store_given (λ db. db.log.store) result ≡ logs.store_given given }
     ensures back { (x : Database C H.Digest) → result ≡ Given.Database x
         → (given ≡ LogGiven.Log x.log) × (x ≡ over state x.log) }
+    ensures kept { (s : C) → result ≡ Given.Store s → given ≡ LogGiven.Store s }
 {
     match given {
         LogGiven::Log(log) => Given::Database(state.over(log)),

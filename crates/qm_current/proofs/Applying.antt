@@ -2,6 +2,7 @@
 use Rattle.std.proofs.Common.{◌≡◌, ◌∙◌, ◌≤◌, ℕ, true, List, [], ◌∷◌, ◌++◌, map, Option, None, Some, IfSome, ap, sym, subst, refl, inl, inr}
 use Rattle.std.specs.Prelude.{Contains, Result, Ok, Err, IfOk, IfErr, OnOk, if◌then◌else◌}
 use Rattle.std.specs.Option.{option_map_or}
+use Rattle.qm_model.specs.Causes.{Rose}
 use Rattle.qm_model.specs.Operations.{Bytes, Operation}
 use Rattle.qm_model.specs.Opening.{count_in}
 use Rattle.qm_model.specs.StoreModel.{Stored, except_items, metadata_in}
@@ -84,8 +85,8 @@ module _ {C D : Type 0} (members : store.Ghosts C) (old : anys.Database C D) (ba
       at (Ok db) is gone = subst (λ (x : anys.Database C D). KeepsRest members old.log.store x.log.store) (sym is) rest
       at (Err e) is gone = subst (λ g. KeepsRest members old.log.store (store_given store_in g)) (sym gone.0) rest
 
-  pub joined-unapplied : KeepsRest members old.log.store next.log.store → IfErr (any_answer r) (IsUnapplied members old batch)
-  joined-unapplied rest = at r taken refused
+  pub joined-unapplied : KeepsRest members old.log.store next.log.store → Rose (members.calls old.log.store) (members.calls next.log.store) → IfErr (any_answer r) (IsUnapplied members old batch)
+  joined-unapplied rest counted = at r taken refused
     where
       at : (r : Answer) → IfOk r (λ db. db.any ≡ next) → IfErr r (λ e. (e.given ≡ given.Store next.log.store) × (e.error ≡ errors.Memory)) → IfErr (any_answer r) (IsUnapplied members old batch)
       at (Ok db) is gone = tt
@@ -97,6 +98,7 @@ module _ {C D : Type 0} (members : store.Ghosts C) (old : anys.Database C D) (ba
             stale = λ stale. absurd (cc (memory, stale));
             back = λ x back. absurd (cc (store_is, back));
             causes = inr (inl memory);
+            called = λ s given. let same : next.log.store ≡ s = cc (store_is, given) in subst (λ t. Rose (members.calls old.log.store) (members.calls t)) same counted;
             cause = memory-cause (members.faults old.log.store) (members.faults (store_given anys_applying.store_in (any_given e.given))) e.error
                 (subst (λ s. members.faults old.log.store ≤ members.faults s) (sym after) rest.later) memory;
           }

@@ -186,8 +186,8 @@ impl<
 > Db<F, C, I, H, U, N> {
     /// Takes the batch's tip list, as the any database does, and with it the grafted tree and the canonical root: nothing is hashed.
     /// The commitment alone decides whether the batch is stale, and not on which instance its chain began. The database comes back as
-    /// it was if the batch is stale. If memory lacks it comes back as it was, or its store does, which may have a first part of
-    /// what the list adds, or all of it; if the store failed, its store does.
+    /// it was if the batch is stale, or if memory lacks before its store was called. If memory lacks after that its store comes back,
+    /// which may have a first part of what the list adds, or all of it; so it does if it failed.
     pub fn apply_batch(
         self,
         alloc: Global,

@@ -6,10 +6,11 @@ pub record Extent : Type 0 where
   pub start : ℕ
   pub count : ℕ
 
--- with how often it has failed
+-- with how often it has failed, and how often it was called
 pub record Counted : Type 0 where
   pub items : Extent
   pub faults : ℕ
+  pub calls : ℕ
 
 -- where its items end
 abbrev pub end_of : Extent → ℕ

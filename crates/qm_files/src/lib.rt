@@ -68,7 +68,7 @@
 
 ghost use Rattle.std.specs.Prelude.{◌≡◌, ◌+◌, ◌^◌, ◌≤◌, ◌<◌, length, None, IfOk, OnOk, IsErrOf};
 ghost use Rattle.std.proofs.Math.Nat.{le-add_right};
-ghost use Rattle.qm_model.specs.Causes.{IsCause};
+ghost use Rattle.qm_model.specs.Causes.{IsCause, Rose};
 ghost use Rattle.qm_files.specs.Files.{end_of};
 
 use folder::{Folder, Held, LOG, SUMS};
@@ -135,6 +135,8 @@ pub struct FileStore<R: Files> {
     // the file of metadata that is not what was written
     damaged: Option<String>,
     failed: u64,
+    // how often the store was called
+    called: u64,
 }
 
 impl<R: Files> Model for FileStore<R> {
@@ -142,7 +144,7 @@ impl<R: Files> Model for FileStore<R> {
 
     ghost Value = { Counted };
 
-    ghost view = { λ s. record { items = s.log; faults = s.failed } };
+    ghost view = { λ s. record { items = s.log; faults = s.failed; calls = s.called } };
 }
 
 // The options of a file that is only read.
@@ -235,6 +237,7 @@ where
             trouble: Trouble::Unknown,
             damaged: None,
             failed: 0,
+            called: 0,
         };
         match store.load() {
             Ok(()) => Ok(store),
@@ -335,12 +338,14 @@ where
         }
     }
 
-    // Counts an answer if it is a fault.
+    // Counts a call, and its answer if it is a fault.
     fn counted<T>(&mut self, answer: Result<T, StoreError>) -> Result<T, StoreError>
         ensures same { result ≡ answer }
         ensures items { self.new.items ≡ self.old.items }
         ensures cause { IsCause self.old.faults self.new.faults (IsErrOf result StoreError.Failed) }
+        ensures counted { Rose self.old.calls self.new.calls }
     {
+        self.called = self.called.saturating_add(1);
         if let Err(StoreError::Failed) = &answer {
             self.failed = self.failed.saturating_add(1);
         }
@@ -463,6 +468,7 @@ where
         ensures grows { self.old.items.count ≤ self.new.items.count }
         ensures within { self.new.items.count ≤ self.old.items.count + length added.now }
         ensures faults { self.new.faults ≡ self.old.faults }
+        ensures calls { self.new.calls ≡ self.old.calls }
     {
         self.check()?;
         if added.is_empty() {
@@ -507,6 +513,7 @@ where
         ensures start { self.new.items.start ≡ self.old.items.start }
         ensures within { self.new.items.count ≤ self.old.items.count }
         ensures faults { self.new.faults ≡ self.old.faults }
+        ensures calls { self.new.calls ≡ self.old.calls }
     {
         self.check()?;
         if to == self.log.end() {
@@ -609,6 +616,7 @@ where
         ensures within { end_of self.new.items ≤ end_of self.old.items + more }
         ensures start { self.old.items.start ≡ to → self.new.items.start ≡ to }
         ensures faults { self.new.faults ≡ self.old.faults }
+        ensures calls { self.new.calls ≡ self.old.calls }
     {
         self.take_folder()?;
         let (log, sums) = match self.new_files(to, head, added, more) {
@@ -635,6 +643,7 @@ where
         ensures ok { OnOk result (self.new.items.start ≡ to) }
         ensures end { end_of self.new.items ≡ end_of self.old.items }
         ensures faults { self.new.faults ≡ self.old.faults }
+        ensures calls { self.new.calls ≡ self.old.calls }
     {
         self.check()?;
         self.replace_log(to, head, &[], 0)
@@ -676,6 +685,7 @@ where
         ensures start { self.new.items.start ≡ self.old.items.start }
         ensures within { self.new.items.count ≤ self.old.items.count }
         ensures faults { self.new.faults ≡ self.old.faults }
+        ensures calls { self.new.calls ≡ self.old.calls }
     {
         self.check()?;
         if !self.folder.is_held() {
@@ -704,6 +714,7 @@ where
         ensures ok { OnOk result (self.new.items ≡ record { start = 0; count = 0 }) }
         ensures within { end_of self.new.items ≤ end_of self.old.items }
         ensures faults { self.new.faults ≡ self.old.faults }
+        ensures calls { self.new.calls ≡ self.old.calls }
     {
         self.check()?;
         if self.folder.is_held() {
@@ -731,6 +742,8 @@ where
     ghost told = { λ s. None };
 
     ghost faults = { λ s. s.faults };
+
+    ghost calls = { λ s. s.calls };
 
     ghost ordered = { λ s. le-add_right s.items.start s.items.count };
 

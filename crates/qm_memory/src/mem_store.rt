@@ -135,6 +135,8 @@ impl Store for MemStore {
 
     ghost faults = { λ s. s.faults };
 
+    ghost calls = { λ s. s.calls };
+
     ghost ordered = { λ s. le-add_right s.held.start (length s.held.items) };
 
     ghost told_start = { λ s. refl };

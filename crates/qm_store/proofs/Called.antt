@@ -2,7 +2,7 @@
 use Rattle.std.proofs.Common.{◌≡◌, ◌≢◌, ◌≤◌, List, sym, subst, refl, Result, Ok, IfOk, IfErr, OnOk, OnErr, IfSome}
 use Rattle.std.specs.Prelude.{⊤, IsErrOf}
 use Rattle.std.proofs.lemmas.Result.{on_ok_weaker, on_err_weaker}
-use Rattle.qm_model.specs.Causes.{IsCause}
+use Rattle.qm_model.specs.Causes.{IsCause, Rose}
 use Rattle.qm_model.specs.Operations.{Bytes}
 use Rattle.qm_model.specs.StoreModel.{Stored, end_of, Becomes, Leaves}
 use Rattle.qm_model.specs.Trees.{Shape}
@@ -32,15 +32,15 @@ never-log given store log is same = cc
 pub called : {C D : Type 0} (members : store.Ghosts C) (shape : Shape) (bytes : D → Bytes) (hash : Bytes → Bytes) (f : Stored → Stored) (R : Stored → Stored → Type 0) (made : Result (Log C D) (LogRefusal (Log C D) C)) (old self : Log C D) (new : C) (done : Result ⊤ StoreError) →
     old ≡ self → ((s : Stored) → (f s).items ≡ s.items) → IfSome (members.told old.store) (λ s. s.start ≡ members.start old.store) → IfSome (members.told old.store) (λ s. end_of s ≡ members.«end» old.store) →
     OnOk done (Becomes (members.told old.store) (members.told new) f) → OnOk done (members.«end» new ≡ members.«end» old.store) → OnErr done (Leaves (members.told old.store) (members.told new) R) →
-    members.start new ≡ members.start old.store → members.«end» new ≤ members.«end» old.store → IsCause (members.faults old.store) (members.faults new) (IsErrOf done stores.Failed) →
+    members.start new ≡ members.start old.store → members.«end» new ≤ members.«end» old.store → IsCause (members.faults old.store) (members.faults new) (IsErrOf done stores.Failed) → Rose (members.calls old.store) (members.calls new) →
     IfOk made (λ log. (done ≡ Ok tt) × (log.store ≡ new) × (log.tree ≡ old.tree)) → IfErr made (λ r. (r.given ≡ variants.Store new) × IfErr done (λ e. r.error ≡ log_error e) × (done ≢ Ok tt)) →
     IsCalled members shape bytes hash f R made self
-called members shape bytes hash f R made old self new done view items starts ends ok ok_end failed start within cause after err = subst (IsCalled members shape bytes hash f R made) view (record {
+called members shape bytes hash f R made old self new done view items starts ends ok ok_end failed start within cause counted after err = subst (IsCalled members shape bytes hash f R made) view (record {
   stands = λ list is. after-ok done made new old.tree (λ log. IsLog members shape bytes hash log list) after
       (on_ok_weaker done (λ told. log-become members shape bytes hash old (record { store = new; tree = old.tree }) list is starts ends f items refl start told) ok);
   tree = ok-then made after (λ log is. is.2);
   become = after-ok done made new old.tree (λ log. HasBecome members old.store log.store f) after (ok-both done ok_end ok (λ last told. record { start = start; end = last; told = told }));
-  refused = refused-after members (HasLeft members R) old new done made err (on_err_weaker done (λ told. record { start = start; within = within; told = told }) failed) cause;
+  refused = refused-after members (HasLeft members R) old new done made err (on_err_weaker done (λ told. record { start = start; within = within; told = told }) failed) cause counted;
   given = err-then made err (λ r is. λ log same. never-log r.given new log is.0 same);
   later = ok-then made after (λ log is. subst (λ s. members.faults old.store ≤ members.faults s) (sym is.1) cause.later);
 })

@@ -5,7 +5,7 @@ use Rattle.std.proofs.lemmas.List.{take_all, take-take, drop-append-le, length-a
 use Rattle.qm_model.specs.Operations.{Bytes}
 use Rattle.qm_model.specs.Trees.{Shape}
 use Rattle.qm_merkle.specs.Mems.{Kept, Stands}
-use Rattle.qm_model.specs.Causes.{IsCause}
+use Rattle.qm_model.specs.Causes.{IsCause, Rose}
 use Rattle.qm_model.specs.StoreModel.{Stored, end_of, appended, rewound, pruned, Becomes}
 use Rattle.qm_base.specs.declared.error.Corrupt.{Corrupt}
 use Rattle.qm_base.specs.declared.error.Error.{Error}
@@ -75,16 +75,18 @@ pub refused-whole : {C D : Type 0} (members : store.Ghosts C) (Left : C → C �
 refused-whole members Left old log same = record {
   back = λ other is. (cc, refl);
   left = λ s is. absurd cc;
+  called = λ s is. absurd cc;
   never = inl refl;
   cause = subst (λ l. IsCause (members.faults old.store) (members.faults l.store) (errors.Memory ≡ errors.Journal journal.Store)) (sym same) (record { later = omega arith; failed = λ never. absurd cc });
 }
 
 -- a log whose store failed a call
 pub refused-store : {C D T : Type 0} (members : store.Ghosts C) (Left : C → C → Type 0) (old : Log C D) (new : C) (error : StoreError) → Left old.store new →
-    IsCause (members.faults old.store) (members.faults new) (IsErrOf {T = T} (Err error) stores.Failed) → IsRefused members Left old (variants.Store new) (log_error error)
-refused-store members Left old new error left cause = record {
+    IsCause (members.faults old.store) (members.faults new) (IsErrOf {T = T} (Err error) stores.Failed) → Rose (members.calls old.store) (members.calls new) → IsRefused members Left old (variants.Store new) (log_error error)
+refused-store members Left old new error left cause counted = record {
   back = λ log same. absurd cc;
   left = λ s same. let is : new ≡ s = cc in subst (Left old.store) is left;
+  called = λ s same. let is : new ≡ s = cc in subst (λ c. Rose (members.calls old.store) (members.calls c)) is counted;
   never = elim error as (λ e. (log_error e ≡ errors.Memory) ⊎ (log_error e ≡ errors.Journal journal.Store)) [ stores.Memory ↦ inl refl | stores.Failed ↦ inr refl ];
   cause = record {
     later = cause.later;
@@ -94,12 +96,12 @@ refused-store members Left old new error left cause = record {
 
 -- a log over a store that was called, if the call failed
 pub refused-after : {C D X : Type 0} (members : store.Ghosts C) (Left : C → C → Type 0) (old : Log C D) (new : C) (done : Result ⊤ StoreError) (made : Result X (LogRefusal (Log C D) C)) →
-    IfErr made (λ r. (r.given ≡ variants.Store new) × IfErr done (λ e. r.error ≡ log_error e) × (done ≢ Ok tt)) → OnErr done (Left old.store new) → IsCause (members.faults old.store) (members.faults new) (IsErrOf done stores.Failed) →
+    IfErr made (λ r. (r.given ≡ variants.Store new) × IfErr done (λ e. r.error ≡ log_error e) × (done ≢ Ok tt)) → OnErr done (Left old.store new) → IsCause (members.faults old.store) (members.faults new) (IsErrOf done stores.Failed) → Rose (members.calls old.store) (members.calls new) →
     IfErr made (λ r. IsRefused members Left old r.given r.error)
-refused-after members Left old new done (Ok x) is left cause = tt
-refused-after members Left old new (Ok tt) (Err r) is left cause = absurd (is.2 refl)
-refused-after members Left old new (Err e) (Err r) is left cause =
-    subst (λ given. IsRefused members Left old given r.error) (sym is.0) (subst (IsRefused members Left old (variants.Store new)) (sym is.1) (refused-store members Left old new e left cause))
+refused-after members Left old new done (Ok x) is left cause counted = tt
+refused-after members Left old new (Ok tt) (Err r) is left cause counted = absurd (is.2 refl)
+refused-after members Left old new (Err e) (Err r) is left cause counted =
+    subst (λ given. IsRefused members Left old given r.error) (sym is.0) (subst (IsRefused members Left old (variants.Store new)) (sym is.1) (refused-store members Left old new e left cause counted))
 
 -- what holds of what a store tells that was made this, by what held of it
 pub made-then : (o new : Option Stored) (f : Stored → Stored) {P Q R : Stored → Type 0} (S : Stored → Type 0) → Becomes o new f → IfSome o P → IfSome o Q → IfSome o R → ((s : Stored) → P s → Q s → R s → S (f s)) → IfSome new S

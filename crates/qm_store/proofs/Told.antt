@@ -56,7 +56,7 @@ part-none (Some s) more = fails-unmoved (HasAppended more) (λ s. IsImage (appen
 
 module _ {C : Type 0} (members : store.Ghosts C) (old new : C) where
   pub grown-appended : (more : List Bytes) → HasGrown members old new more → Appended members old new more
-  grown-appended more is = record { start = is.start; told = is.told }
+  grown-appended more is = record { start = is.start; told = is.told; called = is.called }
 
   pub grown-appended-part : (more : List Bytes) → HasGrownPart members old new more → AppendedPart members old new more
   grown-appended-part more is = record { start = is.start; told = is.told; still = is.still }

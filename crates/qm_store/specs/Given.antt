@@ -1,5 +1,6 @@
 -- What a call that takes the database by value leaves, and what it does to the store.
 use Rattle.std.specs.Prelude.{◌≡◌, List, [], Result, Ok, Err}
+use Rattle.qm_model.specs.Causes.{Rose}
 use Rattle.qm_model.specs.Operations.{Bytes}
 use Rattle.qm_model.specs.StoreModel.{appended, Turns, Becomes, Grows}
 use Rattle.qm_store.specs.declared.Store as store
@@ -17,10 +18,11 @@ abbrev pub store_after : {X C : Type 0} → (X → C) → Result X (Refusal X C)
 store_after inside (Ok x) = inside x
 store_after inside (Err r) = store_given inside r.given
 
--- a store's items grew by these, and else it has what it had
+-- a store was called, and its items grew by these, and else it has what it had
 pub record Appended {C : Type 0} (members : store.Ghosts C) (old new : C) (more : List Bytes) : Type 0 where
   pub start : members.start new ≡ members.start old
   pub told : Becomes (members.told old) (members.told new) (appended more)
+  pub called : Rose (members.calls old) (members.calls new)
 
 -- they grew by a first part of these, and no fewer are stable, and no more if there are none
 pub record AppendedPart {C : Type 0} (members : store.Ghosts C) (old new : C) (more : List Bytes) : Type 0 where

@@ -1,7 +1,7 @@
 -- Logs: the leaves of items, the head of a store, and what a log stands for.
 use Rattle.std.specs.Prelude.{◌≡◌, ◌⊎◌, ◌≤◌, ℕ, suc, ◌+◌, ◌-◌, List, [], ◌∷◌, length, take, drop, map, Option, Some, IfSome}
 use Rattle.std.specs.List.{concat}
-use Rattle.qm_model.specs.Causes.{IsCause}
+use Rattle.qm_model.specs.Causes.{IsCause, Rose}
 use Rattle.qm_model.specs.StoreModel.{Stored, appended, pruned, IsOldOrNew, ReadsAs, Turns, Becomes, Leaves, Grows}
 use Rattle.qm_model.specs.Operations.{Bytes}
 use Rattle.qm_model.specs.Trees.{Shape, leaf, peaks, leaf_digest, digest_of}
@@ -51,11 +51,12 @@ pub record IsKept {C : Type 0} (members : store.Ghosts C) (old new : C) : Type 0
   pub end : members.«end» new ≡ members.«end» old
   pub told : members.told new ≡ members.told old
 
--- a store's items grew by these, and else it has what it had
+-- a store was called, and its items grew by these, and else it has what it had
 pub record HasGrown {C : Type 0} (members : store.Ghosts C) (old new : C) (more : List Bytes) : Type 0 where
   pub start : members.start new ≡ members.start old
   pub end : members.«end» new ≡ members.«end» old + length more
   pub told : Becomes (members.told old) (members.told new) (appended more)
+  pub called : Rose (members.calls old) (members.calls new)
 
 -- they grew by a first part of these, and no more is stable if there are none
 pub record HasGrownPart {C : Type 0} (members : store.Ghosts C) (old new : C) (more : List Bytes) : Type 0 where
@@ -93,10 +94,11 @@ store_given (variants.Log log) = log.store
 store_given (variants.Store store) = store
 
 -- what a call that takes a log by value leaves if it is refused: the log as it was, if memory lacked before its store was called, and
--- else its store, as such a call leaves it
+-- else its store, which was called, as such a call leaves it
 pub record IsRefused {C D : Type 0} (members : store.Ghosts C) (Left : C → C → Type 0) (old : Log C D) (given : LogGiven (Log C D) C) (error : Error) : Type 0 where
   pub back : (log : Log C D) → given ≡ variants.Log log → (log ≡ old) × (error ≡ errors.Memory)
   pub left : (s : C) → given ≡ variants.Store s → Left old.store s
+  pub called : (s : C) → given ≡ variants.Store s → Rose (members.calls old.store) (members.calls s)
   pub never : (error ≡ errors.Memory) ⊎ (error ≡ errors.Journal journal.Store)
   pub cause : IsCause (members.faults old.store) (members.faults (store_given given)) (error ≡ errors.Journal journal.Store)
 

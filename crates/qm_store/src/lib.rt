@@ -3,7 +3,7 @@
 
 ghost use Rattle.std.specs.Prelude.{◌≡◌, ℕ, ◌+◌, ◌-◌, ◌^◌, ◌<◌, ◌≤◌, min, length, map, slice_get};
 ghost use Rattle.std.specs.Prelude.{Option, Some, IfSome, IfOk, OnOk, OnErr, IsErrOf};
-ghost use Rattle.qm_model.specs.Causes.{IsCause};
+ghost use Rattle.qm_model.specs.Causes.{IsCause, Rose};
 ghost use Rattle.qm_model.specs.StoreModel.{Stored, end_of, metadata_in, appended, settled, rewound, pruned, with_metadata, destroyed, IsImage, IsOldOrNew, RewindLeaves, DestroyLeaves, HasRestarted, ReadsAs, Turns, Becomes, Leaves, Grows};
 
 mod items;
@@ -86,7 +86,7 @@ impl Model for MetaEntry {
 /// location up to which its items outlive a crash. An item goes by its location, which may begin above 0, if the items before
 /// are gone.
 ///
-/// After `Ok` a call leaves what it does not name as it was. Each call but `bounds` and `faults` may answer `Failed`, only if the
+/// After `Ok` a call leaves what it does not name as it was. Each call but `bounds` and `faults` is counted, and may answer `Failed`, only if the
 /// count of faults rose, or `Memory`, which leaves what `Failed` may leave: the store reads as a crash inside the call might
 /// have left it, and its stable length is no less than before.
 pub trait Store {
@@ -101,6 +101,9 @@ pub trait Store {
 
     /// How often it has failed. The count never falls, and stands still at its greatest value.
     ghost faults: { Self → ℕ };
+
+    /// How often it was called to change or to read what it keeps. The count never falls, and stands still at its greatest value.
+    ghost calls: { Self → ℕ };
 
     /// Where the items start, and where they end.
     fn bounds(&self) -> (u64, u64)
@@ -125,7 +128,8 @@ pub trait Store {
         ensures same_end { end self.new ≡ end self.old }
         ensures same { told self.new ≡ told self.old }
         ensures cause { IsCause (faults self.old) (faults self.new)
-            (IsErrOf result StoreError.Failed) };
+            (IsErrOf result StoreError.Failed) }
+        ensures counted { Rose (calls self.old) (calls self.new) };
 
     /// The digests of the peaks at the start, one after another. At start 0 there are none, and yet no law says that the head
     /// is empty there, since what a store keeps may be damaged: who opens a log checks the head's length.
@@ -135,7 +139,8 @@ pub trait Store {
         ensures same_end { end self.new ≡ end self.old }
         ensures same { told self.new ≡ told self.old }
         ensures cause { IsCause (faults self.old) (faults self.new)
-            (IsErrOf result StoreError.Failed) };
+            (IsErrOf result StoreError.Failed) }
+        ensures counted { Rose (calls self.old) (calls self.new) };
 
     /// The metadata of a name, none if none was put.
     fn meta(&mut self, name: &str) -> Result<Vec<MetaEntry>, StoreError>
@@ -145,7 +150,8 @@ pub trait Store {
         ensures same_end { end self.new ≡ end self.old }
         ensures same { told self.new ≡ told self.old }
         ensures cause { IsCause (faults self.old) (faults self.new)
-            (IsErrOf result StoreError.Failed) };
+            (IsErrOf result StoreError.Failed) }
+        ensures counted { Rose (calls self.old) (calls self.new) };
 
     /// Puts these after the last item. After an error a first part of them may be there; if there are none to put, no more is
     /// stable.
@@ -162,7 +168,8 @@ pub trait Store {
         ensures grows { end self.old ≤ end self.new }
         ensures within { end self.new ≤ end self.old + length added.now }
         ensures cause { IsCause (faults self.old) (faults self.new)
-            (IsErrOf result StoreError.Failed) };
+            (IsErrOf result StoreError.Failed) }
+        ensures counted { Rose (calls self.old) (calls self.new) };
 
     /// Makes the items stable: from then on a crash leaves them all.
     fn commit(&mut self) -> Result<(), StoreError>
@@ -173,7 +180,8 @@ pub trait Store {
         ensures same_start { start self.new ≡ start self.old }
         ensures within { end self.new ≤ end self.old }
         ensures cause { IsCause (faults self.old) (faults self.new)
-            (IsErrOf result StoreError.Failed) };
+            (IsErrOf result StoreError.Failed) }
+        ensures counted { Rose (calls self.old) (calls self.new) };
 
     /// Makes all that it holds stable. What is told of it is what is told of `commit`.
     fn sync(&mut self) -> Result<(), StoreError>
@@ -184,7 +192,8 @@ pub trait Store {
         ensures same_start { start self.new ≡ start self.old }
         ensures within { end self.new ≤ end self.old }
         ensures cause { IsCause (faults self.old) (faults self.new)
-            (IsErrOf result StoreError.Failed) };
+            (IsErrOf result StoreError.Failed) }
+        ensures counted { Rose (calls self.old) (calls self.new) };
 
     /// Takes the items from this location on away.
     fn rewind(&mut self, to: u64) -> Result<(), StoreError>
@@ -197,7 +206,8 @@ pub trait Store {
         ensures same_start { start self.new ≡ start self.old }
         ensures within { end self.new ≤ end self.old }
         ensures cause { IsCause (faults self.old) (faults self.new)
-            (IsErrOf result StoreError.Failed) };
+            (IsErrOf result StoreError.Failed) }
+        ensures counted { Rose (calls self.old) (calls self.new) };
 
     /// Takes the items before this location away, and replaces the head.
     fn prune(&mut self, to: u64, head: &[u8]) -> Result<(), StoreError>
@@ -211,7 +221,8 @@ pub trait Store {
             ReadsAs s.stable (IsOldOrNew (pruned to head.now) s))) }
         ensures within { end self.new ≤ end self.old }
         ensures cause { IsCause (faults self.old) (faults self.new)
-            (IsErrOf result StoreError.Failed) };
+            (IsErrOf result StoreError.Failed) }
+        ensures counted { Rose (calls self.old) (calls self.new) };
 
     /// Replaces the metadata of a name, whole.
     fn put_meta(&mut self, name: &str, entries: &[MetaEntry]) -> Result<(), StoreError>
@@ -223,7 +234,8 @@ pub trait Store {
         ensures same_start { start self.new ≡ start self.old }
         ensures within { end self.new ≤ end self.old }
         ensures cause { IsCause (faults self.old) (faults self.new)
-            (IsErrOf result StoreError.Failed) };
+            (IsErrOf result StoreError.Failed) }
+        ensures counted { Rose (calls self.old) (calls self.new) };
 
     /// A crash, and the start after it: the end becomes a location from the stable length to the old end, and all is stable.
     /// The store is asked to keep the items up to `keep`, and tells the end that it chose.
@@ -234,7 +246,8 @@ pub trait Store {
         ensures same_start { start self.new ≡ start self.old }
         ensures within { end self.new ≤ end self.old }
         ensures cause { IsCause (faults self.old) (faults self.new)
-            (IsErrOf result StoreError.Failed) };
+            (IsErrOf result StoreError.Failed) }
+        ensures counted { Rose (calls self.old) (calls self.new) };
 
     /// Empties the store: start 0, no items, no head, no metadata. Only the ends that its restarts chose stay told.
     fn destroy(&mut self) -> Result<(), StoreError>
@@ -244,7 +257,8 @@ pub trait Store {
         ensures err { OnErr result (Leaves (told self.old) (told self.new) DestroyLeaves) }
         ensures within { end self.new ≤ end self.old }
         ensures cause { IsCause (faults self.old) (faults self.new)
-            (IsErrOf result StoreError.Failed) };
+            (IsErrOf result StoreError.Failed) }
+        ensures counted { Rose (calls self.old) (calls self.new) };
 
     /// The start is not after the end.
     ghost ordered: { (s : Self) → start s ≤ end s };

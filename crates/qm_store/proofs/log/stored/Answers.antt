@@ -2,7 +2,7 @@ use Rattle.std.proofs.Common.{◌≡◌, ◌∙◌, ◌≤◌, length, map, ap, 
 use Rattle.std.specs.Prelude.{IsErrOf}
 use Rattle.std.proofs.lemmas.List.{length-map}
 use Rattle.std.proofs.lemmas.Result.{IfOk-weaker}
-use Rattle.qm_model.specs.Causes.{IsCause}
+use Rattle.qm_model.specs.Causes.{IsCause, Rose}
 use Rattle.qm_store.specs.declared.StoreError.TheVariants as stores
 use Rattle.qm_store.specs.Log.{Log, HasGrown, HasGrownPart, IsRefused}
 use Rattle.qm_store.proofs.Stores.{after-ok, err-both, ok-both, refused-after}
@@ -21,7 +21,7 @@ returns g c = record {
       let more = map (λ v. v.items) c.args.items.now in
       after-ok c.append-done.result c.log_after.result c.append-done.new.self c.args.tree (λ log. HasGrown members c.args.store log.store more) c.log_after.ensures.ok
       (ok-both c.append-done.result c.append-done.ensures.ok_end c.append-done.ensures.ok
-      (λ last told. record { start = c.append-done.ensures.same_start; end = omega (arith, last, length-map c.args.items.now (λ v. v.items)); told = told }));
+      (λ last told. record { start = c.append-done.ensures.same_start; end = omega (arith, last, length-map c.args.items.now (λ v. v.items)); told = told; called = c.append-done.ensures.counted }));
   later =
       let members = g.C.Store in
       after-ok c.append-done.result c.log_after.result c.append-done.new.self c.args.tree (λ log. members.faults c.args.store ≤ members.faults log.store) c.log_after.ensures.ok
@@ -34,5 +34,6 @@ returns g c = record {
       refused-after members (λ old now. HasGrownPart members old now more) log new c.append-done.result c.log_after.result c.log_after.ensures.err
       (err-both c.append-done.result c.append-done.ensures.err c.append-done.ensures.still (λ told still. subst (λ s. HasGrownPart members s new more) (sym same)
       (record { start = c.append-done.ensures.same_start; from = c.append-done.ensures.grows; within = omega (arith, c.append-done.ensures.within, length-map c.args.items.now (λ v. v.items)); told = told; still = λ none. still (sym (length-map c.args.items.now (λ v. v.items)) ∙ ap length none) })))
-      (subst (λ s. IsCause (members.faults s) (members.faults new) (IsErrOf c.append-done.result stores.Failed)) (sym same) c.append-done.ensures.cause));
+      (subst (λ s. IsCause (members.faults s) (members.faults new) (IsErrOf c.append-done.result stores.Failed)) (sym same) c.append-done.ensures.cause)
+      (subst (λ s. Rose (members.calls s) (members.calls new)) (sym same) c.append-done.ensures.counted));
 }

@@ -9,7 +9,7 @@ use Rattle.qm_model.specs.StoreModel.{except_items}
 use Rattle.qm_open.proofs.Checking.{on-ok}
 use Rattle.qm_store.proofs.Told.{appended-beside, part-beside, unchanged-appended-part}
 use Rattle.qm_any.specs.Applying.{can_apply, lacked, store_in}
-use Rattle.qm_any.proofs.Applying.{after-both, err-three, never-stale, stale-told, stale-or, stale-causes, stale-cause}
+use Rattle.qm_any.proofs.Applying.{after-both, err-four, never-stale, stale-told, stale-or, stale-causes, stale-cause}
 use Rattle.qm_store.specs.Given.{Appended, AppendedPart, store_given}
 use Rattle.qm_any.proofs.Unapplied.{applied, lacked-spelled, ok-five}
 use Rattle.qm_any.proofs.db.Db.apply_batch.Goals as goal
@@ -31,6 +31,7 @@ returns-in-Ok g c =
           (ap (λ db. db.commitment.size) c.self.view_is) c.in-Ok.ensures.items c.in-Ok.ensures.diffs log index active
           (rest.0, rest.1, rest.2, rest.3 ∙ c.in-Ok.ensures.metadata) grown);
       moved = ok-four c.moved.result c.moved.ensures.rest c.moved.ensures.pruned c.moved.ensures.rest c.moved.ensures.pruned (λ next rest pruned _ _. (rest.0, pruned));
+      called = ok-then c.moved.result c.moved.ensures.grown (λ next grown. grown.called);
       fits =
           let bounds = c.args.batch.now.bounds in
           on-ok c.moved.result (subst (λ k. is_at k bounds.db bounds.ancestors ≡ true) (ap (λ db. db.commitment) c.self.view_is) c.in-Ok.ensures.fits);
@@ -62,12 +63,13 @@ returns-in-Ok g c =
                 (err-then c.moved.result c.moved.ensures.part (λ r part. part-beside g.C.Store old (store_given store_in r.given) items part));
             later = after-both store_in c.moved.result (λ s. faults old ≤ faults s) c.moved.ensures.later (err-then c.moved.result c.moved.ensures.cause (λ r cause. cause.later));
           };
-      unapplied = err-three c.moved.result c.moved.ensures.causes c.moved.ensures.back c.moved.ensures.cause (λ r causes back cause. record {
+      unapplied = err-four c.moved.result c.moved.ensures.causes c.moved.ensures.back c.moved.ensures.cause c.moved.ensures.called (λ r causes back cause called. record {
         stale = λ stale. never-stale r.error causes stale;
         back = λ x given.
             let was = back x given in
             (was.0, inr was.1);
         causes = inr causes;
+        called = called;
         cause = cause;
       });
     }
@@ -81,6 +83,7 @@ returns-in-Err g c =
     record {
       stands = λ list chain tip is made on. tt;
       moved = tt;
+      called = tt;
       fits = tt;
       appends = λ chain tip made. record { grown = tt; part = unchanged-appended-part g.C.Store old old _ (record { start = refl; told = refl }) };
       rest = record { start = refl; others = refl; later = omega arith };
@@ -91,6 +94,7 @@ returns-in-Err g c =
         );
         back = λ x given. (cc given, stale-or error why);
         causes = stale-causes error why;
+        called = λ s given. absurd (cc given);
         cause = stale-cause error why (g.C.Store.faults old);
       };
     }

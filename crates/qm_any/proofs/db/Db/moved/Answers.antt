@@ -1,7 +1,7 @@
 use Rattle.std.proofs.Common.{arith, ◌≡◌, ◌≤◌, ◌∙◌, ◌∷◌, ◌++◌, ℕ, List, Contains, ap, sym, subst, refl, map, inl}
 use Rattle.qm_model.proofs.Results.{err-then, ok-then}
 use Rattle.qm_model.specs.Bits.{bits}
-use Rattle.qm_model.specs.Causes.{IsCause}
+use Rattle.qm_model.specs.Causes.{IsCause, Rose}
 use Rattle.qm_base.specs.declared.error.Error.TheVariants as errors
 use Rattle.qm_base.specs.declared.error.JournalError.TheVariants as journal
 use Rattle.qm_model.specs.Operations.{Bytes}
@@ -62,6 +62,11 @@ returns-in-Ok g c =
           let here = subst (λ s. AppendedPart g.C.Store s c.in-Ok.log.store more) (ap (λ db. db.log.store) (sym c.into_parts-log.ensures.whole)) grown in
           subst (λ given. AppendedPart g.C.Store c.args.self.log.store (store_given (λ db. db.log.store) given) more) (sym back.0) here);
       back = err-then c.indexed.result c.indexed.ensures.back (λ r back. λ x given. absurd (cc (back.0, given)));
+      called =
+          err-then c.indexed.result c.indexed.ensures.back (λ r back. λ s given.
+          let same : c.in-Ok.log.store ≡ s = cc (back.0, given) in
+          let rose = subst (λ t. Rose (g.C.Store.calls t) (g.C.Store.calls c.in-Ok.log.store)) (ap (λ db. db.log.store) (sym c.into_parts-log.ensures.whole)) c.in-Ok.ensures.grown.called in
+          subst (λ t. Rose (g.C.Store.calls c.args.self.log.store) (g.C.Store.calls t)) same rose);
       causes = err-then c.indexed.result c.indexed.ensures.back (λ r back. inl back.1);
       cause =
           err-then c.indexed.result c.indexed.ensures.back (λ r back.
@@ -90,6 +95,8 @@ returns-in-Err g c =
           let at = c.given_back.ensures.back x given in
           let was = c.in-Err.ensures.refused.back x.log at.0 in
           (at.1 ∙ ap (over c.into_parts-log.result.1) was.0 ∙ sym c.into_parts-log.ensures.whole, was.1);
+      called = λ s given.
+          subst (λ t. Rose (g.C.Store.calls t) (g.C.Store.calls s)) (ap (λ db. db.log.store) (sym c.into_parts-log.ensures.whole)) (c.in-Err.ensures.refused.called s (c.given_back.ensures.kept s given));
       causes = c.in-Err.ensures.refused.never;
       cause =
           let faults = g.C.Store.faults in

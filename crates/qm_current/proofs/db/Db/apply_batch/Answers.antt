@@ -1,6 +1,7 @@
 use Rattle.std.proofs.Common.{◌≡◌, ◌∙◌, ◌<◌, ◌*◌, suc, true, Err, Ok, ap, ap₂, subst, sym, get_or}
 use Rattle.std.specs.Prelude.{Contains}
 use Rattle.qm_model.specs.Batches.{Commitment}
+use Rattle.qm_model.specs.Causes.{Rose}
 use Rattle.qm_model.specs.StoreModel.{except_items}
 use Rattle.qm_model.proofs.Results.{ok-four}
 use Rattle.qm_store.specs.Given.{store_given}
@@ -88,7 +89,8 @@ returns-in-Ok g c =
           joined-appends members old batch next r is no form tip fits
           (subst (λ o. Appends members o batch form tip (Ok next)) any_is (subst (λ b. Appends members c.self.inside.any b form tip (Ok next)) batch_is (c.in-Ok.ensures.appends chain tip making)));
       rest = joined-rest members old batch next r is no rest;
-      unapplied = joined-unapplied members old batch next r is no rest;
+      unapplied = joined-unapplied members old batch next r is no rest
+          (subst (λ (d : anys.Database g.row.C.Denot g.row.H-Digest.Denot). Rose (members.calls d.log.store) (members.calls next.log.store)) any_is c.in-Ok.ensures.called);
       back = joined-back members old batch next r is no c.args.self;
     }
 

@@ -53,7 +53,7 @@ returns-in-Ok g c = record {
       let old : Log g.row.C.Denot g.row.H-Digest.Denot = record { store = c.self.inside.store; tree = c.self.inside.tree } in
       err-then c.log_after.result
       (refused-after members (HasLeftPruned members c.args.to cut) old c.prune-done.new.self c.prune-done.result c.log_after.result c.log_after.ensures.err
-      (on_err_weaker c.prune-done.result (λ told. record { within = c.prune-done.ensures.within; told = told }) c.prune-done.ensures.err) c.prune-done.ensures.cause)
+      (on_err_weaker c.prune-done.result (λ told. record { within = c.prune-done.ensures.within; told = told }) c.prune-done.ensures.err) c.prune-done.ensures.cause c.prune-done.ensures.counted)
       (λ r refused. (cut, subst (λ log. IsRefused members (HasLeftPruned members c.args.to cut) log r.given r.error) c.self.view_is refused, head g c));
   start = ok-then c.log_after.result c.log_after.ensures.ok (λ log is. ap (λ t. t.start) is.2 ∙ c.in-Ok.ensures.start);
   size = ok-then c.log_after.result c.log_after.ensures.ok (λ log is. ap (λ t. t.leaves) is.2 ∙ c.in-Ok.ensures.leaves ∙ ap (λ l. l.tree.leaves) c.self.view_is);

@@ -72,7 +72,7 @@ returns g c = record {
       let left = λ (n : ℕ) (s : Stored). ReadsAs (min s.stable n) (RewindLeaves n s) in
       err-then c.log_after.result
       (refused-after members (HasLeft members (left c.size-size.result)) old done.new.self done.result c.log_after.result c.log_after.ensures.err
-      (on_err_weaker done.result (λ told. record { start = done.ensures.same_start; within = done.ensures.within; told = told }) done.ensures.err) done.ensures.cause)
+      (on_err_weaker done.result (λ told. record { start = done.ensures.same_start; within = done.ensures.within; told = told }) done.ensures.err) done.ensures.cause done.ensures.counted)
       (λ r refused. subst (λ n. IsRefused members (HasLeft members (left n)) c.args.self r.given r.error) c.size-size.ensures (subst (λ log. IsRefused members (HasLeft members (left c.size-size.result)) log r.given r.error) c.self.view_is refused));
   given = err-then c.log_after.result c.log_after.ensures.err (λ r is. λ log same. never-log r.given c.rewind-done.new.self log is.0 same);
   later =
