@@ -20,7 +20,7 @@ use Rattle.qm_model.proofs.Results.{err-then}
 use Rattle.qm_model.specs.Held.{is_between, is_held, first_pruned, pins_lacked, proof_lacked}
 use Rattle.qm_base.specs.declared.error.Error.{Error}
 use Rattle.qm_base.specs.declared.error.Error.TheVariants as errors
-use Rattle.qm_base.specs.declared.error.MerkleError.TheVariants as merkle
+use Rattle.qm_base.specs.declared.error.TreeRefused.TheVariants as refused
 use Rattle.qm_chain.specs.Bounds.{knows}
 use Rattle.qm_merkle.specs.Mems.{Kept, Gives, Stands, node_at, pin_at}
 use Rattle.qm_merkle.specs.Batches.{Layer, found_at, layer_at, layers_at, stops, IsHistory, Leads}
@@ -215,7 +215,7 @@ find-same shape at holds n same (x ∷ xs) born =
 lacked-due : {D : Type 0} (at : ℕ → Option D) (holds : ℕ → Bool) (ps : List ℕ) (e : Error) → first_lacked at ps ≡ find (λ p. not (holds p)) ps → IsLacked at ps e → IsDue e (first_pruned holds ps)
 lacked-due at holds ps e same lacked = ⊎_elim
     (λ (memory : e ≡ errors.Memory). subst (λ x. IsDue x (first_pruned holds ps)) (sym memory) tt)
-    (λ (lack : (p : ℕ) × (first_lacked at ps ≡ Some p) × (e ≡ errors.Merkle (merkle.ElementPruned p))).
+    (λ (lack : (p : ℕ) × (first_lacked at ps ≡ Some p) × (e ≡ errors.Merkle (refused.ElementPruned p))).
     subst (λ x. IsDue x (first_pruned holds ps)) (sym lack.2) (ap (option_map (λ p. Merkle (ElementPruned p))) (sym same ∙ lack.1)))
     lacked
 
@@ -223,13 +223,13 @@ lacked-due at holds ps e same lacked = ⊎_elim
 later-lacked : {D : Type 0} (at : ℕ → Option D) (xs ys : List ℕ) (e : Error) → first_lacked at xs ≡ None → IsLacked at ys e → IsLacked at (xs ++ ys) e
 later-lacked at xs ys e none lacked = ⊎_elim
     (λ (memory : e ≡ errors.Memory). inl memory)
-    (λ (lack : (p : ℕ) × (first_lacked at ys ≡ Some p) × (e ≡ errors.Merkle (merkle.ElementPruned p))). inr (lack.0, lacked_later at xs ys lack.0 none lack.1, lack.2))
+    (λ (lack : (p : ℕ) × (first_lacked at ys ≡ Some p) × (e ≡ errors.Merkle (refused.ElementPruned p))). inr (lack.0, lacked_later at xs ys lack.0 none lack.1, lack.2))
     lacked
 
 first-of : {D : Type 0} (at : ℕ → Option D) (xs ys : List ℕ) (e : Error) → IsLacked at xs e → IsLacked at (xs ++ ys) e
 first-of at xs ys e lacked = ⊎_elim
     (λ (memory : e ≡ errors.Memory). inl memory)
-    (λ (lack : (p : ℕ) × (first_lacked at xs ≡ Some p) × (e ≡ errors.Merkle (merkle.ElementPruned p))). inr (lack.0, lacked_first at xs ys lack.0 lack.1, lack.2))
+    (λ (lack : (p : ℕ) × (first_lacked at xs ≡ Some p) × (e ≡ errors.Merkle (refused.ElementPruned p))). inr (lack.0, lacked_first at xs ys lack.0 lack.1, lack.2))
     lacked
 
 none-pruned : (holds : ℕ → Bool) (ps : List ℕ) → find (λ p. not (holds p)) ps ≡ None → first_pruned holds ps ≡ None
@@ -278,7 +278,7 @@ module _ {D : Type 0} (bytes : D → Bytes) (hash : Bytes → Bytes) (shape : Sh
         some-none : Some (Merkle (RangeOutOfBounds n)) ≡ None → ⊥
         some-none e = cc
 
-    pub pins-due : {X : Type 0} (r : Result X Error) → (db.commitment.size < n → r ≡ Err (errors.Merkle (merkle.RangeOutOfBounds n)))
+    pub pins-due : {X : Type 0} (r : Result X Error) → (db.commitment.size < n → r ≡ Err (errors.Merkle (refused.RangeOutOfBounds n)))
         → (n ≤ db.commitment.size → IfErr r (IsLacked (node_at shape db.log.tree) (peak_positions shape n))) → IfErr r (λ e. IsDue e (pins_lacked shape (members.start db.log.store) list n))
     pins-due r range cause = ⊎_elim
         (λ (past : length list < n). subst (λ r. IfErr r (λ e. IsDue e (pins_lacked shape (members.start db.log.store) list n))) (sym (range (omega (arith, past, size))))

@@ -8,7 +8,7 @@ use Rattle.qm_model.specs.Trees.{Shape, peak_positions}
 use Rattle.qm_base.specs.declared.error.Error.{Error}
 use Rattle.qm_base.specs.declared.error.Error.TheVariants as errors
 use Rattle.qm_base.specs.declared.error.JournalError.TheVariants as journal
-use Rattle.qm_base.specs.declared.error.MerkleError.TheVariants as merkle
+use Rattle.qm_base.specs.declared.error.TreeRefused.TheVariants as refused
 use Rattle.qm_store.specs.declared.Store as store
 use Rattle.qm_store.specs.Log.{IsLacked, Log}
 use Rattle.qm_merkle.specs.Mems.{Kept, node_at}
@@ -40,7 +40,7 @@ module _ {D : Type 0} (at : ℕ → Option D) (positions : List ℕ) (e : Error)
   lacked-fresh (inr (p, first, lacked)) stale = absurd (cc (lacked, stale))
 
   -- and has a position
-  pub lacked-never : IsLacked at positions e → (e ≡ errors.Memory) ⊎ ((e ≡ errors.StaleRead) ⊎ ((p : ℕ) × (e ≡ errors.Merkle (merkle.ElementPruned p))))
+  pub lacked-never : IsLacked at positions e → (e ≡ errors.Memory) ⊎ ((e ≡ errors.StaleRead) ⊎ ((p : ℕ) × (e ≡ errors.Merkle (refused.ElementPruned p))))
   lacked-never (inl memory) = inl memory
   lacked-never (inr (p, first, lacked)) = inr (inr (p, lacked))
 
@@ -69,12 +69,12 @@ proof-error members reasons old new (Ok x) causes fresh cause = tt
 proof-error members reasons old new (Err e) causes fresh cause = record { causes = causes; fresh = fresh; cause = cause }
 
 -- why there are no pins
-pub pins-error : {X D : Type 0} (shape : Shape) (tree : Kept D) (start size at : ℕ) (r : Result X Error) → (size < at → r ≡ Err (errors.Merkle (merkle.RangeOutOfBounds at)))
+pub pins-error : {X D : Type 0} (shape : Shape) (tree : Kept D) (start size at : ℕ) (r : Result X Error) → (size < at → r ≡ Err (errors.Merkle (refused.RangeOutOfBounds at)))
     → (at ≤ size → IfErr r (IsLacked (node_at shape tree) (peak_positions shape at))) → (start ≤ at → at ≤ size → IfErr r (λ e. e ≡ errors.Memory)) → IfErr r (IsPinsError shape tree start size at)
 pins-error shape tree start size at (Ok x) range cause whole = tt
 pins-error {X} shape tree start size at (Err e) range cause whole = record { lacked = cause; whole = whole; never = ⊎_elim (λ past. ranged (Err e) refl (range past)) (λ within. other (cause within)) (cases_lt size at) }
   where
-    ranged : (r : Result X Error) → r ≡ Err e → r ≡ Err (errors.Merkle (merkle.RangeOutOfBounds at)) → (e ≢ errors.StaleBatch) × (e ≢ errors.Journal journal.Store)
+    ranged : (r : Result X Error) → r ≡ Err e → r ≡ Err (errors.Merkle (refused.RangeOutOfBounds at)) → (e ≢ errors.StaleBatch) × (e ≢ errors.Journal journal.Store)
     ranged r is far = (λ stale. absurd (cc (is, far, stale)), λ fault. absurd (cc (is, far, fault)))
 
     other : IsLacked (node_at shape tree) (peak_positions shape at) e → (e ≢ errors.StaleBatch) × (e ≢ errors.Journal journal.Store)

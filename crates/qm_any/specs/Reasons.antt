@@ -6,7 +6,7 @@ use Rattle.qm_model.specs.Trees.{Shape, peak_positions}
 use Rattle.qm_base.specs.declared.error.Error.{Error}
 use Rattle.qm_base.specs.declared.error.Error.TheVariants as errors
 use Rattle.qm_base.specs.declared.error.JournalError.TheVariants as journal
-use Rattle.qm_base.specs.declared.error.MerkleError.TheVariants as merkle
+use Rattle.qm_base.specs.declared.error.TreeRefused.TheVariants as refused
 use Rattle.qm_merkle.specs.Mems.{Kept, node_at}
 use Rattle.qm_store.specs.declared.Store as store
 use Rattle.qm_store.specs.Log.{Log, IsLacked}
@@ -15,7 +15,7 @@ use Rattle.qm_store.specs.Refusals.{IsAmong}
 
 -- a spelling is too long, or a list is
 abbrev pub IsSizeError : Error → Type 0
-IsSizeError e = ((n : ℕ) × (e ≡ errors.Journal (journal.ItemTooLarge n))) ⊎ ((n : ℕ) × (e ≡ errors.Merkle (merkle.LocationOverflow n)))
+IsSizeError e = ((n : ℕ) × (e ≡ errors.Journal (journal.ItemTooLarge n))) ⊎ ((n : ℕ) × (e ≡ errors.Merkle (refused.LocationOverflow n)))
 
 -- why a list was not made: a read failed, or it is too large
 abbrev pub IsMakingError : {C D : Type 0} → store.Ghosts C → Log C D → Log C D → Error → Type 0
@@ -38,6 +38,6 @@ pub record IsPinsError {D : Type 0} (shape : Shape) (tree : Kept D) (start size 
 -- not; else, if memory was not short, it is, and the error is the first node that is lacked
 pub record IsNodeError {D : Type 0} (known : Bool) (at : ℕ → Option D) (positions : List ℕ) (e : Error) : Type 0 where
   pub stale : e ≡ errors.StaleRead → known ≡ false
-  pub never : (e ≡ errors.Memory) ⊎ ((e ≡ errors.StaleRead) ⊎ ((p : ℕ) × (e ≡ errors.Merkle (merkle.ElementPruned p))))
+  pub never : (e ≡ errors.Memory) ⊎ ((e ≡ errors.StaleRead) ⊎ ((p : ℕ) × (e ≡ errors.Merkle (refused.ElementPruned p))))
   pub order : e ≢ errors.Memory → e ≢ errors.StaleRead → known ≡ true
   pub lacked : e ≢ errors.StaleRead → IsLacked at positions e

@@ -4,7 +4,7 @@ use Rattle.qm_operations.specs.Parts.{floor_of}
 use Rattle.qm_base.specs.declared.error.Error.{Error}
 use Rattle.qm_base.specs.declared.error.Error.TheVariants as errors
 use Rattle.qm_base.specs.declared.error.JournalError.TheVariants as journal
-use Rattle.qm_base.specs.declared.error.MerkleError.TheVariants as merkle
+use Rattle.qm_base.specs.declared.error.TreeRefused.TheVariants as refused
 use Rattle.qm_model.specs.Operations.{Bytes, Operation}
 use Rattle.qm_model.specs.Batches.{Commitment}
 use Rattle.qm_model.specs.Forms.{Form, IsOf, spelling}
@@ -32,7 +32,7 @@ IsTaken form base tip = (too_long (own_spellings form base tip) ≡ None) × (le
 abbrev pub IsTooLong : List Bytes → ℕ → Error → Type 0
 IsTooLong spelt size e =
     ((n : ℕ) × (too_long spelt ≡ Some n) × (e ≡ errors.Journal (journal.ItemTooLarge n)))
-    ⊎ ((too_long spelt ≡ None) × (2 ^ 62 < size) × (e ≡ errors.Merkle (merkle.LocationOverflow size)))
+    ⊎ ((too_long spelt ≡ None) × (2 ^ 62 < size) × (e ≡ errors.Merkle (refused.LocationOverflow size)))
 
 -- no spelling of these operations is too long, the list of `size` operations with them is not, and they are of the form if their floors are low
 pub record IsSpelled (form : Form) (operations : List Operation) (size : ℕ) : Type 0 where

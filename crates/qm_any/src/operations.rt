@@ -8,7 +8,7 @@ ghost use Rattle.qm_any.specs.Tips.{IsLow, IsSpelled, IsTooLong};
 ghost use Rattle.qm_operations.specs.Views.{operation_views};
 ghost use Rattle.qm_step.specs.Views.{changes_view};
 
-use qm_base::{ByteString, Error, JournalError, MerkleError};
+use qm_base::{ByteString, Error, JournalError, TreeRefused};
 use qm_batch::Layer;
 use qm_chain::Diff;
 use qm_operations::{Operation, Update};
@@ -143,7 +143,7 @@ fn refuse(items: &[Vec<u8>], size: u64) -> Result<(), Error>
         }
     }
     if size > MAX_OPERATIONS {
-        return Err(Error::Merkle(MerkleError::LocationOverflow(size)));
+        return Err(Error::Merkle(TreeRefused::LocationOverflow(size)));
     }
     Ok(())
 }

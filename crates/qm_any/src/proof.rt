@@ -15,7 +15,7 @@ ghost use Rattle.qm_store.specs.Refusals.{IsDue};
 ghost use Rattle.qm_build.specs.Reasons.{proof_reasons};
 
 use crate::db::{Db, LaidOut};
-use qm_base::{Digest, Error, Hasher, Location, MerkleError};
+use qm_base::{Digest, Error, Hasher, Location, TreeRefused};
 use qm_bits::Chunks;
 use qm_build::proved_over;
 use qm_merkle::Family;
@@ -109,7 +109,7 @@ impl<
             → AtList C.Store ⟦<Self as LaidOut>⟧.layout self.now (λ list.
             IfErr result (λ e. IsDue e (pins_refusal list count))) }
         ensures range { self.now.commitment.size < count
-            → result ≡ Err (Error.Merkle (MerkleError.RangeOutOfBounds count)) }
+            → result ≡ Err (Error.Merkle (TreeRefused.RangeOutOfBounds count)) }
         ensures held { OnOk result (first_lacked (node_at F.shape self.now.log.tree)
             (peak_positions F.shape count)
             ≡ None) }

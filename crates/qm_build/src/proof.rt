@@ -18,7 +18,7 @@ ghost use Rattle.qm_build.specs.Proved.{AtLogged, Proves};
 
 use crate::item::commit_floor_in;
 use crate::read::operation_in;
-use qm_base::{Corrupt, Error, Hasher, JournalError, Location, MerkleError};
+use qm_base::{Corrupt, Error, Hasher, JournalError, Location, TreeRefused};
 use qm_merkle::Family;
 use qm_operations::{Operation, Update};
 use qm_proofs::Proof;
@@ -71,12 +71,12 @@ fn offered<F: Family, C: Store, H: Hasher, U: Update>(
 {
     let (first, leaves) = log.bounds();
     if leaves < size {
-        return Err(Error::Merkle(MerkleError::RangeOutOfBounds(size)));
+        return Err(Error::Merkle(TreeRefused::RangeOutOfBounds(size)));
     }
     match floor_at_end::<F, C, H, U>(alloc, log, size)? {
         None => Err(Error::HistoricalFloorPruned(size)),
         Some(floor) if floor >= size => Err(Error::DataCorrupted(Corrupt::FloorExceedsCommit)),
-        Some(_) if start >= size => Err(Error::Merkle(MerkleError::RangeOutOfBounds(start))),
+        Some(_) if start >= size => Err(Error::Merkle(TreeRefused::RangeOutOfBounds(start))),
         Some(_) if start < first => Err(Error::Journal(JournalError::ItemPruned(start))),
         Some(floor) => Ok(floor),
     }

@@ -17,7 +17,7 @@ ghost use Rattle.qm_current.specs.Making.{IsLeft};
 use crate::db::Db;
 use qm_any::db as any;
 use qm_any::db::LaidOut;
-use qm_base::{ByteString, Digest, Error, Hasher, Location, MerkleError};
+use qm_base::{ByteString, Digest, Error, Hasher, Location, TreeRefused};
 use qm_bits::Chunks;
 use qm_chunks::Graftable;
 use qm_merkle::Family;
@@ -85,7 +85,7 @@ impl<
             → AtList C.Store ⟦<any::Db<F, C, I, H, U, N> as LaidOut>⟧.layout self.now.any
             (λ list. IfErr result (λ e. IsDue e (pins_refusal list count))) }
         ensures range { self.now.any.commitment.size < count
-            → result ≡ Err (Error.Merkle (MerkleError.RangeOutOfBounds count)) }
+            → result ≡ Err (Error.Merkle (TreeRefused.RangeOutOfBounds count)) }
         ensures held { OnOk result (first_lacked (node_at F.shape self.now.any.log.tree)
             (peak_positions F.shape count)
             ≡ None) }

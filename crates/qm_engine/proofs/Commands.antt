@@ -15,13 +15,11 @@ use Rattle.qm_model.specs.Schemes.{Scheme}
 use Rattle.qm_machine.specs.Machine as machine
 use Rattle.qm_model.proofs.Chains.{Contains-more, IsAmong-more}
 use Rattle.qm_base.specs.declared.error.JournalError.TheVariants as journal
-use Rattle.qm_base.specs.declared.error.MerkleError.TheVariants as merkle
 use Rattle.qm_base.specs.declared.error.Error.{Error}
 use Rattle.qm_base.specs.declared.error.Error.TheVariants as errors
 use Rattle.qm_lines.specs.Views.{answer_view, refused_view}
 use Rattle.qm_lines.specs.declared.reply.Reply as reply
 use Rattle.qm_lines.specs.declared.reply.Reply.TheVariants as replies
-use Rattle.qm_lines.specs.declared.reply.TreeRefused.TheVariants as tree
 use Rattle.qm_lines.specs.declared.reply.LogRefused.TheVariants as log
 use Rattle.qm_lines.specs.declared.reply.Refused.{Refused}
 use Rattle.qm_lines.specs.declared.reply.Refused.TheVariants as refused
@@ -104,11 +102,7 @@ by_error errors.StaleRead Q stale other = other refused.StaleRead (λ e. absurd 
 by_error (errors.PruneBeyondMinRequired p m) Q stale other = other (refused.PruneBeyondMinRequired p m) (λ e. absurd (cc)) refl
 by_error (errors.HistoricalFloorPruned n) Q stale other = other (refused.HistoricalFloorPruned n) (λ e. absurd (cc)) refl
 by_error (errors.DataCorrupted c) Q stale other = other (refused.DataCorrupted c) (λ e. absurd (cc)) refl
-by_error (errors.Merkle merkle.Memory) Q stale other = tt
-by_error (errors.Merkle (merkle.RangeOutOfBounds n)) Q stale other = other (refused.Merkle (tree.RangeOutOfBounds n)) (λ e. absurd (cc)) refl
-by_error (errors.Merkle (merkle.ElementPruned n)) Q stale other = other (refused.Merkle (tree.ElementPruned n)) (λ e. absurd (cc)) refl
-by_error (errors.Merkle (merkle.MissingNode n)) Q stale other = other (refused.Merkle (tree.MissingNode n)) (λ e. absurd (cc)) refl
-by_error (errors.Merkle (merkle.LocationOverflow n)) Q stale other = other (refused.Merkle (tree.LocationOverflow n)) (λ e. absurd (cc)) refl
+by_error (errors.Merkle r) Q stale other = other (refused.Merkle r) (λ e. absurd (cc)) refl
 by_error (errors.Journal journal.Store) Q stale other = tt
 by_error (errors.Journal (journal.ItemPruned n)) Q stale other = other (refused.Journal (log.ItemPruned n)) (λ e. absurd (cc)) refl
 by_error (errors.Journal (journal.ItemTooLarge n)) Q stale other = other (refused.Journal (log.ItemTooLarge n)) (λ e. absurd (cc)) refl

@@ -27,7 +27,7 @@ use Rattle.qm_model.proofs.Boundaries.{quotient-rises}
 use Rattle.qm_model.proofs.Openings.{Keeps, unordered-keeps, ordered-keeps, unordered-parts, ordered-parts, begins_take, begins_both, floor-rises, length-rises, pruned-rises}
 use Rattle.qm_machine.specs.Lines.{Line, Open, Batch, Child, Tip, Put, Del, Merkleize, Stage, Expand, Resolve, Apply, Ops, Get, Many, Next, Prev, Span, Range, Keys, Info, BatchInfo, Root, BatchRoot, BatchProof, Meta, Prove, Pins, Question, Held, Absent, Witness, Current, Prune, Commit, Sync, Close, Destroy, Crash, Answer}
 use Rattle.qm_machine.specs.Lines as lines
-use Rattle.qm_machine.specs.Machine.{State, Slot, gone, writing, staged, merkleized, turn, slot_at, start_child, put_in, list_operations, with_database, closed, commit, opened_as, found_in, unless, merkleize_tip, merkleize_writes, merkleize_in, resolve_in, apply_in, if_readable, if_staged, stage_in, expand_in, read_in, read, if_ordered, if_any, if_current, if_absences, held_at, absent_at, if_checked, asked, answered, beside_in, beside_of, info_in, root_in, proof_in, pruned, prune_in}
+use Rattle.qm_machine.specs.Machine.{State, Slot, gone, writing, staged, merkleized, turn, slot_at, start_child, put_in, list_operations, with_database, closed, commit, opened_as, found_in, unless, merkleize_tip, merkleize_writes, merkleize_in, resolve_in, apply_in, if_readable, if_staged, stage_in, expand_in, read_in, read, if_ordered, if_any, if_current, if_absences, held_at, absent_at, if_checked, asked, answered, neighbour_in, neighbour_of, info_in, root_in, proof_in, pruned, prune_in}
 use Rattle.qm_model.specs.Schemes.{Grafts, Scheme, HasBounds, takes, chunks_of, kind_of, engine_of, layout_of}
 use Rattle.qm_model.specs.Held.{pins_lacked, proof_lacked}
 use Rattle.qm_machine.specs.Sound.{IsSoundSlot, IsSound}
@@ -320,15 +320,15 @@ module _ (m : Scheme) {P : Type 0} (rules : Rules P) where
   read_stays s keys None = listed s s.database _ (λ list. refl)
   read_stays s keys (Some h) = listed s s.database _ (λ list. read_in_stays s h keys list (slot_at s.table h))
 
-  beside_in_stays : (s : State) (h : ℕ) (beside : List Bytes → Option Bytes) (list : List Operation) (slot : Slot) → Stays s (beside_in m s h beside list slot)
-  beside_in_stays s h beside list (merkleized chain tip) = readable_stays s list chain tip _
-  beside_in_stays s h beside list gone = refl
-  beside_in_stays s h beside list (writing chain parent ws) = refl
-  beside_in_stays s h beside list (staged chain parent ws ks) = refl
+  neighbour_in_stays : (s : State) (h : ℕ) (beside : List Bytes → Option Bytes) (list : List Operation) (slot : Slot) → Stays s (neighbour_in m s h beside list slot)
+  neighbour_in_stays s h beside list (merkleized chain tip) = readable_stays s list chain tip _
+  neighbour_in_stays s h beside list gone = refl
+  neighbour_in_stays s h beside list (writing chain parent ws) = refl
+  neighbour_in_stays s h beside list (staged chain parent ws ks) = refl
 
-  beside_stays : (s : State) (beside : List Bytes → Option Bytes) (from : Option ℕ) → Stays s (beside_of m s beside from)
-  beside_stays s beside None = listed s s.database _ (λ list. refl)
-  beside_stays s beside (Some h) = listed s s.database _ (λ list. beside_in_stays s h beside list (slot_at s.table h))
+  neighbour_stays : (s : State) (beside : List Bytes → Option Bytes) (from : Option ℕ) → Stays s (neighbour_of m s beside from)
+  neighbour_stays s beside None = listed s s.database _ (λ list. refl)
+  neighbour_stays s beside (Some h) = listed s s.database _ (λ list. neighbour_in_stays s h beside list (slot_at s.table h))
 
   info_stays : (s : State) (h : ℕ) (slot : Slot) → Stays s (info_in m s h slot)
   info_stays s h (merkleized chain tip) = refl
@@ -450,8 +450,8 @@ module _ (m : Scheme) {P : Type 0} (rules : Rules P) where
   turn-followed bounds s (Ops h) is apart formed = stays s _ is (operations_stay s h (slot_at s.table h))
   turn-followed bounds s (Get key from) is apart formed = stays s _ is (read_stays s (key ∷ []) from)
   turn-followed bounds s (Many keys from) is apart formed = stays s _ is (read_stays s keys from)
-  turn-followed bounds s (Next key from) is apart formed = stays s _ is (ordered_only s _ (beside_stays s (λ keys. key_above keys key) from))
-  turn-followed bounds s (Prev key from) is apart formed = stays s _ is (ordered_only s _ (beside_stays s (λ keys. key_below keys key) from))
+  turn-followed bounds s (Next key from) is apart formed = stays s _ is (ordered_only s _ (neighbour_stays s (λ keys. key_above keys key) from))
+  turn-followed bounds s (Prev key from) is apart formed = stays s _ is (ordered_only s _ (neighbour_stays s (λ keys. key_below keys key) from))
   turn-followed bounds s (Span key) is apart formed = stays s _ is (ordered_only s _ (listed s s.database _ (λ list. refl)))
   turn-followed bounds s (lines.All key) is apart formed = stays s _ is (ordered_only s _ (listed s s.database _ (λ list. refl)))
   turn-followed bounds s (Range low high) is apart formed = stays s _ is (ordered_only s _ (listed s s.database _ (λ list. refl)))

@@ -21,8 +21,6 @@ use Rattle.qm_machine.specs.Sound.{IsSteady}
 use Rattle.qm_base.specs.declared.error.Error.{Error}
 use Rattle.qm_base.specs.declared.error.Error.TheVariants as errors
 use Rattle.qm_base.specs.declared.error.JournalError.TheVariants as journal
-use Rattle.qm_base.specs.declared.error.MerkleError.{MerkleError}
-use Rattle.qm_base.specs.declared.error.MerkleError.TheVariants as merkle
 use Rattle.qm_lines.specs.declared.reply.Reply as reply
 use Rattle.qm_lines.specs.declared.reply.Reply.TheVariants as replies
 use Rattle.qm_lines.specs.declared.reply.Refused.TheVariants as refused
@@ -39,7 +37,7 @@ use Rattle.qm_offer.specs.declared.meaning.Meaning as meaning
 use Rattle.qm_engine.specs.declared.table.Slot.{Slot}
 use Rattle.qm_engine.specs.declared.session.Turn.{Turn}
 use Rattle.qm_engine.specs.declared.session.Turn.TheVariants.{Reply, StoreFault}
-use Rattle.qm_engine.specs.Turn.{turn_of_error, turn_of_tree, given_after, turn_settled}
+use Rattle.qm_engine.specs.Turn.{turn_of_error, given_after, turn_settled}
 use Rattle.qm_offer.specs.Words.{WritesOf, IsSettling, IsHeadOf, IsPruned, IsUnpruned, IsGivenUp}
 use Rattle.qm_engine.specs.Stores.{HasLog, HasEnds, IsLeft, moved, emptied}
 use Rattle.qm_model.specs.Taken.{head_at, StaysBeside, synced, after_prune, LeavesSync}
@@ -56,14 +54,7 @@ fault-told errors.StaleRead e = absurd (cc)
 fault-told (errors.PruneBeyondMinRequired p m) e = absurd (cc)
 fault-told (errors.HistoricalFloorPruned n) e = absurd (cc)
 fault-told (errors.DataCorrupted c) e = absurd (cc)
-fault-told {K = K} {V = V} {D = D} (errors.Merkle error) e = absurd (merkle-never error e)
-  where
-    merkle-never : (error : MerkleError) → turn_of_tree {K = K} {V = V} {D = D} error ≡ StoreFault → ⊥
-    merkle-never merkle.Memory e = cc
-    merkle-never (merkle.RangeOutOfBounds n) e = cc
-    merkle-never (merkle.ElementPruned n) e = cc
-    merkle-never (merkle.MissingNode n) e = cc
-    merkle-never (merkle.LocationOverflow n) e = cc
+fault-told (errors.Merkle r) e = absurd (cc)
 fault-told (errors.Journal journal.Store) e = refl
 fault-told (errors.Journal (journal.ItemPruned n)) e = absurd (cc)
 fault-told (errors.Journal (journal.ItemTooLarge n)) e = absurd (cc)

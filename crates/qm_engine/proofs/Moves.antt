@@ -9,7 +9,7 @@ use Rattle.qm_model.specs.StoreModel.{Turns}
 use Rattle.qm_model.specs.Schemes.{Grafts, chunks_of}
 use Rattle.qm_model.specs.Refused as refusals
 use Rattle.qm_machine.specs.Lines.{Answer, Question}
-use Rattle.qm_machine.specs.Machine.{State, with_database, refuse, if_any, if_current, if_checked, asked, answered, if_ordered, beside_of, slot_at}
+use Rattle.qm_machine.specs.Machine.{State, with_database, refuse, if_any, if_current, if_checked, asked, answered, if_ordered, neighbour_of, slot_at}
 use Rattle.qm_machine.specs.Machine as machine
 use Rattle.qm_machine.specs.Sound.{IsSteady}
 use Rattle.qm_base.specs.declared.error.JournalError.TheVariants as journal
@@ -35,7 +35,7 @@ use Rattle.qm_engine.specs.Turn.{turn_of_error}
 use Rattle.qm_offer.specs.Words.{AtTip, CanRead, IsReadFailure, ReadsOnly}
 use Rattle.qm_engine.proofs.Commands.{with_list}
 use Rattle.qm_engine.proofs.LastingCommands.{fault-told}
-use Rattle.qm_engine.proofs.OrderedCommands.{beside_ok, beside_err}
+use Rattle.qm_engine.proofs.OrderedCommands.{neighbour_ok, neighbour_err}
 use Rattle.qm_engine.proofs.ReadStores.{Told, none_open, stayed, refusal-never, read-keeps, read-uses}
 
 -- a database that is no current one has no grafts
@@ -240,19 +240,19 @@ module _ {X C B S M K V D : Type 0} (members : stores.Ghosts C) (means : meaning
     -- the key beside another, through a merkleized batch
     module _ (from : Option ℕ) (h : ℕ) (numbered : from ≡ Some h) (beside : List Bytes → Option Bytes) (batch : M) (ordered : means.scheme.form.ordered ≡ true) (named : Some batch ≡ merkleized_of (get_or old.table.items h Gone)) where
       abbrev pub Finds : Turn K V D → Type 0
-      Finds turn = Told members means key value digest old (λ s. if_ordered means.scheme s (beside_of means.scheme s beside from)) (Database after) turn
+      Finds turn = Told members means key value digest old (λ s. if_ordered means.scheme s (neighbour_of means.scheme s beside from)) (Database after) turn
 
       finds : (turn : Turn K V D) → (turn ≡ StoreFault → IsErrOf read (errors.Journal journal.Store))
-          → ((s : State) → Holds members means (Database x) old.table.items old.opened s → Goes old.table.items (Database after) turn (if_ordered means.scheme s (beside_of means.scheme s beside (Some h)))) → Finds turn
+          → ((s : State) → Holds members means (Database x) old.table.items old.opened s → Goes old.table.items (Database after) turn (if_ordered means.scheme s (neighbour_of means.scheme s beside (Some h)))) → Finds turn
       finds turn why each =
-          subst (λ (f : Option ℕ). Told members means key value digest old (λ s. if_ordered means.scheme s (beside_of means.scheme s beside f)) (Database after) turn) (sym numbered)
-          (moved (λ s. if_ordered means.scheme s (beside_of means.scheme s beside (Some h))) refl turn why each)
+          subst (λ (f : Option ℕ). Told members means key value digest old (λ s. if_ordered means.scheme s (neighbour_of means.scheme s beside f)) (Database after) turn) (sym numbered)
+          (moved (λ s. if_ordered means.scheme s (neighbour_of means.scheme s beside (Some h))) refl turn why each)
 
       pub found_ok : (k : Option K) → AtTip means x batch (λ list chain tip. CanRead means list chain tip) → AtTip means x batch (λ list chain tip. IsKnown list chain tip → option_map key k ≡ beside (live_keys tip))
-          → Finds (Reply (replies.Beside k))
-      found_ok k can are = finds (Reply (replies.Beside k)) (λ e. absurd (cc e))
-          (λ s held. beside_ok members means key value digest x after old.table.items old.opened h s beside batch k held (reads.same, reads.store, reads.numbered) ordered named can are)
+          → Finds (Reply (replies.Neighbour k))
+      found_ok k can are = finds (Reply (replies.Neighbour k)) (λ e. absurd (cc e))
+          (λ s held. neighbour_ok members means key value digest x after old.table.items old.opened h s beside batch k held (reads.same, reads.store, reads.numbered) ordered named can are)
 
       pub found_err : {turn : Turn K V D} (error : Error) → read ≡ Err error → turn ≡ turn_of_error error → AtTip means x batch (λ list chain tip. IsReadFailure means list chain tip error) → Finds turn
       found_err {turn} error was e why = subst Finds (sym e) (finds (turn_of_error error) (λ fault. was ∙ ap Err (fault-told error fault))
-          (λ s held. beside_err members means key value digest x after old.table.items old.opened h s beside batch error held (reads.same, reads.store, reads.numbered) ordered named why))
+          (λ s held. neighbour_err members means key value digest x after old.table.items old.opened h s beside batch error held (reads.same, reads.store, reads.numbered) ordered named why))

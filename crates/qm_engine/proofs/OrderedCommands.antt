@@ -7,10 +7,10 @@ use Rattle.qm_model.specs.Batches.{Chain, IsAmong, IsKnown}
 use Rattle.qm_machine.specs.Lines.{Answer}
 use Rattle.qm_machine.specs.Lines as lines
 use Rattle.qm_model.specs.Refused as refusals
-use Rattle.qm_machine.specs.Machine.{State, slot_at, refuse, with_database, if_readable, if_ordered, beside_in, beside_of}
+use Rattle.qm_machine.specs.Machine.{State, slot_at, refuse, with_database, if_readable, if_ordered, neighbour_in, neighbour_of}
 use Rattle.qm_machine.specs.Machine as machine
 use Rattle.qm_base.specs.declared.error.Error.{Error}
-use Rattle.qm_lines.specs.declared.reply.Reply.TheVariants.{Beside}
+use Rattle.qm_lines.specs.declared.reply.Reply.TheVariants.{Neighbour}
 use Rattle.qm_store.specs.declared.Store as stores
 use Rattle.qm_offer.specs.declared.meaning.Meaning as meaning
 use Rattle.qm_store.specs.declared.refusal.Given.TheVariants.{Database}
@@ -29,14 +29,14 @@ module _ {X C B S M K V D : Type 0} (members : stores.Ghosts C) (means : meaning
     (x after : X) (table : List (Slot B S M)) (opened h : ℕ) (s : State) (beside : List Bytes → Option Bytes) (batch : M) where
   -- the turn does what the machine does for the key beside one
   abbrev pub Finds : Turn K V D → Type 0
-  Finds turn = Turns members means key value digest turn (Database after) table opened (if_ordered means.scheme s (beside_of means.scheme s beside (Some h)))
+  Finds turn = Turns members means key value digest turn (Database after) table opened (if_ordered means.scheme s (neighbour_of means.scheme s beside (Some h)))
 
   -- the answer from a tip list
   abbrev found : List Operation → Answer
-  found tip = lines.Beside (beside (live_keys tip))
+  found tip = lines.Neighbour (beside (live_keys tip))
 
   abbrev named : List Operation → machine.Slot → Answer × State
-  named = beside_in means.scheme s h beside
+  named = neighbour_in means.scheme s h beside
 
   named_state : (list : List Operation) (slot : machine.Slot) → (named list slot).1 ≡ s
   named_state list machine.gone = refl
@@ -65,15 +65,15 @@ module _ {X C B S M K V D : Type 0} (members : stores.Ghosts C) (means : meaning
       by list stands in_had (machine.merkleized chain tip) is = each list chain tip stands is.0 in_had is.1 is.2
       by list stands in_had slot is = absurd is
 
-  pub beside_ok : (k : Option K) → Holds members means (Database x) table opened s → Keeps members means x after → means.scheme.form.ordered ≡ true → Some batch ≡ merkleized_of (get_or table h Gone)
+  pub neighbour_ok : (k : Option K) → Holds members means (Database x) table opened s → Keeps members means x after → means.scheme.form.ordered ≡ true → Some batch ≡ merkleized_of (get_or table h Gone)
       → AtTip means x batch (λ list chain tip. CanRead means list chain tip)
       → AtTip means x batch (λ list chain tip. IsKnown list chain tip → option_map key k ≡ beside (live_keys tip))
-      → Finds (Reply (Beside k))
-  beside_ok k held keeps ordered e can are = on_batch (Reply (Beside k)) held keeps ordered e (λ list chain tip stands is in_had among tip_in.
-      readable_ok members means key value digest s list chain tip (lines.Beside (option_map key k)) (found tip) in_had among tip_in (can list chain tip stands is) (λ known. ap lines.Beside (are list chain tip stands is known)))
+      → Finds (Reply (Neighbour k))
+  neighbour_ok k held keeps ordered e can are = on_batch (Reply (Neighbour k)) held keeps ordered e (λ list chain tip stands is in_had among tip_in.
+      readable_ok members means key value digest s list chain tip (lines.Neighbour (option_map key k)) (found tip) in_had among tip_in (can list chain tip stands is) (λ known. ap lines.Neighbour (are list chain tip stands is known)))
 
-  pub beside_err : (error : Error) → Holds members means (Database x) table opened s → Keeps members means x after → means.scheme.form.ordered ≡ true → Some batch ≡ merkleized_of (get_or table h Gone)
+  pub neighbour_err : (error : Error) → Holds members means (Database x) table opened s → Keeps members means x after → means.scheme.form.ordered ≡ true → Some batch ≡ merkleized_of (get_or table h Gone)
       → AtTip means x batch (λ list chain tip. IsReadFailure means list chain tip error)
       → Finds (turn_of_error error)
-  beside_err error held keeps ordered e why = on_batch (turn_of_error error) held keeps ordered e (λ list chain tip stands is in_had among tip_in.
+  neighbour_err error held keeps ordered e why = on_batch (turn_of_error error) held keeps ordered e (λ list chain tip stands is in_had among tip_in.
       readable_err members means key value digest s list chain tip error (found tip) in_had among tip_in (why list chain tip stands is))

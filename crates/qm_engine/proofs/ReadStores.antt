@@ -7,7 +7,7 @@ use Rattle.qm_model.specs.StoreModel.{except_items}
 use Rattle.qm_model.specs.Refused as refusals
 use Rattle.qm_machine.specs.Lines.{Answer}
 use Rattle.qm_machine.specs.Lines as lines
-use Rattle.qm_machine.specs.Machine.{State, with_database, if_ordered, refuse, beside_in, beside_of, read_in, slot_at}
+use Rattle.qm_machine.specs.Machine.{State, with_database, if_ordered, refuse, neighbour_in, neighbour_of, read_in, slot_at}
 use Rattle.qm_machine.specs.Machine as machine
 use Rattle.qm_base.specs.declared.error.JournalError.TheVariants as journal
 use Rattle.qm_base.specs.declared.error.Error.{Error}
@@ -123,14 +123,14 @@ module _ {X C B S M K V D : Type 0} (members : stores.Ghosts C) (means : meaning
       by s k (Some h) = closed is e (λ list. read_in means.scheme s h keys list (slot_at s.table h)) s k
 
   -- a batch number names no merkleized batch
-  pub no_beside : (beside : List Bytes → Option Bytes) (h : ℕ) → means.scheme.form.ordered ≡ true → {x : X} → old.held ≡ Database x → None ≡ merkleized_of (get_or old.table.items h Gone) → {turn : Turn K V D} → turn ≡ Reply (replies.Refused (refused.NoSuchHandle h))
-      → Told (λ s. if_ordered means.scheme s (beside_of means.scheme s beside (Some h))) (Database x) turn
-  no_beside beside h ordered {x} is none {turn} e = subst (λ held. Told (λ s. if_ordered means.scheme s (beside_of means.scheme s beside (Some h))) held turn) is (stayed (λ s. if_ordered means.scheme s (beside_of means.scheme s beside (Some h))) turn (refusal-never e)
-      (λ s k. choice true ordered (λ s. beside_of means.scheme s beside (Some h)) old.held turn s (subst (λ t. Does old.held t (beside_of means.scheme s beside (Some h))) (sym e)
-      (with_list members means x s.had s.database s (λ list. beside_in means.scheme s h beside list (slot_at s.table h)) (Does old.held (Reply (replies.Refused (refused.NoSuchHandle h)))) (subst (λ held. HeldIs members means s.opened s.had held s.database) is k.database)
+  pub no_neighbour : (beside : List Bytes → Option Bytes) (h : ℕ) → means.scheme.form.ordered ≡ true → {x : X} → old.held ≡ Database x → None ≡ merkleized_of (get_or old.table.items h Gone) → {turn : Turn K V D} → turn ≡ Reply (replies.Refused (refused.NoSuchHandle h))
+      → Told (λ s. if_ordered means.scheme s (neighbour_of means.scheme s beside (Some h))) (Database x) turn
+  no_neighbour beside h ordered {x} is none {turn} e = subst (λ held. Told (λ s. if_ordered means.scheme s (neighbour_of means.scheme s beside (Some h))) held turn) is (stayed (λ s. if_ordered means.scheme s (neighbour_of means.scheme s beside (Some h))) turn (refusal-never e)
+      (λ s k. choice true ordered (λ s. neighbour_of means.scheme s beside (Some h)) old.held turn s (subst (λ t. Does old.held t (neighbour_of means.scheme s beside (Some h))) (sym e)
+      (with_list members means x s.had s.database s (λ list. neighbour_in means.scheme s h beside list (slot_at s.table h)) (Does old.held (Reply (replies.Refused (refused.NoSuchHandle h)))) (subst (λ held. HeldIs members means s.opened s.had held s.database) is k.database)
       (λ list stands in_had. by s k list (get_or old.table.items h Gone) (slot_at s.table h) (k.slots h) none)))))
     where
-      by : (s : State) → Stands members means old s → (list : List Operation) (a : Slot B S M) (b : machine.Slot) → SlotIs members means s.had a b → None ≡ merkleized_of a → Does old.held (Reply (replies.Refused (refused.NoSuchHandle h))) (beside_in means.scheme s h beside list b)
+      by : (s : State) → Stands members means old s → (list : List Operation) (a : Slot B S M) (b : machine.Slot) → SlotIs members means s.had a b → None ≡ merkleized_of a → Does old.held (Reply (replies.Refused (refused.NoSuchHandle h))) (neighbour_in means.scheme s h beside list b)
       by s k list (Merkleized w) b is e = absurd (cc)
       by s k list Gone machine.gone is e = λ apart. (refl, k)
       by s k list (Writing w) (machine.writing chain above ws) is e = λ apart. (refl, k)

@@ -1,12 +1,9 @@
 -- What an error of a call comes to.
 use Rattle.qm_base.specs.declared.error.JournalError.{JournalError}
 use Rattle.qm_base.specs.declared.error.JournalError.TheVariants as journal
-use Rattle.qm_base.specs.declared.error.MerkleError.{MerkleError}
-use Rattle.qm_base.specs.declared.error.MerkleError.TheVariants as merkle
 use Rattle.qm_base.specs.declared.error.Error.{Error}
 use Rattle.qm_base.specs.declared.error.Error.TheVariants as errors
 use Rattle.qm_lines.specs.declared.reply.Reply.TheVariants.{Refused, Done}
-use Rattle.qm_lines.specs.declared.reply.TreeRefused.TheVariants as tree
 use Rattle.qm_lines.specs.declared.reply.LogRefused.TheVariants as log
 use Rattle.qm_lines.specs.declared.reply.Refused.TheVariants as refused
 use Rattle.std.specs.Prelude.{Result, Ok, Err}
@@ -15,13 +12,6 @@ use Rattle.qm_store.specs.declared.refusal.Given.TheVariants.{Database}
 use Rattle.qm_store.specs.declared.refusal.Refusal.{Refusal}
 use Rattle.qm_engine.specs.declared.session.Turn.{Turn}
 use Rattle.qm_engine.specs.declared.session.Turn.TheVariants.{Reply, Memory, StoreFault}
-
-abbrev pub turn_of_tree : {K V D : Type 0} → MerkleError → Turn K V D
-turn_of_tree merkle.Memory = Memory
-turn_of_tree (merkle.RangeOutOfBounds n) = Reply (Refused (refused.Merkle (tree.RangeOutOfBounds n)))
-turn_of_tree (merkle.ElementPruned n) = Reply (Refused (refused.Merkle (tree.ElementPruned n)))
-turn_of_tree (merkle.MissingNode n) = Reply (Refused (refused.Merkle (tree.MissingNode n)))
-turn_of_tree (merkle.LocationOverflow n) = Reply (Refused (refused.Merkle (tree.LocationOverflow n)))
 
 abbrev pub turn_of_log : {K V D : Type 0} → JournalError → Turn K V D
 turn_of_log journal.Store = StoreFault
@@ -36,7 +26,7 @@ turn_of_error errors.StaleRead = Reply (Refused refused.StaleRead)
 turn_of_error (errors.PruneBeyondMinRequired p m) = Reply (Refused (refused.PruneBeyondMinRequired p m))
 turn_of_error (errors.HistoricalFloorPruned n) = Reply (Refused (refused.HistoricalFloorPruned n))
 turn_of_error (errors.DataCorrupted c) = Reply (Refused (refused.DataCorrupted c))
-turn_of_error (errors.Merkle e) = turn_of_tree e
+turn_of_error (errors.Merkle e) = Reply (Refused (refused.Merkle e))
 turn_of_error (errors.Journal e) = turn_of_log e
 
 -- what a call gives that takes a database by value: another one, or what its refusal gives

@@ -1,11 +1,11 @@
 // What a run holds between two commands.
 ghost use Rattle.std.specs.Prelude.{◌≡◌};
 ghost use Rattle.qm_store.specs.Given.{store_given};
-ghost use Rattle.qm_engine.specs.Turn.{turn_of_tree, turn_of_log, turn_of_error};
+ghost use Rattle.qm_engine.specs.Turn.{turn_of_log, turn_of_error};
 
 use crate::table::Slot;
-use qm_base::{Error, JournalError, MerkleError};
-use qm_lines::{LogRefused, Refused, Reply, TreeRefused};
+use qm_base::{Error, JournalError};
+use qm_lines::{LogRefused, Refused, Reply};
 use qm_offer::{Durable, Meaning};
 use qm_store::{Given, Store};
 
@@ -47,20 +47,6 @@ pub fn no_such_handle<K, V, D>(number: u64) -> Turn<K, V, D>
     Turn::Reply(Reply::Refused(Refused::NoSuchHandle(number)))
 }
 
-// What an error of a tree comes to.
-fn turn_of_tree<K: Drop, V: Drop, D: Drop>(error: MerkleError) -> Turn<K, V, D>
-    ensures { result ≡ turn_of_tree error }
-{
-    let refused = match error {
-        MerkleError::Memory => return Turn::Memory,
-        MerkleError::RangeOutOfBounds(at) => TreeRefused::RangeOutOfBounds(at),
-        MerkleError::ElementPruned(position) => TreeRefused::ElementPruned(position),
-        MerkleError::MissingNode(position) => TreeRefused::MissingNode(position),
-        MerkleError::LocationOverflow(count) => TreeRefused::LocationOverflow(count),
-    };
-    Turn::Reply(Reply::Refused(Refused::Merkle(refused)))
-}
-
 // What an error of a log comes to.
 fn turn_of_log<K: Drop, V: Drop, D: Drop>(error: JournalError) -> Turn<K, V, D>
     ensures { result ≡ turn_of_log error }
@@ -79,7 +65,6 @@ pub fn turn_of<K: Drop, V: Drop, D: Drop>(error: Error) -> Turn<K, V, D>
 {
     let refused = match error {
         Error::Memory => return Turn::Memory,
-        Error::Merkle(error) => return turn_of_tree(error),
         Error::Journal(error) => return turn_of_log(error),
         Error::InvalidInitializationBound => Refused::InvalidInitializationBound,
         Error::StaleBatch => Refused::StaleBatch,
@@ -89,6 +74,7 @@ pub fn turn_of<K: Drop, V: Drop, D: Drop>(error: Error) -> Turn<K, V, D>
         }
         Error::HistoricalFloorPruned(size) => Refused::HistoricalFloorPruned(size),
         Error::DataCorrupted(corrupt) => Refused::DataCorrupted(corrupt),
+        Error::Merkle(refused) => Refused::Merkle(refused),
     };
     Turn::Reply(Reply::Refused(refused))
 }

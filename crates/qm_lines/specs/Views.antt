@@ -5,7 +5,7 @@ use Rattle.qm_model.specs.Live.{Live}
 use Rattle.qm_model.specs.Operations.{Bytes, Operation, update, delete, commit}
 use Rattle.qm_machine.specs.Lines as lines
 use Rattle.qm_model.specs.Refused as refusals
-use Rattle.qm_base.specs.Views.{corrupt_view, limit_of, pair_view}
+use Rattle.qm_base.specs.Views.{corrupt_view, tree_view, limit_of, pair_view}
 use Rattle.qm_base.specs.Slots.{slot_views, write_views}
 use Rattle.qm_base.specs.Listed.{listed_view, span_view, whole_view}
 use Rattle.qm_lines.specs.declared.command.Command.{Command}
@@ -24,20 +24,12 @@ use Rattle.qm_lines.specs.declared.command.StoreCommand.{StoreCommand}
 use Rattle.qm_lines.specs.declared.command.StoreCommand.TheVariants as stores
 use Rattle.qm_lines.specs.declared.command.Question.{Question}
 use Rattle.qm_lines.specs.declared.command.Question.TheVariants as questions
-use Rattle.qm_lines.specs.declared.reply.TreeRefused.{TreeRefused}
-use Rattle.qm_lines.specs.declared.reply.TreeRefused.TheVariants as tree
 use Rattle.qm_lines.specs.declared.reply.LogRefused.{LogRefused}
 use Rattle.qm_lines.specs.declared.reply.LogRefused.TheVariants as log
 use Rattle.qm_lines.specs.declared.reply.Refused.{Refused}
 use Rattle.qm_lines.specs.declared.reply.Refused.TheVariants as refused
 use Rattle.qm_lines.specs.declared.reply.Reply.{Reply}
 use Rattle.qm_lines.specs.declared.reply.Reply.TheVariants as replies
-
-abbrev pub tree_view : TreeRefused → refusals.TreeRefused
-tree_view (tree.RangeOutOfBounds n) = refusals.RangeOutOfBounds n
-tree_view (tree.ElementPruned n) = refusals.ElementPruned n
-tree_view (tree.MissingNode n) = refusals.MissingNode n
-tree_view (tree.LocationOverflow n) = refusals.LocationOverflow n
 
 abbrev pub log_view : LogRefused → refusals.LogRefused
 log_view (log.ItemPruned n) = refusals.ItemPruned n
@@ -128,7 +120,7 @@ module _ {K V : Type 0} (key : K → Bytes) (value : V → Bytes) where
   answer_view digest (replies.Ops base ops) = lines.Listed base (map (listed_view key value) ops.items)
   answer_view digest (replies.Read values) = lines.Read (map (option_map value) values.items)
   answer_view digest (replies.Expanded a b values) = lines.Expanded a b (map (option_map value) values.items)
-  answer_view digest (replies.Beside k) = lines.Beside (option_map key k)
+  answer_view digest (replies.Neighbour k) = lines.Neighbour (option_map key k)
   answer_view digest (replies.Span s) = lines.Spanning (option_map (span_view key value) s)
   answer_view digest (replies.All p) = lines.Whole (option_map (whole_view key value) p)
   answer_view digest (replies.Range pairs) = lines.Ranged (map (pair_view key value) pairs.items)

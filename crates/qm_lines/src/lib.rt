@@ -20,6 +20,6 @@ pub use memory::{MemSink, MemSource};
 pub use parse::{ByteCommand, next_line, parse_line};
 pub use policy::AnyPolicy;
 pub use ports::{Failed, Sink, SinkError, Source};
-pub use reply::{LogRefused, Refused, Reply, TreeRefused};
+pub use reply::{LogRefused, Refused, Reply};
 pub use text::reply_text;
 pub use whole::{InputError, LIMIT, read_all, write_all};

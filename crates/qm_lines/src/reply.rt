@@ -1,19 +1,6 @@
 //! What a command answers.
 
-use qm_base::{Corrupt, Listed, Span};
-
-/// Why a tree refused.
-#[derive(Clone, Copy)]
-pub enum TreeRefused {
-    /// A size, or a location, past the end.
-    RangeOutOfBounds(u64),
-    /// The node at this position is forgotten.
-    ElementPruned(u64),
-    /// There is no digest for the node at this position.
-    MissingNode(u64),
-    /// So many leaves are too many.
-    LocationOverflow(u64),
-}
+use qm_base::{Corrupt, Listed, Span, TreeRefused};
 
 /// Why a log refused.
 #[derive(Clone, Copy)]
@@ -62,8 +49,8 @@ pub enum Reply<K, V, D> {
     Read(Vec<Option<V>>),
     /// From which staged key up to which, and the values of these.
     Expanded(u64, u64, Vec<Option<V>>),
-    /// A key beside the one that was asked, if there is one.
-    Beside(Option<K>),
+    /// The neighbour of the key that was asked, if there is one.
+    Neighbour(Option<K>),
     /// The live update whose span holds the key, if any key is live.
     Span(Option<Span<K, V>>),
     /// The value of a key and the next key, if the key is live.

@@ -4,16 +4,15 @@ ghost use Rattle.std.specs.Prelude.{◌≡◌, ◌++◌, codes, decimal, flat_ma
 ghost use Rattle.hex.specs.Hex.{encode_lower};
 ghost use Rattle.qm_model.specs.Operations.{update};
 ghost use Rattle.qm_model.specs.Refused as refusals;
-ghost use Rattle.qm_base.specs.Views.{corrupt_view};
+ghost use Rattle.qm_base.specs.Views.{corrupt_view, tree_view, pair_view};
 ghost use Rattle.qm_machine.specs.Lines as lines;
 ghost use Rattle.qm_machine.specs.Text as texts;
 ghost use Rattle.qm_lines.specs.Written.{Adds};
-ghost use Rattle.qm_base.specs.Views.{pair_view};
-ghost use Rattle.qm_lines.specs.Views.{tree_view, log_view, refused_view, answer_view};
+ghost use Rattle.qm_lines.specs.Views.{log_view, refused_view, answer_view};
 ghost use Rattle.qm_base.specs.Listed.{listed_view, span_view, whole_view};
 
-use crate::reply::{LogRefused, Refused, Reply, TreeRefused};
-use qm_base::{ByteString, Corrupt, Digest, Listed, Span};
+use crate::reply::{LogRefused, Refused, Reply};
+use qm_base::{ByteString, Corrupt, Digest, Listed, Span, TreeRefused};
 use std::alloc::{AllocError, Global};
 use std::fmt::Write;
 
@@ -314,9 +313,9 @@ fn write_expanded<V: ByteString>(
     write_values(out, values)
 }
 
-// A key beside another, if there is one.
-fn write_beside<K: ByteString>(out: &mut String, key: &Option<K>) -> Result<(), AllocError>
-    ensures { Adds out.old out.new result (texts.beside_text (option_map K.bytes key.now)) }
+// The neighbour of a key, if there is one.
+fn write_neighbour<K: ByteString>(out: &mut String, key: &Option<K>) -> Result<(), AllocError>
+    ensures { Adds out.old out.new result (texts.neighbour_text (option_map K.bytes key.now)) }
 {
     let Some(key) = key else {
         return out.push_str("none");
@@ -412,7 +411,7 @@ fn write_line<K: ByteString, V: ByteString, D: Digest>(
         Reply::Ops(base, ops) => write_listed(out, *base, ops),
         Reply::Read(values) => write_read(out, values),
         Reply::Expanded(first, end, values) => write_expanded(out, *first, *end, values),
-        Reply::Beside(key) => write_beside(out, key),
+        Reply::Neighbour(key) => write_neighbour(out, key),
         Reply::Span(span) => write_span(out, span),
         Reply::All(whole) => write_whole(out, whole),
         Reply::Range(pairs) => write_range(out, pairs),

@@ -13,7 +13,7 @@ use Rattle.qm_model.specs.Batches.{Chain, Apart, commitment, fits, readable}
 use Rattle.qm_machine.specs.Lines.{Line, Open, Batch, Child, Tip, Put, Del, Merkleize, Stage, Expand, Resolve, Apply, Ops, Get, Many, Next, Prev, Span, All, Range, Keys, Info, BatchInfo, Root, BatchRoot, BatchProof, Meta, Prove, Pins, Question, Held, Absent, Witness, Current, Prune, Commit, Sync, Close, Destroy, Crash, Answer}
 use Rattle.qm_machine.specs.Lines as lines
 use Rattle.qm_model.specs.Refused.{Refused}
-use Rattle.qm_machine.specs.Machine.{State, Slot, choices_after, gone, writing, staged, merkleized, turn, answers, state_after, slot_at, start_child, put_in, list_operations, with_database, opened_as, found_in, closed, unless, merkleize_tip, merkleize_writes, merkleize_in, resolve_in, apply_in, if_readable, if_staged, stage_in, expand_in, read_in, read, if_ordered, beside_in, beside_of, info_in, root_in, proof_in, prune_in, if_any, if_current, if_absences, held_at, absent_at, answered}
+use Rattle.qm_machine.specs.Machine.{State, Slot, choices_after, gone, writing, staged, merkleized, turn, answers, state_after, slot_at, start_child, put_in, list_operations, with_database, opened_as, found_in, closed, unless, merkleize_tip, merkleize_writes, merkleize_in, resolve_in, apply_in, if_readable, if_staged, stage_in, expand_in, read_in, read, if_ordered, neighbour_in, neighbour_of, info_in, root_in, proof_in, prune_in, if_any, if_current, if_absences, held_at, absent_at, answered}
 use Rattle.qm_machine.specs.Machine.{asked, if_checked}
 use Rattle.qm_model.specs.Schemes.{Scheme, layout_of, Grafts, takes}
 use Rattle.qm_model.specs.Held.{pins_lacked, proof_lacked}
@@ -142,15 +142,15 @@ module _ (m : Scheme) where
   ordered_keeps : (s : State) (offered : Answer × State) → Keeps s offered → Keeps s (if_ordered m s offered)
   ordered_keeps s offered keeps = either s m.form.ordered _ _ keeps (λ x a. a, refl)
 
-  beside_in_keeps : (s : State) (h : ℕ) (beside : List Bytes → Option Bytes) (list : List Operation) (slot : Slot) → Keeps s (beside_in m s h beside list slot)
-  beside_in_keeps s h beside list gone = (λ x a. a, refl)
-  beside_in_keeps s h beside list (staged chain parent ws ks) = (λ x a. a, refl)
-  beside_in_keeps s h beside list (writing chain parent ws) = (λ x a. a, refl)
-  beside_in_keeps s h beside list (merkleized chain tip) = readable_keeps s list chain tip _
+  neighbour_in_keeps : (s : State) (h : ℕ) (beside : List Bytes → Option Bytes) (list : List Operation) (slot : Slot) → Keeps s (neighbour_in m s h beside list slot)
+  neighbour_in_keeps s h beside list gone = (λ x a. a, refl)
+  neighbour_in_keeps s h beside list (staged chain parent ws ks) = (λ x a. a, refl)
+  neighbour_in_keeps s h beside list (writing chain parent ws) = (λ x a. a, refl)
+  neighbour_in_keeps s h beside list (merkleized chain tip) = readable_keeps s list chain tip _
 
-  beside_keeps : (s : State) (beside : List Bytes → Option Bytes) (from : Option ℕ) → Keeps s (beside_of m s beside from)
-  beside_keeps s beside None = with_list s s.database _ (λ list. (λ x a. a, refl))
-  beside_keeps s beside (Some h) = with_list s s.database _ (λ list. beside_in_keeps s h beside list (slot_at s.table h))
+  neighbour_keeps : (s : State) (beside : List Bytes → Option Bytes) (from : Option ℕ) → Keeps s (neighbour_of m s beside from)
+  neighbour_keeps s beside None = with_list s s.database _ (λ list. (λ x a. a, refl))
+  neighbour_keeps s beside (Some h) = with_list s s.database _ (λ list. neighbour_in_keeps s h beside list (slot_at s.table h))
 
   info_keeps : (s : State) (h : ℕ) (slot : Slot) → Keeps s (info_in m s h slot)
   info_keeps s h gone = (λ x a. a, refl)
@@ -208,8 +208,8 @@ module _ (m : Scheme) {P : Type 0} (rules : Rules P) where
   turn_keeps s (Ops h) = listed_keeps s h (slot_at s.table h)
   turn_keeps s (Get key from) = read_keeps m s (key ∷ []) from
   turn_keeps s (Many keys from) = read_keeps m s keys from
-  turn_keeps s (Next key from) = ordered_keeps m s _ (beside_keeps m s (λ keys. key_above keys key) from)
-  turn_keeps s (Prev key from) = ordered_keeps m s _ (beside_keeps m s (λ keys. key_below keys key) from)
+  turn_keeps s (Next key from) = ordered_keeps m s _ (neighbour_keeps m s (λ keys. key_above keys key) from)
+  turn_keeps s (Prev key from) = ordered_keeps m s _ (neighbour_keeps m s (λ keys. key_below keys key) from)
   turn_keeps s (Span key) = ordered_keeps m s _ (with_list s s.database _ (λ list. (λ x a. a, refl)))
   turn_keeps s (All key) = ordered_keeps m s _ (with_list s s.database _ (λ list. (λ x a. a, refl)))
   turn_keeps s (Range low high) = ordered_keeps m s _ (with_list s s.database _ (λ list. (λ x a. a, refl)))

@@ -36,7 +36,7 @@ use Rattle.qm_model.proofs.Boundaries.{boundary-rises}
 use Rattle.qm_model.proofs.Openings.{IsPart, ended-part, ended-whole, unordered-parts, ordered-parts, unordered-left, ordered-left, unordered-keeps, ordered-keeps}
 use Rattle.qm_machine.specs.Lines.{Line, Open, Batch, Child, Tip, Put, Del, Merkleize, Stage, Expand, Resolve, Apply, Ops, Get, Many, Next, Prev, Span, Range, Keys, Info, BatchInfo, Root, BatchRoot, BatchProof, Meta, Prove, Pins, Question, Held, Absent, Witness, Current, Prune, Commit, Sync, Close, Destroy, Crash, Answer}
 use Rattle.qm_machine.specs.Lines as lines
-use Rattle.qm_machine.specs.Machine.{State, Slot, gone, writing, staged, merkleized, turn, slot_at, with_slot, initial, started, start_child, put_in, list_operations, with_database, closed, settled, commit, restarted, opened_as, if_any, if_current, if_absences, held_at, absent_at, if_checked, asked, answered, found_in, unless, merkleize_tip, merkleize_writes, merkleize_in, resolve_in, apply_in, if_readable, if_staged, stage_in, expand_in, read_in, read, if_ordered, beside_in, beside_of, info_in, root_in, proof_in, pruned, prune_in}
+use Rattle.qm_machine.specs.Machine.{State, Slot, gone, writing, staged, merkleized, turn, slot_at, with_slot, initial, started, start_child, put_in, list_operations, with_database, closed, settled, commit, restarted, opened_as, if_any, if_current, if_absences, held_at, absent_at, if_checked, asked, answered, found_in, unless, merkleize_tip, merkleize_writes, merkleize_in, resolve_in, apply_in, if_readable, if_staged, stage_in, expand_in, read_in, read, if_ordered, neighbour_in, neighbour_of, info_in, root_in, proof_in, pruned, prune_in}
 use Rattle.qm_model.specs.Schemes.{Scheme, Grafts, takes, chunks_of, chunks_after, kind_of, engine_of, layout_of, HasBounds}
 use Rattle.qm_model.specs.Held.{pins_lacked, proof_lacked}
 use Rattle.qm_machine.specs.Sound.{IsSoundSlot, IsSteady, IsSound}
@@ -420,15 +420,15 @@ module _ (m : Scheme) {P : Type 0} (rules : Rules P) where
   read_sound s keys None is = with_list s s.database _ is (λ list e. (λ apart formed. is))
   read_sound s keys (Some h) is = with_list s s.database _ is (λ list e. read_in_sound s h keys list (slot_at s.table h) is)
 
-  beside_in_sound : (s : State) (h : ℕ) (beside : List Bytes → Option Bytes) (list : List Operation) (slot : Slot) → IsSound m rules s → Sound (beside_in m s h beside list slot)
-  beside_in_sound s h beside list (merkleized chain tip) is = readable_sound s list chain tip _ is
-  beside_in_sound s h beside list gone is = (λ apart formed. is)
-  beside_in_sound s h beside list (writing chain parent ws) is = (λ apart formed. is)
-  beside_in_sound s h beside list (staged chain parent ws ks) is = (λ apart formed. is)
+  neighbour_in_sound : (s : State) (h : ℕ) (beside : List Bytes → Option Bytes) (list : List Operation) (slot : Slot) → IsSound m rules s → Sound (neighbour_in m s h beside list slot)
+  neighbour_in_sound s h beside list (merkleized chain tip) is = readable_sound s list chain tip _ is
+  neighbour_in_sound s h beside list gone is = (λ apart formed. is)
+  neighbour_in_sound s h beside list (writing chain parent ws) is = (λ apart formed. is)
+  neighbour_in_sound s h beside list (staged chain parent ws ks) is = (λ apart formed. is)
 
-  beside_sound : (s : State) (beside : List Bytes → Option Bytes) (from : Option ℕ) → IsSound m rules s → Sound (beside_of m s beside from)
-  beside_sound s beside None is = with_list s s.database _ is (λ list e. (λ apart formed. is))
-  beside_sound s beside (Some h) is = with_list s s.database _ is (λ list e. beside_in_sound s h beside list (slot_at s.table h) is)
+  neighbour_sound : (s : State) (beside : List Bytes → Option Bytes) (from : Option ℕ) → IsSound m rules s → Sound (neighbour_of m s beside from)
+  neighbour_sound s beside None is = with_list s s.database _ is (λ list e. (λ apart formed. is))
+  neighbour_sound s beside (Some h) is = with_list s s.database _ is (λ list e. neighbour_in_sound s h beside list (slot_at s.table h) is)
 
   info_sound : (s : State) (h : ℕ) (slot : Slot) → IsSound m rules s → Sound (info_in m s h slot)
   info_sound s h (merkleized chain tip) is = (λ apart formed. is)
@@ -529,8 +529,8 @@ module _ (m : Scheme) {P : Type 0} (rules : Rules P) where
   turn-sound bounds s (Ops h) is = listed_sound s h (slot_at s.table h) is
   turn-sound bounds s (Get key from) is = read_sound s (key ∷ []) from is
   turn-sound bounds s (Many keys from) is = read_sound s keys from is
-  turn-sound bounds s (Next key from) is = ordered_only s _ is (beside_sound s (λ keys. key_above keys key) from is)
-  turn-sound bounds s (Prev key from) is = ordered_only s _ is (beside_sound s (λ keys. key_below keys key) from is)
+  turn-sound bounds s (Next key from) is = ordered_only s _ is (neighbour_sound s (λ keys. key_above keys key) from is)
+  turn-sound bounds s (Prev key from) is = ordered_only s _ is (neighbour_sound s (λ keys. key_below keys key) from is)
   turn-sound bounds s (Span key) is = ordered_only s _ is (with_list s s.database _ is (λ list e. (λ apart formed. is)))
   turn-sound bounds s (lines.All key) is = ordered_only s _ is (with_list s s.database _ is (λ list e. (λ apart formed. is)))
   turn-sound bounds s (Range low high) is = ordered_only s _ is (with_list s s.database _ is (λ list e. (λ apart formed. is)))

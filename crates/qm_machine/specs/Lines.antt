@@ -38,7 +38,7 @@ pub data Line (P : Type 0) : Type 0 where
   -- keys, through the database or a batch
   Get : Bytes → Option ℕ → Line P
   Many : List Bytes → Option ℕ → Line P
-  -- in an ordered database: the keys beside one, through the database or a batch
+  -- in an ordered database: the neighbours of a key, through the database or a batch
   Next : Bytes → Option ℕ → Line P
   Prev : Bytes → Option ℕ → Line P
   -- the live update whose span holds a key, and the key's own
@@ -84,8 +84,8 @@ pub data Answer : Type 0 where
   Read : List (Option Bytes) → Answer
   -- from which staged key up to which, and what was read of these
   Expanded : ℕ → ℕ → List (Option Bytes) → Answer
-  -- a key, if there is one
-  Beside : Option Bytes → Answer
+  -- the neighbour of a key, if there is one
+  Neighbour : Option Bytes → Answer
   -- the live update whose span holds a key; and of a key its value, and the next key
   Spanning : Option Live → Answer
   Whole : Option (Bytes × Option Bytes) → Answer

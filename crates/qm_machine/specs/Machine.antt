@@ -14,7 +14,7 @@ use Rattle.qm_model.specs.Checks.{Checks}
 use Rattle.qm_model.specs.Opening.{Found, Opening, refuses, opens, opening, opened_list}
 use Rattle.qm_model.specs.Own.{Log, no_log, taken_up}
 use Rattle.qm_model.specs.Batches.{Chain, begun_on, child_of, commitment, fits, readable, own_operations}
-use Rattle.qm_machine.specs.Lines.{Line, Open, Batch, Child, Tip, Put, Del, Merkleize, Stage, Expand, Resolve, Apply, Ops, Get, Many, Next, Prev, Span, All, Range, Keys, Info, BatchInfo, Root, BatchRoot, BatchProof, Meta, Prove, Pins, Question, Held, Absent, Witness, Current, Prune, Commit, Sync, Close, Destroy, Crash, Answer, Opened, Started, Done, Merkleized, Applied, Listed, Read, Expanded, Beside, Spanning, Whole, Ranged, Keyed, Told, BatchTold, Rooted, Metadata, Proved, BatchProved, Pinned, HeldAt, AbsentAt, Chunked, Witnessed, Refuses}
+use Rattle.qm_machine.specs.Lines.{Line, Open, Batch, Child, Tip, Put, Del, Merkleize, Stage, Expand, Resolve, Apply, Ops, Get, Many, Next, Prev, Span, All, Range, Keys, Info, BatchInfo, Root, BatchRoot, BatchProof, Meta, Prove, Pins, Question, Held, Absent, Witness, Current, Prune, Commit, Sync, Close, Destroy, Crash, Answer, Opened, Started, Done, Merkleized, Applied, Listed, Read, Expanded, Neighbour, Spanning, Whole, Ranged, Keyed, Told, BatchTold, Rooted, Metadata, Proved, BatchProved, Pinned, HeldAt, AbsentAt, Chunked, Witnessed, Refuses}
 use Rattle.qm_machine.specs.Lines as lines
 use Rattle.qm_model.specs.Refused.{Refused, NotOffered, NoDatabase, NoSuchHandle, SlotCount, StaleBatch, StaleRead, KeyNotFound, KeyExists, PruneBeyondMinRequired}
 use Rattle.qm_model.specs.Refusals.{tip_refusal, proof_refusal, proof_count, range_refusal}
@@ -269,24 +269,24 @@ module _ (m : Scheme) where
   abbrev pub if_ordered : State → Answer × State → Answer × State
   if_ordered s offered = if m.form.ordered then offered else refuse s NotOffered
 
-  -- the live key beside one on the list that a merkleized batch makes
-  abbrev pub beside_in : State → ℕ → (List Bytes → Option Bytes) → List Operation → Slot → Answer × State
-  beside_in s h beside list (merkleized chain tip) = if_readable s list chain tip (Beside (beside (live_keys tip)))
-  beside_in s h beside list gone = refuse s (NoSuchHandle h)
-  beside_in s h beside list (writing chain parent ws) = refuse s (NoSuchHandle h)
-  beside_in s h beside list (staged chain parent ws ks) = refuse s (NoSuchHandle h)
+  -- the neighbour of a key on the list that a merkleized batch makes
+  abbrev pub neighbour_in : State → ℕ → (List Bytes → Option Bytes) → List Operation → Slot → Answer × State
+  neighbour_in s h beside list (merkleized chain tip) = if_readable s list chain tip (Neighbour (beside (live_keys tip)))
+  neighbour_in s h beside list gone = refuse s (NoSuchHandle h)
+  neighbour_in s h beside list (writing chain parent ws) = refuse s (NoSuchHandle h)
+  neighbour_in s h beside list (staged chain parent ws ks) = refuse s (NoSuchHandle h)
 
   -- the same, or on the database's list if no batch is given
-  abbrev pub beside_of : State → (List Bytes → Option Bytes) → Option ℕ → Answer × State
-  beside_of s beside None = with_database s s.database (λ list. (Beside (beside (live_keys list)), s))
-  beside_of s beside (Some h) = with_database s s.database (λ list. beside_in s h beside list (slot_at s.table h))
+  abbrev pub neighbour_of : State → (List Bytes → Option Bytes) → Option ℕ → Answer × State
+  neighbour_of s beside None = with_database s s.database (λ list. (Neighbour (beside (live_keys list)), s))
+  neighbour_of s beside (Some h) = with_database s s.database (λ list. neighbour_in s h beside list (slot_at s.table h))
 
   -- the nearest live keys above and below a key
   abbrev pub next : State → Bytes → Option ℕ → Answer × State
-  next s key from = if_ordered s (beside_of s (λ keys. key_above keys key) from)
+  next s key from = if_ordered s (neighbour_of s (λ keys. key_above keys key) from)
 
   abbrev pub prev : State → Bytes → Option ℕ → Answer × State
-  prev s key from = if_ordered s (beside_of s (λ keys. key_below keys key) from)
+  prev s key from = if_ordered s (neighbour_of s (λ keys. key_below keys key) from)
 
   -- the live update whose span holds a key
   abbrev pub span : State → Bytes → Answer × State

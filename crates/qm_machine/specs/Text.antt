@@ -3,7 +3,7 @@ use Rattle.std.specs.Prelude.{Bool, true, false, List, [], ◌∷◌, ◌++◌, 
 use Rattle.hex.specs.Hex.{encode_lower}
 use Rattle.qm_model.specs.Live.{Live}
 use Rattle.qm_model.specs.Operations.{Bytes, Operation, update, delete, commit}
-use Rattle.qm_machine.specs.Lines.{Answer, Opened, Started, Done, Merkleized, Applied, Listed, Read, Expanded, Beside, Spanning, Whole, Ranged, Keyed, Told, BatchTold, Rooted, Metadata, Proved, BatchProved, Pinned, HeldAt, AbsentAt, Chunked, Witnessed, Refuses}
+use Rattle.qm_machine.specs.Lines.{Answer, Opened, Started, Done, Merkleized, Applied, Listed, Read, Expanded, Neighbour, Spanning, Whole, Ranged, Keyed, Told, BatchTold, Rooted, Metadata, Proved, BatchProved, Pinned, HeldAt, AbsentAt, Chunked, Witnessed, Refuses}
 use Rattle.qm_model.specs.Refused.{corrupt_text, TreeRefused, RangeOutOfBounds, ElementPruned, MissingNode, LocationOverflow, LogRefused, ItemPruned, ItemTooLarge, Refused, NotOffered, NoDatabase, NoSuchHandle, SlotCount, InvalidInitializationBound, StaleBatch, StaleRead, KeyNotFound, KeyExists, OperationPruned, PruneBeyondMinRequired, HistoricalFloorPruned, DataCorrupted, Merkle, Journal}
 
 -- bytes in hexadecimal, and the empty ones as a dash
@@ -60,9 +60,9 @@ abbrev pub values_text : List (Option Bytes) → Bytes
 values_text values = flat_map (λ v. codes " " ++ optional_text v) values
 
 -- a key, if there is one
-abbrev pub beside_text : Option Bytes → Bytes
-beside_text None = codes "none"
-beside_text (Some k) = codes "key " ++ hex_text k
+abbrev pub neighbour_text : Option Bytes → Bytes
+neighbour_text None = codes "none"
+neighbour_text (Some k) = codes "key " ++ hex_text k
 
 -- location, key, value and next key of a live update
 abbrev pub spanning_text : Option Live → Bytes
@@ -106,7 +106,7 @@ reply_line (Applied size) = codes "applied " ++ decimal size
 reply_line (Listed base ops) = codes "ops " ++ (decimal base ++ operations_text ops)
 reply_line (Read values) = codes "read" ++ values_text values
 reply_line (Expanded a b values) = codes "read " ++ (decimal a ++ (codes " " ++ (decimal b ++ values_text values)))
-reply_line (Beside key) = beside_text key
+reply_line (Neighbour key) = neighbour_text key
 reply_line (Spanning e) = spanning_text e
 reply_line (Whole p) = whole_text p
 reply_line (Ranged pairs) = codes "range" ++ pairs_text pairs

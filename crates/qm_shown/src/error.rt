@@ -34,14 +34,14 @@ impl From<AllocError> for ProofError {
 }
 
 impl From<MerkleError> for ProofError {
-    ghost use Rattle.qm_base.specs.declared.error.Error.TheVariants as errors;
+    ghost use Rattle.qm_base.specs.Views.{tree_error};
     ghost use Rattle.std.specs.Prelude.{◌≡◌};
     ghost use Rattle.qm_shown.specs.declared.error.ProofError.TheVariants.{Call};
 
-    ghost from_gives = { λ m e. e ≡ Call (errors.Merkle m) };
+    ghost from_gives = { λ m e. e ≡ Call (tree_error m) };
 
     fn from(error: MerkleError) -> Self {
-        ProofError::Call(CallError::Merkle(error))
+        ProofError::Call(CallError::from(error))
     }
 }
 

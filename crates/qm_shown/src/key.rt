@@ -11,7 +11,7 @@ use crate::error::ProofError;
 use crate::parts::parts;
 use crate::refused::provable_from;
 use qm_any::db::{Db, LaidOut};
-use qm_base::{ByteString, Digest, Error, Hasher, Location, MerkleError};
+use qm_base::{ByteString, Digest, Error, Hasher, Location};
 use qm_bits::Chunks;
 use qm_chunks::Graftable;
 use qm_keyproofs::OperationProof;

@@ -7,7 +7,7 @@ ghost use Rattle.qm_shown.specs.Refusals.{from_refusal, refusal_of};
 
 use crate::error::ProofError;
 use qm_any::db::Db;
-use qm_base::{Digest, Error, Hasher, JournalError, Location, MerkleError};
+use qm_base::{Digest, Error, Hasher, JournalError, Location, TreeRefused};
 use qm_bits::Chunks;
 use qm_chunks::Graftable;
 use qm_graft::grafted::height;
@@ -35,7 +35,7 @@ pub(crate) fn provable_from<
     let at = start.get();
     let (kept, size) = db.bounds();
     if at >= size.get() {
-        return Err(ProofError::Call(Error::Merkle(MerkleError::RangeOutOfBounds(at))));
+        return Err(ProofError::Call(Error::Merkle(TreeRefused::RangeOutOfBounds(at))));
     }
     if at >> height::<N>() < db.bitmap().pruned_chunks() as u64 {
         return Err(ProofError::OperationPruned(at));

@@ -9,7 +9,7 @@ use Rattle.qm_base.specs.declared.error.Corrupt.{Corrupt}
 use Rattle.qm_base.specs.declared.error.Error.{Error}
 use Rattle.qm_base.specs.declared.error.Error.TheVariants as errors
 use Rattle.qm_base.specs.declared.error.JournalError.TheVariants as journal
-use Rattle.qm_base.specs.declared.error.MerkleError.TheVariants as merkle
+use Rattle.qm_base.specs.declared.error.TreeRefused.TheVariants as refused
 use Rattle.qm_store.specs.declared.Store as store
 use Rattle.qm_store.specs.declared.StoreError.{StoreError}
 use Rattle.qm_store.specs.declared.StoreError.TheVariants as stores
@@ -28,7 +28,7 @@ pub other-error : {T : Type 0} (count : ℕ) (e : Error) → (e ≡ errors.Journ
 other-error count e other = record { later = le_refl _; failed = λ fault. absurd (other cc) }
 
 -- nor is that of a range
-pub range-error : {T : Type 0} (count at : ℕ) → IsCause count count (IsErrOf {T = T} (Err (errors.Merkle (merkle.RangeOutOfBounds at))) (errors.Journal journal.Store))
+pub range-error : {T : Type 0} (count at : ℕ) → IsCause count count (IsErrOf {T = T} (Err (errors.Merkle (refused.RangeOutOfBounds at))) (errors.Journal journal.Store))
 range-error count at = other-error count _ (λ is. absurd cc)
 
 pub pruned-error : {T : Type 0} (count at : ℕ) → IsCause count count (IsErrOf {T = T} (Err (errors.Journal (journal.ItemPruned at))) (errors.Journal journal.Store))

@@ -8,8 +8,7 @@ use Rattle.qm_model.specs.Trees.{Shape, leaf, peaks, leaf_digest, digest_of}
 use Rattle.qm_base.specs.declared.error.Error.{Error}
 use Rattle.qm_base.specs.declared.error.Error.TheVariants as errors
 use Rattle.qm_base.specs.declared.error.JournalError.TheVariants as journal
-use Rattle.qm_base.specs.declared.error.MerkleError.{MerkleError}
-use Rattle.qm_base.specs.declared.error.MerkleError.TheVariants as merkle
+use Rattle.qm_base.specs.declared.error.TreeRefused.TheVariants as refused
 use Rattle.qm_merkle.specs.Mems.{Kept, Stands}
 use Rattle.qm_proofs.specs.Proofs.{first_lacked}
 use Rattle.qm_store.specs.declared.Store as store
@@ -102,11 +101,6 @@ pub record IsRefused {C D : Type 0} (members : store.Ghosts C) (Left : C → C �
   pub never : (error ≡ errors.Memory) ⊎ (error ≡ errors.Journal journal.Store)
   pub cause : IsCause (members.faults old.store) (members.faults (store_given given)) (error ≡ errors.Journal journal.Store)
 
--- why a log's call failed, if its tree's did
-abbrev pub tree_error : MerkleError → Error
-tree_error merkle.Memory = errors.Memory
-tree_error error = errors.Merkle error
-
 -- the error names the first position with no digest, if it is not want of memory
 abbrev pub IsLacked : {D : Type 0} → (ℕ → Option D) → List ℕ → Error → Type 0
-IsLacked at positions error = (error ≡ errors.Memory) ⊎ ((p : ℕ) × (first_lacked at positions ≡ Some p) × (error ≡ errors.Merkle (merkle.ElementPruned p)))
+IsLacked at positions error = (error ≡ errors.Memory) ⊎ ((p : ℕ) × (first_lacked at positions ≡ Some p) × (error ≡ errors.Merkle (refused.ElementPruned p)))

@@ -3,19 +3,9 @@ use Rattle.std.specs.Prelude.{◌≡◌, List, Contains, Option, None, Some, IfS
 use Rattle.qm_model.specs.Refused as refusals
 use Rattle.qm_base.specs.declared.error.JournalError.{JournalError}
 use Rattle.qm_base.specs.declared.error.JournalError.TheVariants as journal
-use Rattle.qm_base.specs.declared.error.MerkleError.{MerkleError}
-use Rattle.qm_base.specs.declared.error.MerkleError.TheVariants as merkle
 use Rattle.qm_base.specs.declared.error.Error.{Error}
 use Rattle.qm_base.specs.declared.error.Error.TheVariants as errors
-use Rattle.qm_base.specs.Views.{corrupt_view}
-
--- why a tree refused, if memory was not wanted
-abbrev pub tree_refusal : MerkleError → Option refusals.TreeRefused
-tree_refusal merkle.Memory = None
-tree_refusal (merkle.RangeOutOfBounds n) = Some (refusals.RangeOutOfBounds n)
-tree_refusal (merkle.ElementPruned n) = Some (refusals.ElementPruned n)
-tree_refusal (merkle.MissingNode n) = Some (refusals.MissingNode n)
-tree_refusal (merkle.LocationOverflow n) = Some (refusals.LocationOverflow n)
+use Rattle.qm_base.specs.Views.{corrupt_view, tree_view}
 
 -- why a log refused, if its store did not fail
 abbrev pub log_refusal : JournalError → Option refusals.LogRefused
@@ -32,7 +22,7 @@ refusal_of errors.StaleRead = Some refusals.StaleRead
 refusal_of (errors.PruneBeyondMinRequired p m) = Some (refusals.PruneBeyondMinRequired p m)
 refusal_of (errors.HistoricalFloorPruned n) = Some (refusals.HistoricalFloorPruned n)
 refusal_of (errors.DataCorrupted c) = Some (refusals.DataCorrupted (corrupt_view c))
-refusal_of (errors.Merkle e) = option_map refusals.Merkle (tree_refusal e)
+refusal_of (errors.Merkle e) = Some (refusals.Merkle (tree_view e))
 refusal_of (errors.Journal e) = option_map refusals.Journal (log_refusal e)
 
 -- an error refuses for no other reason than is due

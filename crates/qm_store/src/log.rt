@@ -15,7 +15,7 @@ ghost use Rattle.qm_store.specs.KeptTrees.{IsAdding, IsKeptTree};
 ghost use Rattle.qm_store.specs.Log.{Log, digests_from, IsHead, log_error, IsLog, IsKept, HasGrown, HasGrownPart, HasBecome, HasLeft, HasLeftPruned, IsRefused, IsLacked, head_over};
 
 use crate::{KeptTree, MetaEntry, Store, StoreError};
-use qm_base::{Corrupt, Digest, Error, Hasher, JournalError, Location, MerkleError};
+use qm_base::{Corrupt, Digest, Error, Hasher, JournalError, Location, TreeRefused};
 use qm_merkle::mem::Mem;
 use qm_merkle::{Family, MerkleizedBatch, Position, StandardHasher, UnmerkleizedBatch};
 use qm_proofs::Proof;
@@ -510,9 +510,9 @@ impl<F: Family, C: Store, H: Hasher> AuthLog<F, C, H> {
         ensures count { IfOk result (λ shown.
             length shown.1.items ≡ min (non_zero_u64_get max) (size - start)) }
         ensures size { self.old.tree.leaves < size
-            → result ≡ Err (Error.Merkle (MerkleError.RangeOutOfBounds size)) }
+            → result ≡ Err (Error.Merkle (TreeRefused.RangeOutOfBounds size)) }
         ensures start { size ≤ self.old.tree.leaves → size ≤ start
-            → result ≡ Err (Error.Merkle (MerkleError.RangeOutOfBounds start)) }
+            → result ≡ Err (Error.Merkle (TreeRefused.RangeOutOfBounds start)) }
         ensures pruned { size ≤ self.old.tree.leaves → start < size → start < self.old.tree.start
             → result ≡ Err (Error.Journal (JournalError.ItemPruned start)) }
         ensures never { size ≤ self.old.tree.leaves → start < size → self.old.tree.start ≤ start
@@ -527,10 +527,10 @@ impl<F: Family, C: Store, H: Hasher> AuthLog<F, C, H> {
     {
         let (first, leaves) = self.bounds();
         if leaves < size {
-            return Err(Error::Merkle(MerkleError::RangeOutOfBounds(size)));
+            return Err(Error::Merkle(TreeRefused::RangeOutOfBounds(size)));
         }
         if size <= start {
-            return Err(Error::Merkle(MerkleError::RangeOutOfBounds(start)));
+            return Err(Error::Merkle(TreeRefused::RangeOutOfBounds(start)));
         }
         if start < first {
             return Err(Error::Journal(JournalError::ItemPruned(start)));
@@ -550,7 +550,7 @@ impl<F: Family, C: Store, H: Hasher> AuthLog<F, C, H> {
             ≡ map (trees.digest_of H.hash F.shape (digests_from H.hash F.shape 0 list))
             (trees.peaks F.shape count)) }
         ensures range { self.now.tree.leaves < count
-            → result ≡ Err (Error.Merkle (MerkleError.RangeOutOfBounds count)) }
+            → result ≡ Err (Error.Merkle (TreeRefused.RangeOutOfBounds count)) }
         ensures held { OnOk result (first_lacked (node_at F.shape self.now.tree)
             (trees.peak_positions F.shape count)
             ≡ None) }
@@ -562,7 +562,7 @@ impl<F: Family, C: Store, H: Hasher> AuthLog<F, C, H> {
     {
         let (_, leaves) = self.bounds();
         if leaves < count {
-            return Err(Error::Merkle(MerkleError::RangeOutOfBounds(count)));
+            return Err(Error::Merkle(TreeRefused::RangeOutOfBounds(count)));
         }
         shown::kept_peaks(alloc, &self.tree, count)
     }

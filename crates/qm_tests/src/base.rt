@@ -1,6 +1,6 @@
 //! Texts of errors.
 
-use qm_base::{Corrupt, Error, JournalError, MerkleError};
+use qm_base::{Corrupt, Error, JournalError, TreeRefused};
 use qm_chain::FloorError;
 use qm_store::StoreError;
 use std::alloc::{AllocError, Global};
@@ -52,7 +52,7 @@ fn error_at(index: usize) -> Error {
         13 => Error::DataCorrupted(Corrupt::CountTooLarge),
         14 => Error::DataCorrupted(Corrupt::MissingPin),
         15 => Error::from(Corrupt::InvalidPin),
-        16 => Error::Merkle(MerkleError::RangeOutOfBounds(5)),
+        16 => Error::Merkle(TreeRefused::RangeOutOfBounds(5)),
         17 => Error::Journal(JournalError::Store),
         18 => Error::Journal(JournalError::ItemPruned(7)),
         _ => Error::Journal(JournalError::ItemTooLarge(65_546)),

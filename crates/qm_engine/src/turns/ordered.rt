@@ -30,7 +30,7 @@ pub enum Side {
 #[derive(Drop)]
 pub enum Question<'a, K> {
     /// The nearest live key on this side of a key.
-    Beside(Side, &'a K),
+    Neighbour(Side, &'a K),
     /// The live update whose span holds a key.
     Span(&'a K),
     /// The value of a key, and the next key.
@@ -54,12 +54,12 @@ fn reply_to<X: Neighbours<C>, C: Store>(
     ensures reads { TurnReads C.Store X.Meaning database.old database.new result }
 {
     match question {
-        Question::Beside(Side::Above, key) => match database.next(alloc, key) {
-            Ok(key) => Turn::Reply(Reply::Beside(key)),
+        Question::Neighbour(Side::Above, key) => match database.next(alloc, key) {
+            Ok(key) => Turn::Reply(Reply::Neighbour(key)),
             Err(error) => turn_of(error),
         },
-        Question::Beside(Side::Below, key) => match database.prev(alloc, key) {
-            Ok(key) => Turn::Reply(Reply::Beside(key)),
+        Question::Neighbour(Side::Below, key) => match database.prev(alloc, key) {
+            Ok(key) => Turn::Reply(Reply::Neighbour(key)),
             Err(error) => turn_of(error),
         },
         Question::Span(key) => match database.span(alloc, key) {
@@ -140,7 +140,7 @@ pub fn neighbour<X: Neighbours<C>, C: Store>(
 ) -> Turn<X::Key, X::Value, X::Digest>
     ensures machine { Obeys C.Store X.Meaning X.Key.bytes X.Value.bytes X.Digest.bytes session.old
         session.new result (λ s. machine.if_ordered X.scheme s
-        (machine.beside_of X.scheme s (key_beside side (X.Key.bytes key.now)) from)) }
+        (machine.neighbour_of X.scheme s (key_beside side (X.Key.bytes key.now)) from)) }
     ensures store { IsUnchanged C.Store (store_given X.inside session.old.held)
         (store_given X.inside session.new.held) }
     ensures uses { Uses C.Store (store_given X.inside session.old.held)
@@ -148,7 +148,7 @@ pub fn neighbour<X: Neighbours<C>, C: Store>(
     ensures opened { session.new.opened ≡ session.old.opened }
 {
     let Some(number) = from else {
-        return ask::<X, C>(alloc, session, Question::Beside(side, key));
+        return ask::<X, C>(alloc, session, Question::Neighbour(side, key));
     };
     if !X::is_ordered() {
         return Turn::Reply(Reply::Refused(Refused::NotOffered));
@@ -160,7 +160,7 @@ pub fn neighbour<X: Neighbours<C>, C: Store>(
         return no_such_handle(number);
     };
     match neighbour_from::<X, C>(alloc, x, batch, side, key) {
-        Ok(key) => Turn::Reply(Reply::Beside(key)),
+        Ok(key) => Turn::Reply(Reply::Neighbour(key)),
         Err(error) => turn_of(error),
     }
 }

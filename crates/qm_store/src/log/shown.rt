@@ -8,10 +8,10 @@ ghost use Rattle.qm_model.specs.Proofs.{proof_of};
 ghost use Rattle.qm_merkle.specs.Mems.{Stands, node_at};
 ghost use Rattle.qm_merkle.specs.Batches.{all_layers, IsHistory};
 ghost use Rattle.qm_proofs.specs.Proofs.{proof_view, needed_positions, first_lacked, over_at, Tells};
-ghost use Rattle.qm_store.specs.Log.{IsKept, IsLacked, tree_error};
+ghost use Rattle.qm_store.specs.Log.{IsKept, IsLacked};
 
 use crate::Store;
-use qm_base::{Digest, Error, JournalError, Location, MerkleError};
+use qm_base::{Digest, Error, JournalError, Location, TreeRefused};
 use qm_merkle::mem::Mem;
 use qm_merkle::{Family, MerkleizedBatch, Position};
 use qm_proofs::{Nodes, NodesOver, Proof};
@@ -104,27 +104,14 @@ pub(super) fn proof_from<F: Family, D: Digest, N: Nodes<F, D>>(
         (first_lacked (N.node_at nodes.now) (needed_positions F.shape size start end) ≡ None) }
 {
     let size: Location<F> = Location::new(size);
-    match Proof::new(
+    Ok(Proof::new(
         alloc,
         nodes,
         size,
         inactive,
         Location::new(start),
         Location::new(end),
-    ) {
-        Ok(proof) => Ok(proof),
-        Err(error) => Err(told(error)),
-    }
-}
-
-// Why a log's call failed, if its tree's did.
-fn told(error: MerkleError) -> Error
-    ensures { result ≡ tree_error error }
-{
-    match error {
-        MerkleError::Memory => Error::Memory,
-        other => Error::Merkle(other),
-    }
+    )?)
 }
 
 // The digests of the peaks over a tree's first leaves.
@@ -229,11 +216,11 @@ fn digest_at<F: Family, D: Digest, N: Nodes<F, D>>(
 ) -> Result<D, Error>
     ensures digest { IfOk result (λ d. N.node_at nodes.now position ≡ Some d) }
     ensures cause { IfErr result (λ e. (N.node_at nodes.now position ≡ None)
-        × (e ≡ Error.Merkle (MerkleError.ElementPruned position))) }
+        × (e ≡ Error.Merkle (TreeRefused.ElementPruned position))) }
 {
     match nodes.get_node(position) {
         Some(digest) => Ok(digest),
-        None => Err(Error::Merkle(MerkleError::ElementPruned(position.get()))),
+        None => Err(Error::Merkle(TreeRefused::ElementPruned(position.get()))),
     }
 }
 

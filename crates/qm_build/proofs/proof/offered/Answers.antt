@@ -6,8 +6,8 @@ use Rattle.qm_base.specs.declared.error.Corrupt.TheVariants as corrupt
 use Rattle.qm_base.specs.declared.error.Error.{Error}
 use Rattle.qm_base.specs.declared.error.Error.TheVariants as errors
 use Rattle.qm_base.specs.declared.error.JournalError.TheVariants as journal
-use Rattle.qm_base.specs.declared.error.MerkleError.{MerkleError}
-use Rattle.qm_base.specs.declared.error.MerkleError.TheVariants as merkle
+use Rattle.qm_base.specs.declared.error.TreeRefused.{TreeRefused}
+use Rattle.qm_base.specs.declared.error.TreeRefused.TheVariants as tree
 use Rattle.qm_store.proofs.Reading.{read-none}
 use Rattle.qm_build.proofs.Telling.{floor-ended, past-list, within-list, last-among, offered-there, refused-end, refused-floor, refused-kept, refused-last, refused-none, refused-start, IsFailed}
 use Rattle.qm_build.proofs.proof.offered.Goals as goal
@@ -33,8 +33,8 @@ floor-other n e this = (λ is. cc, λ is. cc)
 corrupt-other : (x : Corrupt) (e : Error) → e ≡ errors.DataCorrupted x → (e ≢ errors.StaleBatch) × (e ≢ errors.Journal journal.Store)
 corrupt-other x e this = (λ is. cc, λ is. cc)
 
-merkle-other : (x : MerkleError) (e : Error) → e ≡ errors.Merkle x → (e ≢ errors.StaleBatch) × (e ≢ errors.Journal journal.Store)
-merkle-other x e this = (λ is. cc, λ is. cc)
+tree-other : (x : TreeRefused) (e : Error) → e ≡ errors.Merkle x → (e ≢ errors.StaleBatch) × (e ≢ errors.Journal journal.Store)
+tree-other x e this = (λ is. cc, λ is. cc)
 
 item-other : (n : ℕ) (e : Error) → e ≡ errors.Journal (journal.ItemPruned n) → (e ≢ errors.StaleBatch) × (e ≢ errors.Journal journal.Store)
 item-other n e this = (λ is. cc, λ is. cc)
@@ -48,7 +48,7 @@ pub returns-then-leaves-size : goal.returns-then-leaves-size
 returns-then-leaves-size g c =
     let log = c.args.log.now in
     let told = g.C.Store.told log.store in
-    let other = merkle-other (merkle.RangeOutOfBounds c.args.size) (errors.Merkle (merkle.RangeOutOfBounds c.args.size)) refl in
+    let other = tree-other (tree.RangeOutOfBounds c.args.size) (errors.Merkle (tree.RangeOutOfBounds c.args.size)) refl in
     record {
       offered = λ list is all. told-any _ told tt;
       kept = tt;
@@ -131,7 +131,7 @@ returns-in-Some-2 g c =
     let log = c.args.log.now in
     let told = g.C.Store.told log.store in
     let ended = c.in_ok-floor_at_end.ensures in
-    let other = merkle-other (merkle.RangeOutOfBounds c.args.start) (errors.Merkle (merkle.RangeOutOfBounds c.args.start)) refl in
+    let other = tree-other (tree.RangeOutOfBounds c.args.start) (errors.Merkle (tree.RangeOutOfBounds c.args.start)) refl in
     record {
       offered = λ list is all. told-any _ told tt;
       kept = tt;

@@ -15,8 +15,8 @@ returns-in-Read g c = rw c.in-Read.is (rw c.deref-in-Read.ensures.value at c.wri
 pub returns-in-Expanded : goal.returns-in-Expanded
 returns-in-Expanded g c = rw c.in-Expanded.is (rw c.deref-in-Expanded.ensures.value at c.write_expanded.ensures)
 
-pub returns-in-Beside : goal.returns-in-Beside
-returns-in-Beside g c = rw c.in-Beside.is c.write_beside.ensures
+pub returns-in-Neighbour : goal.returns-in-Neighbour
+returns-in-Neighbour g c = rw c.in-Neighbour.is c.write_neighbour.ensures
 
 pub returns-in-Span : goal.returns-in-Span
 returns-in-Span g c = rw c.in-Span.is c.write_span.ensures

@@ -1,7 +1,7 @@
 use Rattle.std.proofs.Common.{◌≡◌, ◌≤◌, ◌<◌, ap, subst, map, None, Err}
 use Rattle.std.specs.Prelude.{IfErr, IfOk, OnOk}
 use Rattle.qm_base.specs.declared.error.Error.TheVariants as errors
-use Rattle.qm_base.specs.declared.error.MerkleError.TheVariants as merkle
+use Rattle.qm_base.specs.declared.error.TreeRefused.TheVariants as tree
 use Rattle.qm_model.specs.Proofs.{pins_at}
 use Rattle.qm_model.specs.Refusals.{pins_refusal}
 use Rattle.qm_model.specs.Trees.{peak_positions}
@@ -31,7 +31,7 @@ returns g c =
       offered = subst (λ d. AtList members layout d (λ list. OnOk r (pins_refusal list count ≡ None))) db_any told.offered;
       pins = subst (λ d. AtList members layout d (λ list. IfOk r (λ pins. map bytes pins.items ≡ pins_at hash shape form list count))) db_any told.pins;
       refused = subst (λ (d : anys.Database g.row.C.Denot g.row.H-Digest.Denot). members.start d.log.store ≤ count → AtList members layout d (λ list. IfErr r (λ e. IsDue e (pins_refusal list count)))) db_any told.refused;
-      range = subst (λ (d : anys.Database g.row.C.Denot g.row.H-Digest.Denot). d.commitment.size < count → r ≡ Err (errors.Merkle (merkle.RangeOutOfBounds count))) db_any told.range;
+      range = subst (λ (d : anys.Database g.row.C.Denot g.row.H-Digest.Denot). d.commitment.size < count → r ≡ Err (errors.Merkle (tree.RangeOutOfBounds count))) db_any told.range;
       held = subst (λ (d : anys.Database g.row.C.Denot g.row.H-Digest.Denot). OnOk r (first_lacked (node_at shape d.log.tree) (peak_positions shape count) ≡ None)) db_any told.held;
       lacking = subst (λ (d : anys.Database g.row.C.Denot g.row.H-Digest.Denot). IfErr r (IsPinsError shape d.log.tree (members.start d.log.store) d.commitment.size count)) db_any told.lacking;
     }

@@ -1,8 +1,8 @@
 use Rattle.std.proofs.Common.{sym, ◌∙◌}
 use Rattle.qm_engine.specs.Ordered.{key_beside}
 use Rattle.qm_engine.proofs.Moves.{found_ok, found_err}
-use Rattle.qm_machine.specs.Machine.{beside_in, beside_of, slot_at}
-use Rattle.qm_engine.proofs.ReadStores.{not_offered, none_ordered, no_beside}
+use Rattle.qm_machine.specs.Machine.{neighbour_in, neighbour_of, slot_at}
+use Rattle.qm_engine.proofs.ReadStores.{not_offered, none_ordered, no_neighbour}
 use Rattle.qm_engine.proofs.turns.ordered.neighbour.Goals as goal
 
 pub returns-in-Ok : goal.returns-in-Ok
@@ -18,15 +18,15 @@ returns-in-Err g c =
 
 pub returns-then-not-is_ordered : goal.returns-then-not-is_ordered
 returns-then-not-is_ordered g c =
-    not_offered g.C.Store g.X.Meaning g.X.Key.ByteString.bytes g.X.Value.ByteString.bytes g.X.Digest.Digest.bytes c.args.session.now (λ s. beside_of g.X.Meaning.scheme s (key_beside c.args.side (g.X.Key.ByteString.bytes c.args.key.now)) c.args.from)
+    not_offered g.C.Store g.X.Meaning g.X.Key.ByteString.bytes g.X.Value.ByteString.bytes g.X.Digest.Digest.bytes c.args.session.now (λ s. neighbour_of g.X.Meaning.scheme s (key_beside c.args.side (g.X.Key.ByteString.bytes c.args.key.now)) c.args.from)
     (sym c.is_ordered.ensures ∙ c.if-not-is_ordered.true)
 
 pub returns-in_default-held : goal.returns-in_default-held
 returns-in_default-held g c =
-    rw c.in-Some.is (none_ordered g.C.Store g.X.Meaning g.X.Key.ByteString.bytes g.X.Value.ByteString.bytes g.X.Digest.Digest.bytes c.args.session.now (λ s list. beside_in g.X.Meaning.scheme s c.in-Some.number (key_beside c.args.side (g.X.Key.ByteString.bytes c.args.key.now)) list (slot_at s.table c.in-Some.number))
+    rw c.in-Some.is (none_ordered g.C.Store g.X.Meaning g.X.Key.ByteString.bytes g.X.Value.ByteString.bytes g.X.Digest.Digest.bytes c.args.session.now (λ s list. neighbour_in g.X.Meaning.scheme s c.in-Some.number (key_beside c.args.side (g.X.Key.ByteString.bytes c.args.key.now)) list (slot_at s.table c.in-Some.number))
     (sym c.is_ordered.ensures ∙ c.if-not-is_ordered.false) c.in_default-held.is c.no_database.ensures)
 
 pub returns-in_default-merkleized_at : goal.returns-in_default-merkleized_at
 returns-in_default-merkleized_at g c =
-    rw c.in-Some.is (no_beside g.C.Store g.X.Meaning g.X.Key.ByteString.bytes g.X.Value.ByteString.bytes g.X.Digest.Digest.bytes c.args.session.now (key_beside c.args.side (g.X.Key.ByteString.bytes c.args.key.now)) c.in-Some.number
+    rw c.in-Some.is (no_neighbour g.C.Store g.X.Meaning g.X.Key.ByteString.bytes g.X.Value.ByteString.bytes g.X.Digest.Digest.bytes c.args.session.now (key_beside c.args.side (g.X.Key.ByteString.bytes c.args.key.now)) c.in-Some.number
     (sym c.is_ordered.ensures ∙ c.if-not-is_ordered.false) c.in-Database.is c.in_default-merkleized_at.ensures c.no_such_handle.ensures)
