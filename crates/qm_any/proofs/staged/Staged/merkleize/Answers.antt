@@ -1,4 +1,4 @@
-use Rattle.std.proofs.Common.{ℕ, List, ◌≡◌, ◌∙◌, ◌+◌, ◌⊎◌, ◌∷◌, ◌++◌, false, ap, ap₂, arith, length, map, option_map, subst, sym, inl, inr}
+use Rattle.std.proofs.Common.{ℕ, List, ◌≡◌, ◌∙◌, ◌≤◌, ◌+◌, ◌⊎◌, ◌∷◌, ◌++◌, false, ap, ap₂, arith, length, map, option_map, subst, sym, inl, inr}
 use Rattle.std.proofs.lemmas.Result.{IfOk-from_err, err_from_is_err_and}
 use Rattle.std.proofs.lemmas.List.{length-map}
 use Rattle.std.specs.Prelude.{Contains}
@@ -69,7 +69,7 @@ returns-in_err-plan g c =
       whole = λ list chain above is staged on.
           let same = ap (λ b. b.floor) c.base.ensures.value ∙ ap (λ m. m.bounds.inactivity_floor) (c.parts-keep.ensures.parent ∙ ap (λ b. b.parent) batch) in
           let low = begun-low c.args.self.batch list chain above staged.begun on in
-          rw (exit.1, exit.2) (c.in_err-plan.ensures.whole list is (omega (arith, is.low, low, same)));
+          rw (exit.1, exit.2) (c.in_err-plan.ensures.whole list is (subst (λ n. c.args.db.now.log.tree.start ≤ n) (sym same) (omega (arith, is.low, low))));
       left = c.in_err-plan.ensures.left;
     }
 
