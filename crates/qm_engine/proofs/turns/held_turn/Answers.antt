@@ -45,7 +45,7 @@ pub returns-in-Destroy : goal.returns-in-Destroy
 returns-in-Destroy g c =
     let table = c.args.table.now.items in
     let count = c.args.opened.now in
-    rw c.in-Destroy.is (performs-held (λ rest. refl) (λ open. refl) (λ s k sound more rest told choices. c.destroy.ensures.machine table count s k) (c.destroy.ensures.left table count) c.destroy.ensures.handles)
+    rw c.in-Destroy.is (performs-held (λ rest. refl) (λ destroyed. refl) (λ s k sound more rest told choices. c.destroy.ensures.machine table count s k) (c.destroy.ensures.left table count) c.destroy.ensures.handles)
 
 pub returns-in-Crash : goal.returns-in-Crash
 returns-in-Crash g c =
