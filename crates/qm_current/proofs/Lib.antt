@@ -8,3 +8,4 @@ pub mod Offering
 pub mod Pruning
 pub mod ReadingOffered
 pub mod Resting
+pub mod Unopened

@@ -1,11 +1,11 @@
 -- What a prune of a current database leaves.
 use Rattle.std.proofs.Common.{◌≡◌, ◌⊎◌, ◌∙◌, ◌≤◌, ◌<◌, ◌+◌, ◌*◌, ◌/◌, ◌^◌, ⊎_elim, ℕ, suc, Bool, true, false, List, arith, ap, subst, sym, le_refl, inl, inr}
 use Rattle.std.specs.Prelude.{max, nat_lt, if◌then◌else◌, IfOk, IfErr}
-use Rattle.std.proofs.Math.Nat.{div-mul-le_self, lt-div-mul-add, max-eq_left, max-eq_right}
+use Rattle.std.proofs.Math.Nat.{div-mul-le_self, lt-div-mul-add, max-eq_left, max-eq_right, mul-div_cancel}
 use Rattle.std.proofs.lemmas.Bool.{cases_lt}
-use Rattle.std.proofs.lemmas.Nat.{mul-le}
+use Rattle.std.proofs.lemmas.Nat.{mul-le, pow_pos}
 use Rattle.qm_model.specs.Batches.{Commitment}
-use Rattle.qm_model.specs.Grafted.{needed_size, sync_boundary}
+use Rattle.qm_model.specs.Grafted.{needed_size, prunable_chunks, sync_boundary}
 use Rattle.qm_model.specs.StoreModel.{Entry, Stored, metadata_in, pruned, with_metadata, IsOldOrNew, ReadsAs, Becomes}
 use Rattle.qm_model.specs.Trees.{Shape}
 use Rattle.qm_model.proofs.Results.{err-then, ok-then}
@@ -56,6 +56,11 @@ go-after shape g w span rising floor n chunks to goes low = ⊎_elim
     subst (λ c. MayGo shape g c n) (sym (max-eq_right (omega (arith, beyond)))) (boundary-goes shape g rising floor n (to / w) (subst (λ v. to / w * v ≤ sync_boundary shape g floor n) (sym span) whole)))
     (λ (within : to / w ≤ chunks). subst (λ c. MayGo shape g c n) (sym (max-eq_left within)) goes)
     (cases_lt chunks (to / w))
+
+-- a boundary goes by the chunk of its floor
+pub from-chunks : (shape : Shape) (h g chunks start floor n : ℕ) → h ≡ g → start ≡ chunks * 2 ^ h → chunks ≡ floor / 2 ^ g → sync_boundary shape h start n ≡ sync_boundary shape g floor n
+from-chunks shape h g chunks start floor n same is of =
+    ap (λ c. prunable_chunks shape h n c * 2 ^ h) (ap (λ m. m / 2 ^ h) is ∙ mul-div_cancel chunks (pow_pos h) ∙ of) ∙ ap (λ k. prunable_chunks shape k n (floor / 2 ^ g) * 2 ^ k) same
 
 -- as many chunks are pruned before
 pub fewer-before : (start chunks more : ℕ) → start ≡ chunks → start ≤ max chunks more

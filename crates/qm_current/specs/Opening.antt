@@ -1,14 +1,16 @@
 -- What comes of opening the list that a store keeps as a current database.
-use Rattle.std.specs.Prelude.{◌≡◌, ◌≢◌, ◌⊎◌, ◌/◌, ◌^◌, ◌≤◌, ℕ, nat_lt, Bool, true, false, List, map, Option, None, Some, IfSome, IsSome, Result, IfOk, IfErr, OnOk}
-use Rattle.std.specs.Option.{option_map_or}
+use Rattle.std.specs.Prelude.{◌≡◌, ◌≢◌, ◌⊎◌, ◌*◌, ◌/◌, ◌^◌, ◌≤◌, ◌==◌, ℕ, nat_lt, Bool, true, false, List, map, Option, None, Some, IfSome, IsSome, option_map, Result, IfOk, IfErr, OnOk}
+use Rattle.std.specs.Option.{option_map_or, option_or}
 use Rattle.qm_model.specs.Causes.{Rose}
 use Rattle.qm_model.specs.Forms.{Form}
+use Rattle.qm_model.specs.Grafted.{pair_absorption_threshold}
 use Rattle.qm_model.specs.Opening as model
-use Rattle.qm_model.specs.Opening.{count_in, found, metadata_refusal, opening_refusal, pins_found}
+use Rattle.qm_model.specs.Opening.{count_in, found, metadata_refusal, opening_refusal, pins_found, when}
 use Rattle.qm_model.specs.Operations.{Bytes, Operation}
-use Rattle.qm_model.specs.Refused.{Refused}
+use Rattle.qm_model.specs.Refused as refusals
+use Rattle.qm_model.specs.Refused.{Refused, InvalidInitializationBound}
 use Rattle.qm_model.specs.Schemes.{layout_of}
-use Rattle.qm_model.specs.StoreModel.{Stored, Turns, metadata_in}
+use Rattle.qm_model.specs.StoreModel.{Entry, Stored, Turns, metadata_in}
 use Rattle.qm_model.specs.Taken.{IsTaken, selected_size, taken, LeavesOpening}
 use Rattle.qm_model.specs.Trees.{Shape}
 use Rattle.qm_base.specs.declared.error.Corrupt.TheVariants.{PrunedPastBits}
@@ -21,7 +23,10 @@ use Rattle.qm_store.specs.declared.refusal.Given.TheVariants as given
 use Rattle.qm_store.specs.declared.refusal.Refusal.{Refusal}
 use Rattle.qm_store.specs.Given.{store_given, store_after, IsUnchanged}
 use Rattle.qm_store.specs.Refusals.{IsDue}
+use Rattle.qm_open.specs.Unopened as any
+use Rattle.qm_open.specs.Unopened.{IsFailure}
 use Rattle.qm_any.specs.Layouts.{Layout}
+use Rattle.qm_any.specs.Opening.{pruned_view}
 use Rattle.qm_current.specs.Applying.{store_in}
 use Rattle.qm_current.specs.Databases.{Database, IsCounted, IsDatabase}
 use Rattle.qm_current.specs.Offered.{scheme_of}
@@ -51,6 +56,20 @@ is_early threshold size = option_map_or (λ least. nat_lt size least) threshold 
 -- no grafted tree is made over a list that starts and ends there, of which so many chunks are pruned
 abbrev pub IsUnfit : Error → ℕ → Option ℕ → ℕ → ℕ → ℕ → Type 0
 IsUnfit e chunk threshold start size pruned = ((e ≡ DataCorrupted PrunedPastBits) × (is_past chunk start pruned ≡ true)) ⊎ ((e ≡ HistoricalFloorPruned size) × (is_early threshold size ≡ true))
+
+-- why metadata is not read, whatever the store tells: the bound is 0, or of some entries that it may have
+abbrev pub IsUncounted : model.Layout → Option ℕ → Error → Type 0
+IsUncounted layout bound e =
+    (entries : List Entry) × IsFailure e (option_or (when (option_map_or (λ n. n == 0) bound false) InvalidInitializationBound) (option_map refusals.DataCorrupted (metadata_refusal layout entries)))
+
+-- Why a store of this start and end is not opened up to a bound, whatever it tells: its metadata is not read; or, for some count of pruned
+-- chunks, it is not opened as an any database's, or no grafted tree is made over the list.
+abbrev pub IsUnopened : model.Layout → ℕ → Option ℕ → ℕ → ℕ → Error → Type 0
+IsUnopened layout chunk bound start end e =
+    IsUncounted layout bound e
+    ⊎ ((count : ℕ) × (count * 2 ^ grafting chunk ≤ 2 ^ 62)
+    × (any.IsUnopened layout.form (Some (pruned_view chunk (count, pair_absorption_threshold layout.shape (grafting chunk) count))) bound start end e
+    ⊎ ((size : ℕ) × IsUnfit e chunk (pair_absorption_threshold layout.shape (grafting chunk) count) start size count)))
 
 module _ {C D : Type 0} (members : store.Ghosts C) (layout : Layout D) (digest_size : ℕ) (name : Bytes) where
   -- What comes of opening a store up to a bound, as a database of this instance number, whose chunks metadata of this name counts: it stands

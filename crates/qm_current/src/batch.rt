@@ -12,6 +12,7 @@ ghost use Rattle.qm_current.specs.Databases.{IsBegun, IsMade};
 use crate::db::Db;
 use qm_any::batch as any;
 use qm_any::db::{Db as AnyDb, LaidOut};
+pub use qm_base::Slot;
 use qm_base::{ByteString, Digest, Error, Hasher, Location};
 use qm_bits::Chunks;
 use qm_chunks::Graftable;

@@ -1,13 +1,15 @@
 //! The database.
 
-ghost use Rattle.std.specs.Prelude.{◌≡◌, ◌<◌, ◌*◌, ◌∷◌, suc, [], List, true, get_or, map, option_map, Contains, IfOk, IfErr, OnOk};
+ghost use Rattle.std.specs.Prelude.{◌≡◌, ◌<◌, ◌≤◌, ◌*◌, ◌/◌, ◌^◌, ◌∷◌, ℕ, suc, [], List, true, get_or, map, option_map, Contains, IfOk, IfErr, OnOk};
 ghost use Rattle.qm_model.specs.Batches.{Chain, IsOnChain, begun_on};
+ghost use Rattle.qm_model.specs.Grafted as grafts;
 ghost use Rattle.qm_model.specs.Live as lives;
 ghost use Rattle.qm_model.specs.Operations.{Operation};
 ghost use Rattle.qm_any.specs.Databases as anys;
 ghost use Rattle.qm_any.specs.Applying.{Appends, IsUnapplied, KeepsRest, can_apply};
 ghost use Rattle.qm_any.specs.Reading.{AtList, Reads};
 ghost use Rattle.qm_store.specs.Given.{store_after};
+ghost use Rattle.qm_graft.specs.Grafting.{grafting};
 ghost use Rattle.qm_roots.specs.Canonical.{IsCanonical};
 ghost use Rattle.qm_roots.specs.Kept.{IsKept, sizes_of};
 ghost use Rattle.qm_current.specs.Databases.{Database, IsBegun, IsCounted, IsDatabase, IsJoined, IsMade};
@@ -19,6 +21,7 @@ use qm_any::db::LaidOut;
 use qm_base::{ByteString, Digest, Error, Hasher, Location};
 use qm_bits::Chunks;
 use qm_chunks::Graftable;
+use qm_graft::grafted::height;
 use qm_merkle::Family;
 use qm_operations::{Update, ValueEncoding};
 use qm_roots::{Canonical, Kept};
@@ -310,4 +313,16 @@ fn given_back<
         }),
         Given::Store(store) => Given::Store(store),
     }
+}
+
+/// Up to where a list of this size may be pruned whose floor stands after so many whole chunks: the last place at or below the floor
+/// where a chunk begins and the chunks before it wait for no more operations. `sync_boundary` of a database and of a batch say it of
+/// their own floor and size.
+pub fn sync_boundary<F: Graftable, N: Chunks>(floor_chunks: u64, size: u64) -> Location<F>
+    requires within { floor_chunks * (8 * N.LEN) ≤ 2 ^ 62 }
+    ensures exact { (floor : ℕ) → floor_chunks ≡ floor / 2 ^ grafting N.LEN
+        → result ≡ grafts.sync_boundary F.shape (grafting N.LEN) floor size }
+{
+    let floor = floor_chunks * N::span();
+    Location::new(qm_chunks::sync_boundary::<F>(height::<N>(), floor, size))
 }

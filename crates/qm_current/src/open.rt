@@ -14,7 +14,7 @@ ghost use Rattle.qm_graft.specs.Grafting.{grafting};
 ghost use Rattle.qm_roots.specs.Canonical.{IsCanonical, MayGo};
 ghost use Rattle.qm_any.specs.Applying as applying;
 ghost use Rattle.qm_any.specs.Databases as anys;
-ghost use Rattle.qm_current.specs.Opening.{Counts, Opens, IsUnfit, is_early, lies, refusal_up_to};
+ghost use Rattle.qm_current.specs.Opening.{Counts, Opens, IsUncounted, IsUnfit, IsUnopened, is_early, lies, refusal_up_to};
 
 use crate::config::Config;
 use crate::db::Db;
@@ -58,6 +58,9 @@ pub fn init<
         ≡ I.Translator.index_key }
     ensures opens { Opens C.Store ⟦<any::Db<F, C, I, H, U, N> as LaidOut>⟧.layout H.Digest.SIZE
         config.metadata.now max_size config.instance store result }
+    ensures causes { IfErr result (λ r. IsUnopened
+        (lies U.form F.shape H.Digest.SIZE N.LEN config.metadata.now) N.LEN max_size (C.start store)
+        (C.end store) r.error) }
 {
     // What is stable of it are items that it has.
     store.bounds();
@@ -86,6 +89,8 @@ fn counted<F: Family, C: Store, D: Digest, U: Update, N: Chunks>(
         (map D.bytes p.pins.items))) }
     ensures refused { IfSome (C.told store.old) (λ s. IfErr result (λ e. IsDue e
         (refusal_up_to (lies U.form F.shape D.SIZE N.LEN name.now) max_size s))) }
+    ensures causes { IfErr result
+        (IsUncounted (lies U.form F.shape D.SIZE N.LEN name.now) max_size) }
     ensures kept { IsKept C.Store store.old store.new }
     ensures cause { IsCause (C.faults store.old) (C.faults store.new)
         (IsErrOf result (Error.Journal JournalError.Store)) }
@@ -133,6 +138,9 @@ fn open_counted<
         ≡ I.Translator.index_key }
     ensures opens { Opens C.Store ⟦<any::Db<F, C, I, H, U, N> as LaidOut>⟧.layout H.Digest.SIZE
         config.metadata.now max_size config.instance store result }
+    ensures causes { IfErr result (λ r. IsUnopened
+        (lies U.form F.shape H.Digest.SIZE N.LEN config.metadata.now) N.LEN max_size (C.start store)
+        (C.end store) r.error) }
 {
     let pruned = pinned.pruned::<F>(height::<N>());
     let (name, instance) = (config.metadata, config.instance);

@@ -1,7 +1,9 @@
-use Rattle.std.proofs.Common.{◌∙◌, ap, Err}
+use Rattle.std.proofs.Common.{subst₂, inl, ◌∙◌, ap, Err}
+use Rattle.qm_model.proofs.Results.{err-then}
 use Rattle.qm_open.proofs.Checking.{each-known, known-at}
 use Rattle.qm_any.specs.Layouts.{layout_of}
 use Rattle.qm_current.proofs.Opening.{opens-behind, opens-unread}
+use Rattle.qm_current.specs.Opening.{IsUnopened, lies}
 use Rattle.qm_current.proofs.open.init.Goals as goal
 
 pub returns-in-Ok-clause-opens : goal.returns-in-Ok-clause-opens
@@ -17,3 +19,13 @@ returns-in-Err-clause-opens g c =
     opens-unread g.C.Store (layout_of g.N.Chunks.LEN g.H.Digest.Digest.bytes g.H.Hasher g.F.Family g.U.Update g.I.Unordered) g.H.Digest.Digest.SIZE c.args.config.metadata.now c.args.max_size c.args.config.instance
     c.args.store c.counted.new.store (each-known told (λ s is. (known-at _ told s is c.bounds.ensures.stable).1)) c.counted.ensures.kept c.in-Err.error c.in-Err.ensures.refused
     (record { later = cause.later; failed = λ same. cause.failed (c.in-Err.is ∙ ap Err same) })
+
+pub returns-in-Ok-clause-causes : goal.returns-in-Ok-clause-causes
+returns-in-Ok-clause-causes g c =
+    let chunk = g.N.Chunks.LEN in
+    let layout = lies g.U.Update.form g.F.Family.shape g.H.Digest.Digest.SIZE chunk c.args.config.metadata.now in
+    let kept = c.counted.ensures.kept in
+    err-then c.open_counted.result c.open_counted.ensures.causes (λ r failed. subst₂ (λ m n. IsUnopened layout chunk c.args.max_size m n r.error) kept.start kept.«end» failed)
+
+pub returns-in-Err-clause-causes : goal.returns-in-Err-clause-causes
+returns-in-Err-clause-causes g c = inl c.in-Err.ensures.causes
