@@ -364,6 +364,13 @@ long_replies = text.splitlines(keepends=True)
 for call, replies, start, count in ((1065, 1064, 0, 796), (1066, 1065, 0, 799), (1067, 1065, 0, 799), (1069, 1067, 768, 31), (1070, 1067, 768, 31), (1068, 1065, 0, 799)):
     put('current, pruned, store call %d fails' % call, ['fail store %d' % call], ''.join(long_replies[:replies]) + 'store fault\n', 6, start, count, begin='again')
 put('current, opened after store call 1068 failed', ['keep', 'words ' + CURRENT, '| open', '| info'], 'open 1 0 799\ninfo 0 799 797 768 live\n', 0, 0, 799)
+section('A sync of a current database makes its operations stable (call 6) and then puts metadata (call 7): what is left where one of them fails is told by a crash and an opening.')
+SYNCED = 'open\nbatch\nput 1 6b 76\nmerkleize 1 prop none\napply 1\nsync\ninfo\n'
+text, status, store = modelled('current, synced', SYNCED, words=CURRENT)
+put('current, synced, store call 8 would fail', ['fail store 8'], text, status, store.start, len(store.items), begin='again')
+for call, opened in ((6, 'open 1 0 1\ninfo 0 1 0 0 empty\n'), (7, 'open 1 0 4\ninfo 0 4 2 0 live\n')):
+    put('current, synced, store call %d fails' % call, ['words ' + CURRENT] + lines_of(SYNCED.encode()) + ['fail store %d' % call], ''.join(text.splitlines(keepends=True)[:5]) + 'store fault\n', 6, 0, 4)
+    put('current, crashed after store call %d failed' % call, ['keep', 'words ' + CURRENT, '| crash 0', '| open', '| info'], 'ok\n' + opened, 0, 0, int(opened.split()[3]))
 section('A batch of an earlier opening is refused before anything is read: call 18 would be the first of its look-ups.')
 LATE = 'open\nbatch\nput 1 61 01\nmerkleize 1 prop none\napply 1\ncommit\nbatch\nput 2 61 02\nopen\nmerkleize 2 prop none\n'
 text, status, store = modelled('current, a batch of an earlier opening', LATE, words=CURRENT)
