@@ -69,6 +69,9 @@ pub fn turn_of<K: Drop, V: Drop, D: Drop>(error: Error) -> Turn<K, V, D>
         Error::InvalidInitializationBound => Refused::InvalidInitializationBound,
         Error::StaleBatch => Refused::StaleBatch,
         Error::StaleRead => Refused::StaleRead,
+        Error::KeyNotFound => Refused::KeyNotFound,
+        Error::KeyExists => Refused::KeyExists,
+        Error::OperationPruned(location) => Refused::OperationPruned(location),
         Error::PruneBeyondMinRequired(location, boundary) => {
             Refused::PruneBeyondMinRequired(location, boundary)
         }

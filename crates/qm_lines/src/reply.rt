@@ -22,6 +22,12 @@ pub enum Refused {
     InvalidInitializationBound,
     StaleBatch,
     StaleRead,
+    /// A key that was to be proved has no value.
+    KeyNotFound,
+    /// A key that was to be proved absent has a value.
+    KeyExists,
+    /// The chunk of activity bits of the operation at this location is pruned.
+    OperationPruned(u64),
     /// Where the database was to be pruned to, and up to where it may be.
     PruneBeyondMinRequired(u64, u64),
     /// No commit stands at the end of so many operations.

@@ -190,6 +190,11 @@ fn write_refused(out: &mut String, refused: Refused) -> Result<(), AllocError>
         Refused::InvalidInitializationBound => out.push_str("refused InvalidInitializationBound"),
         Refused::StaleBatch => out.push_str("refused StaleBatch"),
         Refused::StaleRead => out.push_str("refused StaleRead"),
+        Refused::KeyNotFound => out.push_str("refused KeyNotFound"),
+        Refused::KeyExists => out.push_str("refused KeyExists"),
+        Refused::OperationPruned(location) => {
+            write_number(out, "refused OperationPruned ", location)
+        }
         Refused::PruneBeyondMinRequired(location, boundary) => write_numbers(
             out,
             "refused PruneBeyondMinRequired",

@@ -28,6 +28,9 @@ merkle error: RangeOutOfBounds 5
 journal error: Store
 journal error: ItemPruned 7
 journal error: ItemTooLarge 65546
+key not found
+key exists
+operation pruned: 12
 out of memory, store fault
 floor regressed: batch floor 4 < prior floor 5
 floor beyond commit location: floor 10 > commit loc 9
@@ -55,14 +58,17 @@ fn error_at(index: usize) -> Error {
         16 => Error::Merkle(TreeRefused::RangeOutOfBounds(5)),
         17 => Error::Journal(JournalError::Store),
         18 => Error::Journal(JournalError::ItemPruned(7)),
-        _ => Error::Journal(JournalError::ItemTooLarge(65_546)),
+        19 => Error::Journal(JournalError::ItemTooLarge(65_546)),
+        20 => Error::KeyNotFound,
+        21 => Error::KeyExists,
+        _ => Error::OperationPruned(12),
     }
 }
 
 // What all of them print.
 fn texts(alloc: Global) -> Result<String, AllocError> {
     let mut texts = String::new(alloc);
-    for index in 0..20 {
+    for index in 0..23 {
         writeln!(texts, "{}", error_at(index))?;
     }
     writeln!(texts, "{}, {}", StoreError::Memory, StoreError::Failed)?;

@@ -24,6 +24,15 @@ returns-in-StaleBatch c = rw c.in-StaleBatch.is (pushed (string_bytes c.args.out
 pub returns-in-StaleRead : goal.returns-in-StaleRead
 returns-in-StaleRead c = rw c.in-StaleRead.is (pushed (string_bytes c.args.out.now) (string_bytes c.push_str-in-StaleRead.new.self) (codes "refused StaleRead") c.push_str-in-StaleRead.result c.push_str-in-StaleRead.ensures.bytes)
 
+pub returns-in-KeyNotFound : goal.returns-in-KeyNotFound
+returns-in-KeyNotFound c = rw c.in-KeyNotFound.is (pushed (string_bytes c.args.out.now) (string_bytes c.push_str-in-KeyNotFound.new.self) (codes "refused KeyNotFound") c.push_str-in-KeyNotFound.result c.push_str-in-KeyNotFound.ensures.bytes)
+
+pub returns-in-KeyExists : goal.returns-in-KeyExists
+returns-in-KeyExists c = rw c.in-KeyExists.is (pushed (string_bytes c.args.out.now) (string_bytes c.push_str-in-KeyExists.new.self) (codes "refused KeyExists") c.push_str-in-KeyExists.result c.push_str-in-KeyExists.ensures.bytes)
+
+pub returns-in-OperationPruned : goal.returns-in-OperationPruned
+returns-in-OperationPruned c = rw c.in-OperationPruned.is c.write_number-in-OperationPruned.ensures
+
 pub returns-in-SlotCount : goal.returns-in-SlotCount
 returns-in-SlotCount c = rw c.in-SlotCount.is (simp append-nil at c.write_numbers.ensures)
 
