@@ -114,8 +114,6 @@ impl<
         }
     }
 
-    ghost unchecked = { tt };
-
     ghost bare = { peaks-none mmr mmr_births mmr_is_family mmr_has_peaks };
 }
 

@@ -113,8 +113,6 @@ impl<
         }
     }
 
-    ghost unchecked = { refl };
-
     ghost bare = { peaks-none mmr mmr_births mmr_is_family mmr_has_peaks };
 }
 

@@ -1,6 +1,6 @@
 //! What answers the commands of a run, a group of them by each call.
 
-ghost use Rattle.std.specs.Prelude.{◌≡◌, ◌≤◌, ◌+◌, ◌^◌, ◌<◌, IfSome};
+ghost use Rattle.std.specs.Prelude.{◌≡◌, ◌≤◌, ◌+◌, ◌^◌, ◌<◌, None, IfSome};
 ghost use Rattle.qm_model.specs.StoreModel.{end_of};
 ghost use Rattle.qm_machine.specs.Machine as machine;
 ghost use Rattle.qm_lines.specs.Views.{batch_view, making_view, staged_view, read_view, info_view, store_view};
@@ -16,6 +16,12 @@ use qm_lines::{
 use qm_offer::Common;
 use qm_store::{Given, Store};
 use std::alloc::Global;
+
+/// A database that offers no proofs of keys and ranges.
+pub trait Unshown<C: Store>: Common<C> {
+    /// It has no checks of such proofs.
+    ghost unchecked: { IfSome Self.scheme.grafts (λ g. g.checks ≡ None) };
+}
 
 /// What answers the commands of a run over its database. Whatever offers the calls of a group answers that group's commands, by
 /// the function of the same name (`batch_turn` and so on). A run asks for the six answers and not for all calls, since who calls

@@ -8,7 +8,7 @@ pub mod session;
 mod table;
 pub mod turns;
 
-pub use answering::Answering;
+pub use answering::{Answering, Unshown};
 pub use answers::{Answered, Ending, answer_lines};
 pub use runs::{End, Outcome, run};
 pub use session::{SessionOf, Turn};

@@ -12,7 +12,7 @@ mod proofs;
 mod reads;
 mod staged;
 
-use crate::answering::Answering;
+use crate::answering::{Answering, Unshown};
 use crate::session::{Session, SessionOf, Turn};
 use crate::table::Slot;
 use batches::{apply, batch, child, merkleize, put, tip};
@@ -181,7 +181,7 @@ pub fn read_turn<
 
 /// A command that tells and proves, of whatever offers these calls.
 pub fn info_turn<
-    X: Reading<C> + Proving<C>,
+    X: Reading<C> + Proving<C> + Unshown<C>,
     C: Store,
     P: Policy<X::Family, X::Key, X::Value> + Twin,
 >(

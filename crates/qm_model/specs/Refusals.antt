@@ -4,7 +4,8 @@ use Rattle.std.specs.Option.{option_or}
 use Rattle.qm_model.specs.Operations.{Bytes, Operation, update, delete, commit}
 use Rattle.qm_model.specs.Forms.{Form, spelling}
 use Rattle.qm_model.specs.Batches.{Chain, own_operations}
-use Rattle.qm_model.specs.Refused.{Refused, HistoricalFloorPruned, DataCorrupted, Merkle, Journal, OperationPruned, FloorExceedsCommit, RangeOutOfBounds, LocationOverflow, ItemPruned, ItemTooLarge}
+use Rattle.qm_model.specs.Live.{Live}
+use Rattle.qm_model.specs.Refused.{Refused, KeyNotFound, KeyExists, HistoricalFloorPruned, DataCorrupted, Merkle, Journal, OperationPruned, FloorExceedsCommit, RangeOutOfBounds, LocationOverflow, ItemPruned, ItemTooLarge}
 
 -- the most bytes of a spelling
 abbrev pub max_spelling : ℕ
@@ -72,3 +73,13 @@ range_refusal g chunks kept list start =
     if nat_lt start (length list)
     then (if nat_lt (start / 2 ^ g) chunks then Some (OperationPruned start) else item_refusal kept start)
     else Some (Merkle (RangeOutOfBounds start))
+
+-- why there is no proof of a key's value: it has no live update
+abbrev pub lacking_refusal : Option Live → Option Refused
+lacking_refusal None = Some KeyNotFound
+lacking_refusal (Some e) = None
+
+-- why there is none that a key has no value: it has a live update
+abbrev pub existing_refusal : Option Live → Option Refused
+existing_refusal None = None
+existing_refusal (Some e) = Some KeyExists

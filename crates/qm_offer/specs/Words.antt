@@ -3,12 +3,13 @@ use Rattle.std.specs.Prelude.{◌≡◌, ◌≢◌, ◌⊎◌, ◌≤◌, ◌<�
 use Rattle.qm_model.specs.Causes.{IsCause, Rose}
 use Rattle.qm_model.specs.Forms.{spelling}
 use Rattle.qm_model.specs.Operations.{Bytes, Operation}
-use Rattle.qm_model.specs.Opening.{found, opening_refusal}
+use Rattle.qm_model.specs.Opening.{Chunks, found, opening_refusal}
 use Rattle.qm_model.specs.Walk.{Rules}
 use Rattle.qm_model.specs.StoreModel.{Stored, destroyed, except_items, DestroyLeaves, Becomes, Turns}
 use Rattle.qm_model.specs.Writes.{Write}
 use Rattle.qm_model.specs.Step.{step}
 use Rattle.qm_model.specs.Held.{proof_lacked}
+use Rattle.qm_model.specs.Checks.{Checks}
 use Rattle.qm_model.specs.Schemes.{Grafts, Scheme, kind_of, layout_of, takes}
 use Rattle.qm_model.specs.Taken.{head_at, IsTaken, selected_size, taken, StaysBeside, after_prune, LeavesOpening, LeavesPrune}
 use Rattle.qm_model.specs.Batches.{Chain, IsKnown, IsOnChain, commitment, fits, readable}
@@ -26,6 +27,10 @@ use Rattle.qm_offer.specs.declared.meaning.Meaning as meaning
 -- the list that writes make of a chain's base list, under a policy
 abbrev pub tip_of : {P : Type 0} → Scheme → Rules P → Chain → List Write → P → Option Bytes → List Operation
 tip_of m rules chain ws policy meta = step (kind_of m) rules chain.base ws policy meta
+
+-- of the chunks of a current database's bits, and of the checks of its proofs of keys and ranges, if it offers these
+abbrev pub AtChecks : Scheme → (Chunks → Checks → Type 0) → Type 0
+AtChecks m P = IfSome m.grafts (λ g. IfSome g.checks (P g.chunks))
 
 module _ {X C B S M : Type 0} (means : meaning.Ghosts X C B S M) where
   -- at each list that the database stands for, and each chain and writes of the batch

@@ -1,6 +1,6 @@
 //! What a database offers to a run, over any store: a trait for each group of its calls, and one of them all.
 
-ghost use Rattle.std.specs.Prelude.{◌≡◌, [], List, length, nat_lt, is_some, IfSome, None};
+ghost use Rattle.std.specs.Prelude.{◌≡◌, [], List, length, nat_lt, is_some};
 ghost use Rattle.qm_model.specs.Batches.{Chain};
 ghost use Rattle.qm_model.specs.Live.{floor, live};
 ghost use Rattle.qm_model.specs.Operations.{Operation};
@@ -12,6 +12,7 @@ pub mod making;
 pub mod ordered;
 pub mod proofs;
 pub mod reads;
+pub mod showing;
 pub mod staged;
 
 use crate::meaning::Meaning;
@@ -23,6 +24,7 @@ pub use proofs::Proving;
 use qm_base::{ByteString, Digest};
 use qm_store::Store;
 pub use reads::Reading;
+pub use showing::{Showing, ShownRange};
 pub use staged::Staging;
 
 /// The numbers of a database.
@@ -96,9 +98,6 @@ pub trait Common<C: Store>: Meaning<C> + Drop + Sized {
             → (result.base ≡ length chain.base) × (result.tip ≡ length tip)
             × (result.floor ≡ floor tip)
             × (result.boundary ≡ Self.scheme.boundary tip) };
-
-    /// No current database offers proofs of keys and ranges yet.
-    ghost unchecked: { IfSome Self.scheme.grafts (λ g. g.checks ≡ None) };
 
     /// Nothing has no peaks.
     ghost bare: { peaks Self.scheme.shape 0 ≡ [] };

@@ -109,8 +109,6 @@ impl<
         <Inside<C, I, U> as Common<C>>::sizes(batch)
     }
 
-    ghost unchecked = { tt };
-
     ghost bare = { peaks-none trees.mmr trees.mmr_births mmr_is_family mmr_has_peaks };
 }
 

@@ -7,6 +7,7 @@ ghost use Rattle.qm_machine.specs.Machine as machine;
 ghost use Rattle.qm_store.specs.Given.{store_given, IsUnchanged};
 ghost use Rattle.qm_engine.specs.Session.{SlotIs, Answers, Obeys, Tells, Uses};
 
+use crate::answering::Unshown;
 use crate::session::{SessionOf, Turn, no_database, no_such_handle, turn_of};
 use crate::table::{Slot, merkleized_at, slot_at};
 use qm_base::ByteString;
@@ -127,8 +128,8 @@ pub fn ops<X: Reading<C>, C: Store>(
     }
 }
 
-/// What only a current database is asked, for proofs of keys and ranges: none offers any yet.
-pub fn current<X: Common<C>, C: Store>(
+/// What only a current database is asked, for proofs of keys and ranges, which this one does not offer.
+pub fn current<X: Unshown<C>, C: Store>(
     session: &SessionOf<X, C>,
 ) -> Turn<X::Key, X::Value, X::Digest>
     ensures machine { (question : Question)
