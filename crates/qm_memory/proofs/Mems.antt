@@ -6,7 +6,7 @@ use Rattle.qm_model.specs.StoreModel.{Stored, restarted, HasRestarted}
 use Rattle.qm_model.proofs.Stores as stored
 use Rattle.qm_store.specs.declared.StoreError.{StoreError}
 use Rattle.qm_store.specs.declared.StoreError.TheVariants as stores
-use Rattle.qm_memory.specs.Changes.{Change, restarting}
+use Rattle.qm_memory.specs.Changes.{restarting}
 use Rattle.qm_memory.specs.Mem.{Mem, IsInside, one_more, called, failed, made, chosen}
 
 -- A call is counted.
@@ -15,10 +15,10 @@ more-calls : (old new : Mem) → new.calls ≡ one_more old.calls → Rose old.c
 more-calls old new is = omega (arith, is)
 
 -- one that changes the store
-pub counted-made : {T : Type 0} (result : Result T StoreError) (old new : Mem) (change : Stored → Change) (f : Stored → Stored) → (result ≡ Err stores.Failed → new ≡ failed old) → (result ≡ Err stores.Memory → new ≡ called old) → OnOk result (new ≡ made change f old) → Rose old.calls new.calls
-counted-made (Ok x) old new change f fault memory done = more-calls old new (ap (λ m. m.calls) done)
-counted-made (Err stores.Memory) old new change f fault memory done = more-calls old new (ap (λ m. m.calls) (memory refl))
-counted-made (Err stores.Failed) old new change f fault memory done = more-calls old new (ap (λ m. m.calls) (fault refl))
+pub counted-made : {T : Type 0} (result : Result T StoreError) (old new : Mem) → (result ≡ Err stores.Failed → new ≡ failed old) → (result ≡ Err stores.Memory → new ≡ called old) → OnOk result (new.calls ≡ one_more old.calls) → Rose old.calls new.calls
+counted-made (Ok x) old new fault memory done = more-calls old new done
+counted-made (Err stores.Memory) old new fault memory done = more-calls old new (ap (λ m. m.calls) (memory refl))
+counted-made (Err stores.Failed) old new fault memory done = more-calls old new (ap (λ m. m.calls) (fault refl))
 
 -- one that reads
 pub counted-asked : {T : Type 0} (result : Result T StoreError) (old new : Mem) → (result ≡ Err stores.Failed → new ≡ failed old) → (result ≢ Err stores.Failed → new ≡ called old) → Rose old.calls new.calls
