@@ -1,12 +1,12 @@
 //! Proofs of what a current database has now.
 
-ghost use Rattle.std.specs.Prelude.{◌≡◌, ◌≢◌, ◌+◌, ◌×◌, List, Some, None, option_map, is_some, length, IfOk, IfErr, IfSome, IsSome};
+ghost use Rattle.std.specs.Prelude.{◌≡◌, ◌≢◌, ◌+◌, List, Some, None, option_map, is_some, length, IfOk, IfErr, IfSome, IsSome};
 ghost use Rattle.std.specs.Int.NonZero.{non_zero_u64_get};
 ghost use Rattle.qm_model.specs.Live.{live, live_of};
 ghost use Rattle.qm_model.specs.Operations.{Operation};
 ghost use Rattle.qm_model.specs.Refusals.{existing_refusal, lacking_refusal, proof_count, range_refusal};
 ghost use Rattle.qm_model.specs.Taken.{counted_in};
-ghost use Rattle.qm_store.specs.Refusals.{refusal_of, IsDue};
+ghost use Rattle.qm_store.specs.Refusals.{IsDue};
 ghost use Rattle.qm_offer.specs.Words.{AtChecks, ReadsOnly};
 
 use crate::offer::Common;
@@ -29,12 +29,6 @@ pub struct ShownRange {
 /// The calls for proofs of keys, of absences, of ranges and of the operations root. Each makes its proof from what the database has,
 /// checks it against the root, and tells what the check says. Only current databases are asked.
 pub trait Showing<C: Store>: Common<C> {
-    /// A current database has checks of its proofs.
-    ghost checked: { IfSome Self.scheme.grafts (λ g. IsSome g.checks) };
-
-    /// An ordered one alone proves absences.
-    ghost absences: { AtChecks Self.scheme (λ chunks checks. is_some checks.absent ≡ Self.scheme.form.ordered) };
-
     /// Proves the value of a key: where its live update stands, and whether the proof is accepted.
     fn held(&mut self, alloc: Global, key: &Self::Key) -> Result<(u64, bool), Error>
         ensures shown { IfOk result (λ r. (list : List Operation) → Self.stands self.old list
@@ -85,4 +79,10 @@ pub trait Showing<C: Store>: Common<C> {
         ensures shown { IfOk result (λ accepted. (list : List Operation) → Self.stands self.now list
             → AtChecks Self.scheme (λ chunks checks. accepted ≡ checks.witness list)) }
         ensures refused { IfErr result (λ e. e ≡ Error.Memory) };
+
+    /// A current database has checks of its proofs.
+    ghost checked: { IfSome Self.scheme.grafts (λ g. IsSome g.checks) };
+
+    /// An ordered one alone proves absences.
+    ghost absences: { AtChecks Self.scheme (λ chunks checks. is_some checks.absent ≡ Self.scheme.form.ordered) };
 }
