@@ -25,16 +25,16 @@ pub obeys_steady : {X C B S M K V D : Type 0} (members : stores.Ghosts C) (means
 obeys_steady members means key value digest old new turn next obeys = λ s k sound more rest told choices. obeys s k
 
 -- and what stands beside the items
-pub beside-items : {Destroyed : Type 0} (chunks : Option Chunks) (o new : Option Stored) → except_items new ≡ except_items o → Turns o new (HasEnds chunks Destroyed [])
-beside-items chunks None None e = refl
-beside-items chunks None (Some t) e = absurd (cc)
-beside-items chunks (Some s) None e = absurd (cc)
-beside-items chunks (Some s) (Some t) e =
+pub beside-items : (Destroyed : Type 0) (chunks : Option Chunks) (o new : Option Stored) → except_items new ≡ except_items o → Turns o new (HasEnds chunks Destroyed [])
+beside-items Destroyed chunks None None e = refl
+beside-items Destroyed chunks None (Some t) e = absurd (cc)
+beside-items Destroyed chunks (Some s) None e = absurd (cc)
+beside-items Destroyed chunks (Some s) (Some t) e =
     let same : without_items t ≡ without_items s = cc in
     record { metadata = inl (stay-same chunks s.metadata t.metadata (ap (λ x. x.metadata) same)); ends = ap (λ x. x.ends) same ∙ sym (append-nil s.ends) }
 
 pub uses_handles : {C K V D : Type 0} (chunks : Option Chunks) (members : stores.Ghosts C) (old new : C) (turn : Turn K V D) → Uses members old new turn → Handles chunks ⊥ members old new turn
-uses_handles chunks members old new turn uses = record { beside = beside-items chunks (members.told old) (members.told new) uses.beside; later = uses.later; fault = uses.fault }
+uses_handles chunks members old new turn uses = record { beside = beside-items ⊥ chunks (members.told old) (members.told new) uses.beside; later = uses.later; fault = uses.fault }
 
 -- a command that takes no choice
 pub handles_line : {C K V D P Destroyed : Type 0} (chunks : Option Chunks) (members : stores.Ghosts C) (line : Line P) (old new : C) (turn : Turn K V D) → IsChosen line [] → (Destroyed → line ≡ Destroy) → Handles chunks Destroyed members old new turn → HandlesLine chunks members line old new turn

@@ -42,7 +42,7 @@ use Rattle.qm_offer.specs.Words.{WritesOf, IsSettling, IsHeadOf, IsPruned, IsUnp
 use Rattle.qm_engine.specs.Stores.{HasLog, HasEnds, IsLeft, moved, emptied}
 use Rattle.qm_model.specs.Taken.{head_at, StaysBeside, synced, after_prune, LeavesSync}
 use Rattle.qm_engine.specs.Session.{HeldIs, Holds, Handles, HandlesLine}
-use Rattle.qm_engine.proofs.LastingStores.{IsBare, became, turned-each, turns-same, turns-beside, stay-same, stays-beside, stored-settled, stored-synced, stored-after, has-become, has-emptied, has-restarted, before-start, may-before, left_imaged, left_restarted, left_destroyed, left_synced, left_pruned}
+use Rattle.qm_engine.proofs.LastingStores.{IsBare, became, turned-each, turns-same, turns-looser, turns-beside, stay-same, stays-beside, stored-settled, stored-synced, stored-after, has-become, has-emptied, has-restarted, before-start, may-before, left_imaged, left_restarted, left_destroyed, left_synced, left_pruned}
 use Rattle.qm_engine.proofs.Commands.{left_none, left_stable, no_refusal, numbered-held, with_held, with_list, Turns}
 
 -- an error that is a fault of the store tells so
@@ -81,7 +81,7 @@ writes-of means (Some g) x list stands = stands
 
 -- a command that does nothing to the store, and is not told as its fault
 pub same_handles : {C K V D Destroyed : Type 0} (chunks : Option Chunks) (members : stores.Ghosts C) (c : C) (answer : reply.Reply K V D) → Handles {K = K} {V = V} {D = D} chunks Destroyed members c c (Reply answer)
-same_handles chunks members c answer = record { beside = turns-same chunks (members.told c) (members.told c) refl; later = le_refl (members.faults c); fault = λ e. absurd (cc) }
+same_handles chunks members c answer = record { beside = turns-same _ chunks (members.told c) (members.told c) refl; later = le_refl (members.faults c); fault = λ e. absurd (cc) }
 
 module _ {X C B S M K V D : Type 0} (members : stores.Ghosts C) (means : meaning.Ghosts X C B S M) (key : K → Bytes) (value : V → Bytes) (digest : D → Bytes) where
   abbrev root : List Operation → Bytes
@@ -117,7 +117,7 @@ module _ {X C B S M K V D : Type 0} (members : stores.Ghosts C) (means : meaning
   given-up_handles x r Left up beside =
       subst (λ given. Handles {K = K} {V = V} {D = D} (chunks_of means.scheme) ⊥ members (means.inside x) (store_given means.inside given) (turn_of_error r.error)) (sym up.given)
       record {
-        beside = stays-beside means.scheme (members.told (means.inside x)) (members.told up.store) beside;
+        beside = stays-beside ⊥ means.scheme (members.told (means.inside x)) (members.told up.store) beside;
         later = up.cause.later;
         fault = λ e. up.cause.failed (fault-told r.error e);
       }
@@ -188,7 +188,7 @@ module _ {X C B S M K V D : Type 0} (members : stores.Ghosts C) (means : meaning
   pub settled_handles : (x : X) (After : List Operation → Stored → Stored) (Left : List Operation → Stored → Stored → Type 0) (settling : Result X (Refusal X C)) → IsSettling means members After Left x settling
       → Handles (chunks_of means.scheme) ⊥ members (means.inside x) (store_given means.inside (given_after settling)) (turn_settled {K = K} {V = V} {D = D} settling)
   settled_handles x After Left (Ok after) done = record {
-    beside = stays-beside means.scheme (members.told (means.inside x)) (members.told (means.inside after)) done.store.beside;
+    beside = stays-beside ⊥ means.scheme (members.told (means.inside x)) (members.told (means.inside after)) done.store.beside;
     later = done.later;
     fault = λ e. absurd (cc);
   }
@@ -292,7 +292,7 @@ module _ {X C B S M K V D : Type 0} (members : stores.Ghosts C) (means : meaning
   pub pruned_handles : (x : X) (to : ℕ) (pruning : Result X (Refusal X C)) → IfOk pruning (IsPruned means members to x) → IfErr pruning (IsUnpruned means members to x)
       → Handles (chunks_of means.scheme) ⊥ members (means.inside x) (store_given means.inside (given_after pruning)) (turn_settled {K = K} {V = V} {D = D} pruning)
   pruned_handles x to (Ok after) done denied = record {
-    beside = stays-beside means.scheme (members.told (means.inside x)) (members.told (means.inside after)) done.store.beside;
+    beside = stays-beside ⊥ means.scheme (members.told (means.inside x)) (members.told (means.inside after)) done.store.beside;
     later = done.later;
     fault = λ e. absurd (cc);
   }
@@ -404,7 +404,7 @@ module _ {X C B S M K V D : Type 0} (members : stores.Ghosts C) (means : meaning
     pub uncrashed_left : model.Turns (members.told (store_given means.inside held)) (members.told c) (λ t. ReadsAs t.stable (IsImage t)) → IsLeft means.scheme (members.told c) s.log ((machine.crash s).1).log
     uncrashed_left made = left_imaged means.scheme peakless (members.told (store_given means.inside held)) (members.told c) s.log ((machine.crash s).1).log steady.counts k.store.told k.start k.within (at-end _ s.log k.within) made
 
-  restarted-beside : {Destroyed : Type 0} (chunks : Option Chunks) (o new : Option Stored) → model.Turns o new HasRestarted → (to : ℕ) × model.Turns o new (HasEnds chunks Destroyed (to ∷ []))
+  restarted-beside : (chunks : Option Chunks) (o new : Option Stored) → model.Turns o new HasRestarted → (to : ℕ) × model.Turns o new (HasEnds chunks ⊥ (to ∷ []))
   restarted-beside chunks None new is = (0, is)
   restarted-beside chunks (Some s) None is = absurd is
   restarted-beside chunks (Some s) (Some t) is = (is.to, record { metadata = inl (stay-same chunks s.metadata t.metadata (ap (λ x. x.metadata) is.same)); ends = ap (λ x. x.ends) is.same })
@@ -413,7 +413,7 @@ module _ {X C B S M K V D : Type 0} (members : stores.Ghosts C) (means : meaning
       → HandlesLine {K = K} {V = V} {D = D} {P = P} (chunks_of means.scheme) members (lines.Crash keep) old c (Reply replies.Done)
   crashed_handles keep old c made later =
       let chosen = restarted-beside (chunks_of means.scheme) (members.told old) (members.told c) made in
-      record { more = chosen.0 ∷ []; beside = chosen.1; chosen = λ rest. refl; later = later; fault = λ e. absurd (cc) }
+      record { more = chosen.0 ∷ []; beside = turns-looser (chunks_of means.scheme) (chosen.0 ∷ []) (members.told old) (members.told c) (λ never. absurd never) chosen.1; chosen = λ rest. refl; later = later; fault = λ e. absurd (cc) }
 
   pub uncrashed_turn : (given : Given X C) (table : List (Slot B S M)) (opened : ℕ) (s : State) (e : StoreError) (error : Error) → error ≡ log_error e → Goes (turn_of_error error) given table opened (machine.crash s)
   uncrashed_turn given table opened s e error is = no_refusal error _ (ap refusal_of is ∙ none_refused e)
@@ -422,7 +422,7 @@ module _ {X C B S M K V D : Type 0} (members : stores.Ghosts C) (means : meaning
       → HandlesLine {P = P} (chunks_of means.scheme) members (lines.Crash keep) old c (turn_of_error {K = K} {V = V} {D = D} error)
   uncrashed_handles keep old c e error is made later rose = record {
     more = [];
-    beside = turns-beside (chunks_of means.scheme) (members.told old) (members.told c) _ imaged-beside made;
+    beside = turns-beside _ (chunks_of means.scheme) (members.told old) (members.told c) _ imaged-beside made;
     chosen = no_refusal error _ (ap refusal_of is ∙ none_refused e);
     later = later;
     fault = λ told. rose (failed e (sym is ∙ fault-told error told));

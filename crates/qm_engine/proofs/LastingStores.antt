@@ -79,12 +79,12 @@ beside-through chunks a b s t u before behind one two = record {
   ends = two.ends ∙ ap (λ xs. xs ++ b) one.ends ∙ append_assoc s.ends a b;
 }
 
-pub turns-self : {Destroyed : Type 0} (chunks : Option Chunks) (o : Option Stored) → Turns o o (HasEnds chunks Destroyed [])
-turns-self chunks None = refl
-turns-self chunks (Some s) = beside-self chunks s
+pub turns-self : (Destroyed : Type 0) (chunks : Option Chunks) (o : Option Stored) → Turns o o (HasEnds chunks Destroyed [])
+turns-self Destroyed chunks None = refl
+turns-self Destroyed chunks (Some s) = beside-self chunks s
 
-pub turns-same : {Destroyed : Type 0} (chunks : Option Chunks) (o new : Option Stored) → new ≡ o → Turns o new (HasEnds chunks Destroyed [])
-turns-same {Destroyed} chunks o new same = subst (λ p. Turns o p (HasEnds chunks Destroyed [])) (sym same) (turns-self chunks o)
+pub turns-same : (Destroyed : Type 0) (chunks : Option Chunks) (o new : Option Stored) → new ≡ o → Turns o new (HasEnds chunks Destroyed [])
+turns-same Destroyed chunks o new same = subst (λ p. Turns o p (HasEnds chunks Destroyed [])) (sym same) (turns-self Destroyed chunks o)
 
 -- it may be that the store was destroyed, if what tells so follows
 looser : {A B S T : Type 0} → (A → B) → S ⊎ (A × T) → S ⊎ (B × T)
@@ -108,18 +108,18 @@ turns-through chunks a b (Some s) (Some t) (Some u) before behind one two = besi
 cancelled : (xs a b : List ℕ) → xs ++ a ≡ xs ++ b → a ≡ b
 cancelled xs a b e = sym (drop-append_seam xs a) ∙ ap (drop (length xs)) e ∙ drop-append_seam xs b
 
-pub turns-told : {A B : Type 0} (chunks : Option Chunks) (a b : List ℕ) (s : Stored) (new : Option Stored) → Turns (Some s) new (HasEnds chunks A a) → Turns (Some s) new (HasEnds chunks B b) → a ≡ b
-turns-told chunks a b s None one two = absurd one
-turns-told chunks a b s (Some t) one two = cancelled s.ends a b (sym one.ends ∙ two.ends)
+pub turns-told : (A B : Type 0) (chunks : Option Chunks) (a b : List ℕ) (s : Stored) (new : Option Stored) → Turns (Some s) new (HasEnds chunks A a) → Turns (Some s) new (HasEnds chunks B b) → a ≡ b
+turns-told A B chunks a b s None one two = absurd one
+turns-told A B chunks a b s (Some t) one two = cancelled s.ends a b (sym one.ends ∙ two.ends)
 
 -- what is as beside the items, and only there
-pub turns-beside : {Destroyed : Type 0} (chunks : Option Chunks) (o new : Option Stored) (R : Stored → Stored → Type 0) → ((s t : Stored) → R s t → (t.metadata ≡ s.metadata) × (t.ends ≡ s.ends)) → Turns o new R → Turns o new (HasEnds chunks Destroyed [])
-turns-beside {Destroyed} chunks o new R each is =
+pub turns-beside : (Destroyed : Type 0) (chunks : Option Chunks) (o new : Option Stored) (R : Stored → Stored → Type 0) → ((s t : Stored) → R s t → (t.metadata ≡ s.metadata) × (t.ends ≡ s.ends)) → Turns o new R → Turns o new (HasEnds chunks Destroyed [])
+turns-beside Destroyed chunks o new R each is =
     turned-each o new R (HasEnds chunks Destroyed []) (λ s t r. let same = each s t r in record { metadata = inl (stay-same chunks s.metadata t.metadata same.0); ends = same.1 ∙ sym (append-nil s.ends) }) is
 
 -- the same of a call that may write the metadata that counts chunks
-pub stays-beside : {Destroyed : Type 0} (m : Scheme) (o new : Option Stored) → Turns o new (StaysBeside m) → Turns o new (HasEnds (chunks_of m) Destroyed [])
-stays-beside {Destroyed} m o new is = turned-each o new (StaysBeside m) (HasEnds (chunks_of m) Destroyed []) (λ s t r. record { metadata = inl r.metadata; ends = r.ends ∙ sym (append-nil s.ends) }) is
+pub stays-beside : (Destroyed : Type 0) (m : Scheme) (o new : Option Stored) → Turns o new (StaysBeside m) → Turns o new (HasEnds (chunks_of m) Destroyed [])
+stays-beside Destroyed m o new is = turned-each o new (StaysBeside m) (HasEnds (chunks_of m) Destroyed []) (λ s t r. record { metadata = inl r.metadata; ends = r.ends ∙ sym (append-nil s.ends) }) is
 
 -- Logs.
 

@@ -272,7 +272,7 @@ opening-beside m (suc n) s t r = let i = r.left in (ap (λ x. x.metadata) r.read
 pub opened_handles : {C K V D : Type 0} (members : stores.Ghosts C) (m : Scheme) (bound : Option ℕ) (old new : C) (answer : reply.Reply K V D)
     → model.Turns (members.told old) (members.told new) (λ t next. next ≡ taken m (selected_size m bound t) t) → members.faults old ≤ members.faults new → Handles {K = K} {V = V} {D = D} (chunks_of m) ⊥ members old new (Reply answer)
 opened_handles members m bound old new answer made later = record {
-  beside = (turns-beside (chunks_of m) (members.told old) (members.told new) _ (λ s t. taken-beside m (selected_size m bound s) s t) made);
+  beside = (turns-beside ⊥ (chunks_of m) (members.told old) (members.told new) _ (λ s t. taken-beside m (selected_size m bound s) s t) made);
   later = later;
   fault = λ e. absurd (cc);
 }
@@ -281,7 +281,7 @@ pub unopened_handles : {C K V D : Type 0} (members : stores.Ghosts C) (m : Schem
     → model.Turns (members.told old) (members.told new) (λ t next. LeavesOpening m (selected_size m bound t) t next) → members.faults old ≤ members.faults new → (error ≡ errors.Journal journal.Store → Rose (members.faults old) (members.faults new))
     → Handles {K = K} {V = V} {D = D} (chunks_of m) ⊥ members old new (turn_of_error error)
 unopened_handles members m bound old new error made later rose = record {
-  beside = (turns-beside (chunks_of m) (members.told old) (members.told new) _ (λ s t. opening-beside m (selected_size m bound s) s t) made);
+  beside = (turns-beside ⊥ (chunks_of m) (members.told old) (members.told new) _ (λ s t. opening-beside m (selected_size m bound s) s t) made);
   later = later;
   fault = λ e. rose (fault-told error e);
 }

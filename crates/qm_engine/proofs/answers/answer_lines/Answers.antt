@@ -27,7 +27,7 @@ loop-line-init g c =
       at = at_start c.args.input.now;
       room = omega arith;
       opened = omega (arith, c.in-Ok.ensures.opened);
-      ends = ([], turns-same (chunks_of g.X.Meaning.scheme) (g.C.Store.told c.args.store) _ same);
+      ends = ([], turns-same _ (chunks_of g.X.Meaning.scheme) (g.C.Store.told c.args.store) _ same);
       later = omega (arith, ap g.C.Store.faults c.in-Ok.ensures.store);
       machine = λ stored log is own more rest told.
           subst (λ xs. Apart m.root (after m policies log (xs ++ rest) lines 0).had → (c.new-text.result.items ≡ text_of (answers m policies (initial log (xs ++ rest)) (take 0 lines))) × Between g.C.Store g.X.Meaning policies c.in-Ok.session rest (after m policies log (xs ++ rest) lines 0))
@@ -43,7 +43,7 @@ returns-in-Err g c = record {
   done = λ e. absurd (memory_cause.0 e);
   bad = λ e. absurd (memory_cause.1 e);
   short = λ e. absurd (memory-not_fault e);
-  ends = ([], turns-same (chunks_of g.X.Meaning.scheme) (g.C.Store.told c.args.store) _ (ap g.C.Store.told c.in-Err.ensures.back));
+  ends = ([], turns-same _ (chunks_of g.X.Meaning.scheme) (g.C.Store.told c.args.store) _ (ap g.C.Store.told c.in-Err.ensures.back));
   bound = omega arith;
   later = omega (arith, ap g.C.Store.faults c.in-Err.ensures.back);
   fault = λ e. absurd (memory-not_fault e);
@@ -58,7 +58,7 @@ returns-in-Some-ended g c =
     record {
       machine = each (g.C.Store.told c.args.store) (λ stored is log own choices told.
           rw (kept, c.returned.ensures.store) (subst (λ xs. IsAnswered m policies log xs (commands_in c.args.input.now) c.loop-line.answered c.loop-line.text.items (g.C.Store.told (store_given g.X.Meaning.inside c.answer_line-next.result.0.held)))
-          (sym (more-parts (chunks_of g.X.Meaning.scheme) (g.C.Store.told c.args.store) _ _ stored before.0 behind.0 choices is before.1 behind.1 (rw c.returned.ensures.store at told)))
+          (sym (more-parts _ _ (chunks_of g.X.Meaning.scheme) (g.C.Store.told c.args.store) _ _ stored before.0 behind.0 choices is before.1 behind.1 (rw c.returned.ensures.store at told)))
           (answered_in c.args.input.now c.loop-line.rest.now c.in-Some.line.now c.in-Some.behind.now c.loop-line.answered c.loop-line.invariant.at c.in-Some.ensures.some
           m log (before.0 ++ behind.0) c.loop-line.text.items _
           (λ s. Between g.C.Store g.X.Meaning policies c.loop-line.session behind.0 s)
@@ -105,7 +105,7 @@ loop-line-preserved g c =
       );
       machine = λ stored log is own more rest told.
           subst (λ xs. Apart m.root (after m policies log xs lines (k + 1)).had → (c.answer_line-next.new.text.items ≡ text_of (answers m policies (initial log xs) (take (k + 1) lines))) × Between g.C.Store g.X.Meaning policies c.answer_line-next.result.0 rest (after m policies log xs lines (k + 1)))
-          (sym (ap (λ xs. xs ++ rest) (more-parts (chunks_of g.X.Meaning.scheme) (g.C.Store.told c.args.store) _ _ stored before.0 behind.0 more is before.1 behind.1 told) ∙ append_assoc before.0 behind.0 rest))
+          (sym (ap (λ xs. xs ++ rest) (more-parts _ _ (chunks_of g.X.Meaning.scheme) (g.C.Store.told c.args.store) _ _ stored before.0 behind.0 more is before.1 behind.1 told) ∙ append_assoc before.0 behind.0 rest))
           (line_step c.args.input.now c.loop-line.rest.now c.in-Some.line.now c.in-Some.behind.now k c.loop-line.invariant.at c.in-Some.ensures.some
           m log (before.0 ++ (behind.0 ++ rest)) (line_of c.in-Some.line.now) refl some c.loop-line.text.items c.answer_line-next.new.text.items
           (λ s. Between g.C.Store g.X.Meaning policies c.loop-line.session (behind.0 ++ rest) s)

@@ -26,7 +26,7 @@ loop-command-init g c =
       count = ap length c.new-replies.ensures.items;
       opened = omega (arith, c.in-Ok.ensures.opened);
       later = omega (arith, ap g.C.Store.faults c.in-Ok.ensures.store);
-      ends = ([], turns-same (chunks_of g.X.Meaning.scheme) (g.C.Store.told c.args.store) _ same);
+      ends = ([], turns-same _ (chunks_of g.X.Meaning.scheme) (g.C.Store.told c.args.store) _ same);
       machine = λ stored log is own more rest told.
           subst (λ xs. Apart m.root (after m rules log (xs ++ rest) lines 0).had → (map a c.new-replies.result.items ≡ answers m rules (initial log (xs ++ rest)) (take 0 lines)) × Between g.C.Store g.X.Meaning rules c.in-Ok.session rest (after m rules log (xs ++ rest) lines 0))
           (sym (none-more (chunks_of g.X.Meaning.scheme) (g.C.Store.told c.args.store) _ stored more is same told))
@@ -44,7 +44,7 @@ returns-in-Err g c =
           (λ apart. (none, log-of g.X.Meaning.scheme g.P.Policy.rules _ stored log (ap g.C.Store.told c.in-Err.ensures.back ∙ is) own, own.kept)));
       done = λ e. absurd (end-memory_not_done e);
       short = λ e. absurd (end-memory_not_fault e);
-      ends = ([], turns-same (chunks_of g.X.Meaning.scheme) (g.C.Store.told c.args.store) _ (ap g.C.Store.told c.in-Err.ensures.back));
+      ends = ([], turns-same _ (chunks_of g.X.Meaning.scheme) (g.C.Store.told c.args.store) _ (ap g.C.Store.told c.in-Err.ensures.back));
       later = omega (arith, ap g.C.Store.faults c.in-Err.ensures.back);
       fault = λ e. absurd (end-memory_not_fault e);
     }
@@ -60,7 +60,7 @@ returns-in-Some g c =
     record {
       machine = each (g.C.Store.told c.args.store) (λ stored is log own choices told.
           rw (kept, c.returned.ensures.store) (subst (λ xs. IsRun g.X.Meaning.scheme g.P.Policy.rules log xs (map f c.args.commands.now) (map a c.loop-command.replies.items) (g.C.Store.told (store_given g.X.Meaning.inside c.step-next.result.0.held)))
-          (sym (more-parts (chunks_of g.X.Meaning.scheme) (g.C.Store.told c.args.store) _ _ stored before.0 behind.0 choices is before.1 behind.1 (rw c.returned.ensures.store at told)))
+          (sym (more-parts _ _ (chunks_of g.X.Meaning.scheme) (g.C.Store.told c.args.store) _ _ stored before.0 behind.0 choices is before.1 behind.1 (rw c.returned.ensures.store at told)))
           (ended_in g.X.Meaning.scheme g.P.Policy.rules log (before.0 ++ behind.0) (map f c.args.commands.now) i (f c.command-item.result) (map a c.loop-command.replies.items) _
           (λ s. Between g.C.Store g.X.Meaning g.P.Policy.rules c.loop-command.session behind.0 s)
           (rw (length-map c.args.commands.now f) c.loop-command-test.true)
@@ -105,7 +105,7 @@ loop-command-preserved g c =
       );
       machine = λ stored log is own more rest told.
           subst (λ xs. Apart m.root (after m rules log xs lines (i + 1)).had → (map a c.step-next.new.replies.items ≡ answers m rules (initial log xs) (take (i + 1) lines)) × Between g.C.Store g.X.Meaning rules c.step-next.result.0 rest (after m rules log xs lines (i + 1)))
-          (sym (ap (λ xs. xs ++ rest) (more-parts (chunks_of g.X.Meaning.scheme) (g.C.Store.told c.args.store) _ _ stored before.0 behind.0 more is before.1 behind.1 told) ∙ append_assoc before.0 behind.0 rest))
+          (sym (ap (λ xs. xs ++ rest) (more-parts _ _ (chunks_of g.X.Meaning.scheme) (g.C.Store.told c.args.store) _ _ stored before.0 behind.0 more is before.1 behind.1 told) ∙ append_assoc before.0 behind.0 rest))
           (loop_step m rules log (before.0 ++ (behind.0 ++ rest)) lines (λ given. given) (λ given answer. given ++ answer ∷ []) (λ given answer. refl) i (f c.command-item.result) (map a c.loop-command.replies.items) (map a c.step-next.new.replies.items)
           (λ s. Between g.C.Store g.X.Meaning rules c.loop-command.session (behind.0 ++ rest) s)
           (λ s. Between g.C.Store g.X.Meaning rules c.step-next.result.0 rest s)

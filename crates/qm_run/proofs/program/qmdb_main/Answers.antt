@@ -23,7 +23,7 @@ returns-in_default g c =
       headline = at_none (kind_of_words (map string_bytes c.args.words.now)) _ (sym c.kind_from.ensures ∙ c.in_default.is);
       untouched = λ e. (refl, refl);
       unread = λ e. refl;
-      ends = ([], turns-self (chunks_named (map string_bytes c.args.words.now)) (g.C.Store.told c.args.store));
+      ends = ([], turns-self _ (chunks_named (map string_bytes c.args.words.now)) (g.C.Store.told c.args.store));
       usage = (λ e. none, λ no_words. refl);
       read = λ e. absurd (differ 1 3 refl e);
       steady = λ other. refl;
@@ -49,7 +49,7 @@ returns-in-Err-Memory g c =
           unchanged m stored input 5 rose (g.C.Store.told c.args.store) (g.K.Sink.text c.args.sink.now) (subst (λ left. Says m stored input 5 rose [] left) (sym is) (λ log own choices turns. says_unstarted m log choices input rose stored own)))));
       untouched = λ e. (refl, refl);
       unread = λ e. absurd (differ 5 1 refl e);
-      ends = ([], turns-self (chunks_named (map string_bytes c.args.words.now)) (g.C.Store.told c.args.store));
+      ends = ([], turns-self _ (chunks_named (map string_bytes c.args.words.now)) (g.C.Store.told c.args.store));
       usage = (λ e. absurd (differ 5 1 refl e), λ none. absurd (false≢true (sym none ∙ are)));
       read = λ e. absurd (differ 5 3 refl e);
       steady = λ other. c.in-Err-Memory.ensures.steady (λ e. absurd (cc e));
@@ -75,7 +75,7 @@ returns-in-Err-Failed g c =
           unchanged m stored input 3 rose (g.C.Store.told c.args.store) (g.K.Sink.text c.args.sink.now) (λ log own choices turns. says_nothing m log choices input rose 3 (g.C.Store.told c.args.store) (inr (inl refl))))));
       untouched = λ e. (refl, refl);
       unread = λ e. absurd (differ 3 1 refl e);
-      ends = ([], turns-self (chunks_named (map string_bytes c.args.words.now)) (g.C.Store.told c.args.store));
+      ends = ([], turns-self _ (chunks_named (map string_bytes c.args.words.now)) (g.C.Store.told c.args.store));
       usage = (λ e. absurd (differ 3 1 refl e), λ none. absurd (false≢true (sym none ∙ are)));
       read = λ e. c.in-Err-Failed.ensures.cause.failed (ap Err c.in-Err-Failed.field-0-is);
       steady = λ other. absurd (other refl);
@@ -101,7 +101,7 @@ returns-in-Err-TooLong g c =
           unchanged m stored input 7 rose (g.C.Store.told c.args.store) (g.K.Sink.text c.args.sink.now) (λ log own choices turns. says_nothing m log choices input rose 7 (g.C.Store.told c.args.store) (inr (inr refl))))));
       untouched = λ e. (refl, refl);
       unread = λ e. absurd (differ 7 1 refl e);
-      ends = ([], turns-self (chunks_named (map string_bytes c.args.words.now)) (g.C.Store.told c.args.store));
+      ends = ([], turns-self _ (chunks_named (map string_bytes c.args.words.now)) (g.C.Store.told c.args.store));
       usage = (λ e. absurd (differ 7 1 refl e), λ none. absurd (false≢true (sym none ∙ are)));
       read = λ e. absurd (differ 7 3 refl e);
       steady = λ other. c.in-Err-TooLong.ensures.steady (λ e. absurd (cc e));
