@@ -180,7 +180,7 @@ module _ {X C B S M : Type 0} (members : stores.Ghosts C) (means : meaning.Ghost
 
 pub none-more : (chunks : Option Chunks) (o new : Option Stored) (stored : Stored) (more : List ℕ) → o ≡ Some stored → new ≡ o → Turns o new (HasEnds chunks ⊤ more) → more ≡ []
 none-more chunks o new stored more is same told =
-    turns-told ⊤ ⊤ chunks more [] stored (Some stored) (subst (λ p. Turns (Some stored) p (HasEnds chunks ⊤ more)) (same ∙ is) (subst (λ p. Turns p new (HasEnds chunks ⊤ more)) is told)) (beside-self {⊤} chunks stored)
+    turns-told ⊤ ⊤ chunks more [] stored (Some stored) (subst (λ p. Turns (Some stored) p (HasEnds chunks ⊤ more)) (same ∙ is) (subst (λ p. Turns p new (HasEnds chunks ⊤ more)) is told)) (beside-self {Destroyed = ⊤} chunks stored)
 
 pub more-parts : (A B : Type 0) (chunks : Option Chunks) (o p q : Option Stored) (stored : Stored) (a b more : List ℕ) → o ≡ Some stored → Turns o p (HasEnds chunks A a) → Turns p q (HasEnds chunks B b) → Turns o q (HasEnds chunks ⊤ more) → more ≡ a ++ b
 more-parts A B chunks o p q stored a b more is one two told =
