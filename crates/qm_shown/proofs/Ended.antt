@@ -1,5 +1,5 @@
 -- A whole list ends with a commit: of the proofs of its operations only the start can be refused.
-use Rattle.std.proofs.Common.{◌≡◌, ◌∙◌, ◌<◌, ◌≤◌, ◌-◌, ◌/◌, ◌*◌, ◌^◌, ℕ, zero, suc, Bool, List, [], ◌∷◌, length, Option, None, Some, arith, ap, sym, refl, le_refl}
+use Rattle.std.proofs.Common.{◌≡◌, ◌∙◌, ◌<◌, ◌≤◌, ◌/◌, ◌^◌, ℕ, zero, suc, Bool, List, [], ◌∷◌, length, Option, None, Some, arith, ap, sym, refl, le_refl}
 use Rattle.std.specs.Prelude.{nat_lt, if◌then◌else◌}
 use Rattle.std.proofs.lemmas.Bool.{lt-ltb, le-ltb}
 use Rattle.qm_model.specs.Operations.{Operation, update, delete, commit, IsCommitEnded}

@@ -1,2 +1,4 @@
 pub mod Ended
-pub mod Due
+pub mod LiveBits
+pub mod Absences
+pub mod Keys

@@ -1,5 +1,5 @@
 -- An any database and what a current one keeps beside it, of whose list proofs are made.
-use Rattle.std.specs.Prelude.{◌≡◌, ℕ, List}
+use Rattle.std.specs.Prelude.{◌≡◌, List}
 use Rattle.qm_model.specs.Operations.{Operation}
 use Rattle.qm_store.specs.declared.Store as store
 use Rattle.qm_any.specs.Databases as anys

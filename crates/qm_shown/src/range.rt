@@ -10,9 +10,9 @@ ghost use Rattle.qm_keyproofs.specs.Views.{chunk_views, range_view};
 ghost use Rattle.qm_operations.specs.Views.{operation_views};
 ghost use Rattle.qm_any.specs.Databases.{IsLeft};
 ghost use Rattle.qm_shown.specs.Beside.{AtBoth, HasEnds};
-ghost use Rattle.qm_shown.specs.Refusals.{from_refusal, IsDue};
+ghost use Rattle.qm_store.specs.Refusals.{IsDue};
+ghost use Rattle.qm_shown.specs.Refusals.{from_refusal, IsCaused};
 
-use crate::error::ProofError;
 use crate::parts::parts;
 use crate::refused::provable_from;
 use qm_any::db::{Db, LaidOut};
@@ -46,7 +46,7 @@ pub fn range_proof<
     own: &Canonical<F, N, H::Digest>,
     start: Location<F>,
     max: NonZeroU64,
-) -> Result<ShownRange<F, N, H::Digest, U>, ProofError>
+) -> Result<ShownRange<F, N, H::Digest, U>, Error>
     requires { HasEnds {C = C} {D = H.Digest} db.old own.now }
     ensures offered { AtBoth C.Store ⟦<Db<F, C, I, H, U, N> as LaidOut>⟧.layout db.old own.now
         (λ list. OnOk result (from_refusal C.Store N.LEN db.old list start ≡ None)) }
@@ -64,6 +64,7 @@ pub fn range_proof<
         (start + proof_count (length list) start (non_zero_u64_get max)))) }
     ensures refused { AtBoth C.Store ⟦<Db<F, C, I, H, U, N> as LaidOut>⟧.layout db.old own.now
         (λ list. IfErr result (λ e. IsDue e (from_refusal C.Store N.LEN db.old list start))) }
+    ensures caused { IfErr result (IsCaused C.Store db.old db.new) }
     ensures left { IsLeft C.Store ⟦<Db<F, C, I, H, U, N> as LaidOut>⟧.layout.hashing db.old db.new }
 {
     provable_from(db, start)?;
@@ -77,7 +78,7 @@ pub fn range_proof<
         Location::new(end),
     ) {
         Ok(shown) => shown,
-        Err(_) => return Err(ProofError::Call(Error::Memory)),
+        Err(_) => return Err(Error::Memory),
     };
     let (_, operations) = db.proof(alloc, start, max)?;
     Ok((proof, operations, chunks))

@@ -3,9 +3,9 @@
 ghost use Rattle.std.specs.Prelude.{◌≡◌, ◌≤◌, ◌<◌, ◌*◌, ◌^◌, List, length, Some, None, IfErr, OnOk};
 ghost use Rattle.qm_model.specs.Operations.{Operation};
 ghost use Rattle.qm_graft.specs.Grafting.{grafting};
-ghost use Rattle.qm_shown.specs.Refusals.{from_refusal, refusal_of};
+ghost use Rattle.qm_store.specs.Refusals.{refusal_of};
+ghost use Rattle.qm_shown.specs.Refusals.{from_refusal, IsUnread};
 
-use crate::error::ProofError;
 use qm_any::db::Db;
 use qm_base::{Digest, Error, Hasher, JournalError, Location, TreeRefused};
 use qm_bits::Chunks;
@@ -23,7 +23,7 @@ pub(crate) fn provable_from<
     H: Hasher,
     U: Update,
     N: Chunks,
->(db: &Db<F, C, I, H, U, N>, start: Location<F>) -> Result<(), ProofError>
+>(db: &Db<F, C, I, H, U, N>, start: Location<F>) -> Result<(), Error>
     ensures within { OnOk result (start < db.now.commitment.size) }
     ensures bits { OnOk result (db.now.activity.pruned * 2 ^ grafting N.LEN ≤ start) }
     ensures kept { OnOk result (C.start db.now.log.store ≤ start) }
@@ -31,17 +31,18 @@ pub(crate) fn provable_from<
         → OnOk result (from_refusal C.Store N.LEN db.now list start ≡ None) }
     ensures refused { (list : List Operation) → length list ≡ db.now.commitment.size
         → IfErr result (λ e. from_refusal C.Store N.LEN db.now list start ≡ refusal_of e) }
+    ensures unread { IfErr result IsUnread }
 {
     let at = start.get();
     let (kept, size) = db.bounds();
     if at >= size.get() {
-        return Err(ProofError::Call(Error::Merkle(TreeRefused::RangeOutOfBounds(at))));
+        return Err(Error::Merkle(TreeRefused::RangeOutOfBounds(at)));
     }
     if at >> height::<N>() < db.bitmap().pruned_chunks() as u64 {
-        return Err(ProofError::OperationPruned(at));
+        return Err(Error::OperationPruned(at));
     }
     if at < kept.get() {
-        return Err(ProofError::Call(Error::Journal(JournalError::ItemPruned(at))));
+        return Err(Error::Journal(JournalError::ItemPruned(at)));
     }
     Ok(())
 }

@@ -1,0 +1,14 @@
+use Rattle.std.proofs.Common.{true}
+use Rattle.qm_model.specs.Forms.{Form}
+use Rattle.qm_model.specs.RangeProofs.{operation_proof}
+use Rattle.qm_graft.specs.Grafting.{grafting}
+use Rattle.qm_shown.proofs.Keys.{made-at, next-at}
+use Rattle.qm_shown.proofs.ordered.key_value_proof.Goals as goal
+
+pub returns-in-Ok-clause-proof : goal.returns-in-Ok-clause-proof
+returns-in-Ok-clause-proof g c = λ list stands own.
+    let form : Form = record { ordered = true; sizes = g.V.ValueEncoding.fixed; is_key = g.K.ByteString.has; is_value = g.V.Value.ByteString.has } in
+    made-at list (g.K.ByteString.bytes c.args.key.now) _ _ (operation_proof g.H.Hasher.hash g.F.Family.shape (grafting g.N.Chunks.LEN) form list) _ (c.in-Ok.ensures.update list stands own) (c.in-Ok.ensures.proof list stands own)
+
+pub returns-in-Ok-clause-next : goal.returns-in-Ok-clause-next
+returns-in-Ok-clause-next g c = λ list stands own. next-at list (g.K.ByteString.bytes c.args.key.now) _ _ _ _ (c.in-Ok.ensures.update list stands own)
