@@ -1,6 +1,6 @@
 //! The commands of a run, a group of them by each call.
 
-ghost use Rattle.std.specs.Prelude.{◌+◌, ◌^◌, ◌<◌};
+ghost use Rattle.std.specs.Prelude.{◌+◌, ◌^◌, ◌<◌, refl};
 ghost use Rattle.qm_machine.specs.Machine as machine;
 ghost use Rattle.qm_lines.specs.Views.{making_view, store_view};
 ghost use Rattle.qm_engine.specs.Session.{Performs};
