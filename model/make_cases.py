@@ -345,18 +345,21 @@ put('a list whose opening fails', lines_of(b'info\nopen\ninfo\n') + ['list', 'fa
 # ---- current databases
 CURRENT = 'run current unordered mmr'
 CURRENT_ORDERED = 'run current ordered mmr'
-section('Worked rows of current databases, without the lines that ask for proofs of keys.')
-KEY_PROOFS = ('held', 'absent', 'chunks', 'witness', 'export')
+section('Worked rows of current databases.')
 for row in check_rows.load_rows():
     first, last = check_rows.stages_of(row)
     if first > STAGE or last < STAGE or 'initial' in row or len(row['runs']) > 1: continue
     run, = row['runs']
     words = ' '.join(run['words'])
     if words not in (CURRENT, CURRENT_ORDERED): continue
-    data = check_rows.row_input(run)
-    rest = b''.join(line for line in data.splitlines(keepends=True) if line.split()[:1] and line.split()[0].decode() not in KEY_PROOFS)
-    t, s, _ = modelled(row['name'], rest, words=words)
-    assert rest != data or (s, t) == (run['status'], run['output'])
+    t, s, _ = modelled(row['name'], check_rows.row_input(run), words=words)
+    assert (s, t) == (run['status'], run['output'])
+section('What is asked of current databases: without a database, of a fresh one, and of one key that is written, deleted and written again.')
+ASKED = 'held 6b\nabsent 6b\nchunks 0 1\nchunks 1 1\nwitness\n'
+ONE_PUT = 'batch\nput %d 6b 76\nmerkleize %d prop none\napply %d\n'
+ONE_KEY = ASKED + 'open\n' + ASKED + ONE_PUT % (1, 1, 1) + ASKED + 'held 6c\nabsent 6c\nchunks 3 9\nbatch\ndel 2 6b\nmerkleize 2 hold none\napply 2\n' + ASKED + ONE_PUT % (3, 3, 3) + ASKED + 'close\n' + ASKED
+for words in (CURRENT, CURRENT_ORDERED):
+    modelled('asked, ' + words[4:], ONE_KEY, words=words)
 section('A prune and a sync of a current database, each call in turn that fails: 266 batches of a key make 1,066 calls, then come commit, metadata and prune, then sync and metadata. Where the log was not pruned after the metadata was put, the store is opened.')
 LONG = 'open\n' + ''.join('batch\nput %d 6b %02x\nmerkleize %d prop none\napply %d\n' % (i, i % 256, i, i) for i in range(1, 267))
 text, status, store = modelled('current, pruned', LONG + 'prune 768\ninfo\nsync\n', words=CURRENT)
@@ -364,6 +367,10 @@ long_replies = text.splitlines(keepends=True)
 for call, replies, start, count in ((1065, 1064, 0, 796), (1066, 1065, 0, 799), (1067, 1065, 0, 799), (1069, 1067, 768, 31), (1070, 1067, 768, 31), (1068, 1065, 0, 799)):
     put('current, pruned, store call %d fails' % call, ['fail store %d' % call], ''.join(long_replies[:replies]) + 'store fault\n', 6, start, count, begin='again')
 put('current, opened after store call 1068 failed', ['keep', 'words ' + CURRENT, '| open', '| info'], 'open 1 0 799\ninfo 0 799 797 768 live\n', 0, 0, 799)
+section('Proofs over several chunks, after a prune, after a crash of a list that is pruned, and by a second run over its store.')
+SHOWN = 'held 6b\nchunks 0 799\nchunks 255 2\nchunks 767 2\nchunks 768 31\nchunks 798 9\nchunks 799 1\nwitness\n'
+modelled('current, proofs before and after a prune', LONG + SHOWN + 'prune 768\n' + SHOWN + 'batch\nput 267 6c 01\nmerkleize 267 prop none\napply 267\n' + SHOWN + 'crash 0\nopen\n' + SHOWN, words=CURRENT)
+put('current, proofs of a second run', ['keep', 'words ' + CURRENT] + lines_of(('open\n' + SHOWN).encode()), 'open 1 768 799\nheld 797 yes\nrefused OperationPruned 0\nrefused OperationPruned 255\nrefused OperationPruned 767\nchunks 31 1 yes\nchunks 1 1 yes\nrefused Merkle RangeOutOfBounds 799\nwitness yes\n', 0, 768, 31)
 section('A sync of a current database makes its operations stable (call 6) and then puts metadata (call 7): what is left where one of them fails is told by a crash and an opening.')
 SYNCED = 'open\nbatch\nput 1 6b 76\nmerkleize 1 prop none\napply 1\nsync\ninfo\n'
 text, status, store = modelled('current, synced', SYNCED, words=CURRENT)
@@ -375,6 +382,12 @@ section('A batch of an earlier opening is refused before anything is read: call 
 LATE = 'open\nbatch\nput 1 61 01\nmerkleize 1 prop none\napply 1\ncommit\nbatch\nput 2 61 02\nopen\nmerkleize 2 prop none\n'
 text, status, store = modelled('current, a batch of an earlier opening', LATE, words=CURRENT)
 put('current, a batch of an earlier opening, store call 18 would fail', ['fail store 18'], text, status, store.start, len(store.items), begin='again')
+section('Scripts of current databases.')
+for words in (CURRENT, CURRENT_ORDERED):
+    for seed in range(16):
+        lines = fuzz.script('current rows %d' % seed, words[4:], STAGE, (12, 25, 40)[seed % 3], bad=seed % 4 == 0)
+        said = ''.join(x + '\n' for x in lines)
+        if len(said) <= 1800: modelled('current script %d, %s' % (seed, words.split(' ')[2]), said, words=words)
 section('Lines of ordered databases, of an unordered current one.')
 modelled('no neighbours', 'open\nnext 61\nprev 61\nspan 61\nall 61\nrange * *\nkeys * *\nnext 61 from=1\n', words=CURRENT)
 section('Other words, with current in them.')

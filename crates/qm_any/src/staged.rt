@@ -7,7 +7,7 @@ ghost use Rattle.qm_model.specs.Writes.{read_through};
 ghost use Rattle.qm_step.specs.Views.{reads_view};
 ghost use Rattle.qm_any.specs.Databases.{IsChild, IsMade, IsLeft, IsStaged, is_on, staged_keys};
 ghost use Rattle.qm_any.specs.Making.{IsMaking, IsUnmade, making_of};
-ghost use Rattle.qm_any.specs.Reading.{IsOfKeptItem, ReadsThrough, AtBegun, AtStaged, OnBegun, OnStaged};
+ghost use Rattle.qm_any.specs.Reading.{IsOfKeptItem, ReadsThrough, AtBegun, AtList, AtStaged, OnBegun, OnStaged};
 
 use crate::batch::{MerkleizedBatch, UnmerkleizedBatch, sealed};
 use crate::db::{Db, LaidOut};
@@ -112,6 +112,9 @@ impl<F: Family, D: Digest, U: Update> UnmerkleizedBatch<F, D, U> {
             db.new.log) }
         ensures whole { OnBegun C.Store ⟦<Db<F, C, I, H, U, N> as LaidOut>⟧.layout db.old self
             (λ chain. IfErr result IsOfKeptItem) }
+        ensures kept { AtList C.Store ⟦<Db<F, C, I, H, U, N> as LaidOut>⟧.layout db.old (λ list.
+            db.old.log.tree.start ≤ self.parent.bounds.inactivity_floor
+            → IfErr result IsOfKeptItem) }
         ensures left { IsLeft C.Store ⟦<Db<F, C, I, H, U, N> as LaidOut>⟧.layout.hashing db.old
             db.new }
     {
@@ -222,6 +225,9 @@ impl<F: Family, D: Digest, U: Update> Staged<F, D, U> {
             db.old.log db.new.log) }
         ensures whole { OnStaged C.Store ⟦<Db<F, C, I, H, U, N> as LaidOut>⟧.layout db.old self
             (λ chain. IfErr result IsOfKeptItem) }
+        ensures kept { AtList C.Store ⟦<Db<F, C, I, H, U, N> as LaidOut>⟧.layout db.old (λ list.
+            db.old.log.tree.start ≤ self.batch.parent.bounds.inactivity_floor
+            → IfErr result IsOfKeptItem) }
         ensures left { IsLeft C.Store ⟦<Db<F, C, I, H, U, N> as LaidOut>⟧.layout.hashing db.old
             db.new }
     {

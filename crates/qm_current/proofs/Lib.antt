@@ -1,4 +1,5 @@
 pub mod Applying
+pub mod Checking
 pub mod Children
 pub mod Lasting
 pub mod LastingOffered
@@ -8,4 +9,5 @@ pub mod Offering
 pub mod Pruning
 pub mod ReadingOffered
 pub mod Resting
+pub mod ShowingOffered
 pub mod Unopened

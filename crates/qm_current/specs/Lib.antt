@@ -5,3 +5,4 @@ pub mod Offered
 pub mod Lasting
 pub mod Opening
 pub mod Reading
+pub mod Shown

@@ -7,7 +7,7 @@ ghost use Rattle.qm_any.specs.Applying.{can_apply};
 ghost use Rattle.qm_any.specs.Databases as anys;
 ghost use Rattle.qm_any.specs.Making.{IsMaking, IsUnmade, making_of};
 ghost use Rattle.qm_any.specs.Reading as readings;
-ghost use Rattle.qm_any.specs.Reading.{IsOfKeptItem};
+ghost use Rattle.qm_any.specs.Reading.{AtList, IsOfKeptItem};
 ghost use Rattle.qm_roots.specs.Kept.{IsKept};
 ghost use Rattle.qm_current.specs.Databases.{AreSized, IsDatabase, IsJoined, IsMade};
 ghost use Rattle.qm_current.specs.Making.{IsLeft, OnBegun, can_make};
@@ -60,6 +60,9 @@ impl<F: Graftable, D: Digest, U: Update, N: Chunks> UnmerkleizedBatch<F, D, U, N
             (IsUnmade C.Store (can_make db.old self) db.old.any.log db.new.any.log) }
         ensures whole { readings.OnBegun C.Store ⟦<AnyDb<F, C, I, H, U, N> as LaidOut>⟧.layout
             db.old.any self.any (λ chain. IfErr result IsOfKeptItem) }
+        ensures kept { AtList C.Store ⟦<AnyDb<F, C, I, H, U, N> as LaidOut>⟧.layout db.old.any
+            (λ list. db.old.any.log.tree.start ≤ self.any.parent.bounds.inactivity_floor
+            → IfErr result IsOfKeptItem) }
         ensures left { IsLeft C.Store ⟦<AnyDb<F, C, I, H, U, N> as LaidOut>⟧.layout db.old db.new }
     {
         let UnmerkleizedBatch { any, parent, keep } = self;

@@ -20,6 +20,7 @@ mod making;
 mod ordered;
 mod proofs;
 mod reads;
+mod showing;
 mod staged;
 
 use crate::batch::{MerkleizedBatch, UnmerkleizedBatch};
@@ -64,7 +65,7 @@ impl<
 
     ghost scheme = { scheme_of 32 (sha256_layout mmr offered_chunk U.form I.index_key) offered_name };
 
-    ghost bounds = { mountains-bounds sha256 32 length-sha256 offered_chunk U.form offered_name (Prim.omega arith) };
+    ghost bounds = { let b = mountains-bounds sha256 32 length-sha256 offered_chunk U.form offered_name (Prim.omega arith) in record { low = b.low; chunks = b.chunks; prompt = b.prompt; over = b.over } };
 
     ghost formed = { λ x list is. is.at.any.lent.of };
 

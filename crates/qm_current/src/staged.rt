@@ -8,7 +8,7 @@ ghost use Rattle.qm_any.specs.Databases as anys;
 ghost use Rattle.qm_any.specs.Databases.{staged_keys};
 ghost use Rattle.qm_any.specs.Making.{IsMaking, IsUnmade, making_of};
 ghost use Rattle.qm_any.specs.Reading as readings;
-ghost use Rattle.qm_any.specs.Reading.{IsOfKeptItem, ReadsThrough, AtBegun, AtStaged};
+ghost use Rattle.qm_any.specs.Reading.{AtList, IsOfKeptItem, ReadsThrough, AtBegun, AtStaged};
 ghost use Rattle.qm_current.specs.Databases.{IsMade, begun_of};
 ghost use Rattle.qm_current.specs.Making.{IsLeft, OnStaged, can_make};
 
@@ -159,6 +159,9 @@ impl<F: Graftable, D: Digest, U: Update, N: Chunks> Staged<F, D, U, N> {
             (IsUnmade C.Store (can_make db.old (begun_of self)) db.old.any.log db.new.any.log) }
         ensures whole { readings.OnStaged C.Store ⟦<AnyDb<F, C, I, H, U, N> as LaidOut>⟧.layout
             db.old.any self.any (λ chain. IfErr result IsOfKeptItem) }
+        ensures kept { AtList C.Store ⟦<AnyDb<F, C, I, H, U, N> as LaidOut>⟧.layout db.old.any
+            (λ list. db.old.any.log.tree.start ≤ self.any.batch.parent.bounds.inactivity_floor
+            → IfErr result IsOfKeptItem) }
         ensures left { IsLeft C.Store ⟦<AnyDb<F, C, I, H, U, N> as LaidOut>⟧.layout db.old db.new }
     {
         let Staged { any, parent, keep } = self;

@@ -9,6 +9,7 @@ pub mod Moves
 pub mod StagedCommands
 pub mod OrderedCommands
 pub mod ProofCommands
+pub mod ShowingCommands
 pub mod LastingCommands
 pub mod OpeningCommands
 pub mod Owned

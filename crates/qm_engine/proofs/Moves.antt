@@ -1,6 +1,6 @@
 -- What a command that moves a batch of the table, or reads through one, tells at each of its ways out.
 use Rattle.std.proofs.Common.{◌≡◌, ◌≢◌, ◌++◌, ℕ, true, false, List, get_or, set, Option, Some, None, option_map, Result, Err, refl, sym, ◌∙◌, ap, subst}
-use Rattle.std.specs.Prelude.{IsErrOf, IfSome, is_some, ⊤}
+use Rattle.std.specs.Prelude.{IsErrOf, is_some, ⊤}
 use Rattle.qm_model.specs.Live.{live_keys}
 use Rattle.qm_model.specs.Operations.{Bytes, Operation}
 use Rattle.qm_model.specs.Writes.{Write}
@@ -8,8 +8,8 @@ use Rattle.qm_model.specs.Batches.{Chain, IsKnown}
 use Rattle.qm_model.specs.StoreModel.{Turns}
 use Rattle.qm_model.specs.Schemes.{Grafts, chunks_of}
 use Rattle.qm_model.specs.Refused as refusals
-use Rattle.qm_machine.specs.Lines.{Answer, Question}
-use Rattle.qm_machine.specs.Machine.{State, with_database, refuse, if_any, if_current, if_checked, asked, answered, if_ordered, neighbour_of, slot_at}
+use Rattle.qm_machine.specs.Lines.{Answer}
+use Rattle.qm_machine.specs.Machine.{State, with_database, refuse, if_any, if_ordered, neighbour_of, slot_at}
 use Rattle.qm_machine.specs.Machine as machine
 use Rattle.qm_machine.specs.Sound.{IsSteady}
 use Rattle.qm_base.specs.declared.error.JournalError.TheVariants as journal
@@ -174,14 +174,6 @@ module _ {X C B S M K V D : Type 0} (members : stores.Ghosts C) (means : meaning
       by : (s : State) → Stands members means old s → (grafts : Option Grafts) → is_some grafts ≡ true → Goes old.table.items old.held (Reply (replies.Refused refused.NotOffered)) (if_any s grafts (f s))
       by s k None is = absurd (cc)
       by s k (Some g) is = λ apart. (refl, k)
-
-  -- and of one that only a current database offers, if none does
-  pub not_current : IfSome means.scheme.grafts (λ g. g.checks ≡ None) → (question : Question) → Says (λ s. machine.current means.scheme s question) (Reply (replies.Refused refused.NotOffered))
-  not_current unchecked question = record { machine = λ s k. by s k means.scheme.grafts unchecked; never = λ e. absurd (cc e) }
-    where
-      by : (s : State) → Stands members means old s → (grafts : Option Grafts) → IfSome grafts (λ g. g.checks ≡ None) → Goes old.table.items old.held (Reply (replies.Refused refused.NotOffered)) (if_current s grafts (λ g. answered s g question))
-      by s k None none = λ apart. (refl, k)
-      by s k (Some g) none = subst (λ checks. Goes old.table.items old.held (Reply (replies.Refused refused.NotOffered)) (if_checked s checks (λ checks. asked s g checks question))) (sym none) (λ apart. (refl, k))
 
   pub none_told : (f : State → List Operation → Answer × State) → {c : C} → old.held ≡ Store c → {turn : Turn K V D} → turn ≡ Reply (replies.Refused refused.NoDatabase) → Says (λ s. with_database s s.database (f s)) turn
   none_told f is e = let stays = none_begun f is e in record { machine = stays.machine; never = stays.never }

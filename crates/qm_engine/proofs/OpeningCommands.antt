@@ -1,5 +1,5 @@
 -- The command that opens what a store keeps.
-use Rattle.std.proofs.Common.{◌≡◌, ℕ, zero, suc, ◌+◌, ◌≤◌, List, [], ◌∷◌, length, get_or, take, drop, map, Option, Some, None, IfSome, arith, refl, sym, ◌∙◌, ap, subst, le_refl, le_trans, length-take-le}
+use Rattle.std.proofs.Common.{◌≡◌, ℕ, zero, suc, ◌+◌, ◌≤◌, List, [], ◌∷◌, length, get_or, take, drop, map, Option, Some, None, IfSome, arith, refl, sym, ◌∙◌, ap, subst, le_refl, length-take-le}
 use Rattle.std.specs.Prelude.{IsSome, is_some}
 use Rattle.std.specs.List.{AllByRecursion as Each}
 use Rattle.std.specs.List.{drop-map}

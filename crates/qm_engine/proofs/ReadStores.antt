@@ -149,6 +149,16 @@ module _ {X C B S M K V D : Type 0} (members : stores.Ghosts C) (means : meaning
       by s k list machine.gone is = λ apart. (refl, k)
       by s k list b is = absurd is
 
+  -- a turn that read the database
+  module _ {x after : X} (is : old.held ≡ Database x) (turn : Turn K V D) (reads : TurnReads members means x after turn) where
+    pub read_left : (next : State → Answer × State) → ((s : State) → Stands members means old s → Does (Database after) turn (next s)) → Told next (Database after) turn
+    read_left next does = record {
+      machine = does;
+      store = unchanged-at members means.inside is reads.store;
+      uses = uses-at members means.inside is (record { start = reads.store.start; beside = ap except_items reads.store.told; later = reads.faults.later; fault = reads.faults.failed });
+      opened = refl;
+    }
+
   module _ {x after : X} (is : old.held ≡ Database x) (turn : Turn K V D) (reads : TurnReads members means x after turn) (answer : List Operation → Answer) where
     -- the turn answers from the list
     answers : ((list : List Operation) → means.stands x list → IfReply turn (λ r. answer_view key value digest r ≡ answer list))
@@ -164,19 +174,11 @@ module _ {X C B S M K V D : Type 0} (members : stores.Ghosts C) (means : meaning
         with_apart Memory s a same = tt
         with_apart StoreFault s a same = tt
 
-    read_left : (next : State → Answer × State) → ((s : State) → Stands members means old s → Does (Database after) turn (next s)) → Told next (Database after) turn
-    read_left next does = record {
-      machine = does;
-      store = unchanged-at members means.inside is reads.store;
-      uses = uses-at members means.inside is (record { start = reads.store.start; beside = ap except_items reads.store.told; later = reads.faults.later; fault = reads.faults.failed });
-      opened = refl;
-    }
-
     -- as the turn does that a database gave
     pub asked : (ordered : means.scheme.form.ordered ≡ true)
         → IfReply turn (λ r. means.scheme.form.ordered ≡ true → (list : List Operation) → means.stands x list → answer_view key value digest r ≡ answer list)
         → Told (λ s. if_ordered means.scheme s (with_database s s.database (λ list. (answer list, s)))) (Database after) turn
-    asked ordered told = read_left (λ s. if_ordered means.scheme s (with_database s s.database (λ list. (answer list, s))))
+    asked ordered told = read_left is turn reads (λ s. if_ordered means.scheme s (with_database s s.database (λ list. (answer list, s))))
         (λ s k. choice true ordered (λ s. with_database s s.database (λ list. (answer list, s))) (Database after) turn s (answers (by turn told) s k))
       where
         by : (turn : Turn K V D) → IfReply turn (λ r. means.scheme.form.ordered ≡ true → (list : List Operation) → means.stands x list → answer_view key value digest r ≡ answer list)
@@ -190,7 +192,7 @@ module _ {X C B S M K V D : Type 0} (members : stores.Ghosts C) (means : meaning
       → ((list : List Operation) → means.stands x list → refusal_of error ≡ None) → Told (λ s. with_database s s.database (λ list. (answer list, s))) (Database after) turn
   read_err is reads answer {turn} error why e none =
       let turned = turn_reads members means reads turn (λ fault. why (fault-told error (sym e ∙ fault))) in
-      read_left is turn turned answer (λ s. with_database s s.database (λ list. (answer list, s)))
+      read_left is turn turned (λ s. with_database s s.database (λ list. (answer list, s)))
       (answers is turn turned answer (λ list stands. subst (λ t. IfReply t (λ r. answer_view key value digest r ≡ answer list)) (sym e) (no_refusal error (λ r. answer_view key value digest r ≡ answer list) (none list stands))))
 
 -- What a call of a database comes to as a turn, if it answers so.

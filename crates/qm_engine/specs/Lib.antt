@@ -1,6 +1,7 @@
 pub mod Table
 pub mod Turn
 pub mod Stores
+pub mod Shown
 pub mod Ordered
 pub mod Session
 pub mod Making

@@ -1,26 +1,39 @@
 //! What answers the commands of a run, a group of them by each call.
 
-ghost use Rattle.std.specs.Prelude.{◌≡◌, ◌≤◌, ◌+◌, ◌^◌, ◌<◌, None, IfSome};
+ghost use Rattle.std.specs.Prelude.{◌≡◌, ◌≤◌, ◌+◌, ◌^◌, ◌<◌, IfSome};
 ghost use Rattle.qm_model.specs.StoreModel.{end_of};
 ghost use Rattle.qm_machine.specs.Machine as machine;
-ghost use Rattle.qm_lines.specs.Views.{batch_view, making_view, staged_view, read_view, info_view, store_view};
-ghost use Rattle.qm_store.specs.Given.{store_given};
-ghost use Rattle.qm_engine.specs.Session.{Performs};
+ghost use Rattle.qm_lines.specs.Views.{batch_view, making_view, staged_view, read_view, info_view, question_view, store_view};
+ghost use Rattle.qm_store.specs.Given.{store_given, IsUnchanged};
+ghost use Rattle.qm_engine.specs.Session.{Obeys, Performs, Uses};
 
 use crate::session::{SessionOf, Turn};
 use qm_base::Twin;
 use qm_chain::Policy;
 use qm_lines::{
-    BatchCommand, InfoCommand, MakingCommand, ReadCommand, StagedCommand, StoreCommand,
+    BatchCommand, InfoCommand, MakingCommand, Question, ReadCommand, StagedCommand, StoreCommand,
 };
 use qm_offer::Common;
 use qm_store::{Given, Store};
 use std::alloc::Global;
 
-/// A database that offers no proofs of keys and ranges.
-pub trait Unshown<C: Store>: Common<C> {
-    /// It has no checks of such proofs.
-    ghost unchecked: { IfSome Self.scheme.grafts (λ g. g.checks ≡ None) };
+/// What answers the questions that only current databases are asked: one that offers the proofs by `shown_turn`, and one that has
+/// no chunks of bits under its root by `unshown_turn`.
+pub trait Asking<C: Store>: Common<C> {
+    /// A question about what stands under the root.
+    fn asked_turn(
+        alloc: Global,
+        session: &mut SessionOf<Self, C>,
+        question: &Question<Self::Key>,
+    ) -> Turn<Self::Key, Self::Value, Self::Digest>
+        ensures machine { Obeys C.Store Self.Meaning Self.Key.bytes Self.Value.bytes
+            Self.Digest.bytes session.old session.new result (λ s.
+            machine.current Self.scheme s (question_view Self.Key.bytes question.now)) }
+        ensures store { IsUnchanged C.Store (store_given Self.inside session.old.held)
+            (store_given Self.inside session.new.held) }
+        ensures uses { Uses C.Store (store_given Self.inside session.old.held)
+            (store_given Self.inside session.new.held) result }
+        ensures opened { session.new.opened ≡ session.old.opened };
 }
 
 /// What answers the commands of a run over its database. Whatever offers the calls of a group answers that group's commands, by

@@ -8,8 +8,11 @@ pub mod session;
 mod table;
 pub mod turns;
 
-pub use answering::{Answering, Unshown};
+pub use answering::{Answering, Asking};
 pub use answers::{Answered, Ending, answer_lines};
 pub use runs::{End, Outcome, run};
 pub use session::{SessionOf, Turn};
-pub use turns::{batch_turn, info_turn, making_turn, read_turn, staged_turn, store_turn};
+pub use turns::{
+    batch_turn, info_turn, making_turn, read_turn, shown_turn, staged_turn, store_turn,
+    unshown_turn,
+};

@@ -10,9 +10,10 @@ mod lasting;
 mod ordered;
 mod proofs;
 mod reads;
+mod showing;
 mod staged;
 
-use crate::answering::{Answering, Unshown};
+use crate::answering::{Answering, Asking};
 use crate::session::{Session, SessionOf, Turn};
 use crate::table::Slot;
 use batches::{apply, batch, child, merkleize, put, tip};
@@ -26,7 +27,8 @@ use qm_lines::{
 };
 use qm_offer::{Batching, Durable, Making, Neighbours, Proving, Reading, Staging};
 use qm_store::{Given, Store};
-use reads::{batch_info, batch_root, current, info, meta, ops, read, read_key, root};
+use reads::{batch_info, batch_root, info, meta, ops, read, read_key, root};
+pub use showing::{shown_turn, unshown_turn};
 use staged::{expand, resolve, stage};
 use std::alloc::Global;
 
@@ -181,7 +183,7 @@ pub fn read_turn<
 
 /// A command that tells and proves, of whatever offers these calls.
 pub fn info_turn<
-    X: Reading<C> + Proving<C> + Unshown<C>,
+    X: Reading<C> + Proving<C> + Asking<C>,
     C: Store,
     P: Policy<X::Family, X::Key, X::Value> + Twin,
 >(
@@ -204,7 +206,7 @@ pub fn info_turn<
         InfoCommand::Meta => meta::<X, C>(alloc, session),
         InfoCommand::Prove(size, start, max) => prove::<X, C>(alloc, session, *size, *start, *max),
         InfoCommand::Pins(at) => pins::<X, C>(alloc, session, *at),
-        InfoCommand::Current(_) => current::<X, C>(session),
+        InfoCommand::Current(question) => X::asked_turn(alloc, session, question),
     }
 }
 

@@ -137,4 +137,8 @@ module _ {K V : Type 0} (key : K → Bytes) (value : V → Bytes) where
   answer_view digest (replies.BatchProof leaves inactive digests pins) =
       lines.BatchProved (record { leaves = leaves; inactive = inactive; digests = map digest digests.items }) (map digest pins.items)
   answer_view digest (replies.Pins digests) = lines.Pinned (map digest digests.items)
+  answer_view digest (replies.Held i is_accepted) = lines.HeldAt i is_accepted
+  answer_view digest (replies.Absent i is_accepted) = lines.AbsentAt i is_accepted
+  answer_view digest (replies.Chunks ops chunks is_accepted) = lines.Chunked ops chunks is_accepted
+  answer_view digest (replies.Witness is_accepted) = lines.Witnessed is_accepted
   answer_view digest (replies.Refused r) = lines.Refuses (refused_view r)

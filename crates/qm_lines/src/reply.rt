@@ -79,5 +79,13 @@ pub enum Reply<K, V, D> {
     BatchProof(u64, u64, Vec<D>, Vec<D>),
     /// The digests of peaks.
     Pins(Vec<D>),
+    /// Where the live update of a key stands, and whether its proof was accepted.
+    Held(u64, bool),
+    /// Where what shows that a key is absent stands, and whether its proof was accepted.
+    Absent(u64, bool),
+    /// How many operations and how many chunks were proved, and whether the proof was accepted.
+    Chunks(u64, u64, bool),
+    /// Whether the proof of the operations root was accepted.
+    Witness(bool),
     Refused(Refused),
 }

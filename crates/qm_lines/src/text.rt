@@ -218,6 +218,21 @@ fn write_info(out: &mut String, numbers: &[u64; 4], is_live: bool) -> Result<(),
     out.push_str(if is_live { " live" } else { " empty" })
 }
 
+// A name, numbers, each after a space, and the verdict on a proof.
+fn write_verdict(
+    out: &mut String,
+    name: &str,
+    numbers: &[u64],
+    is_accepted: bool,
+) -> Result<(), AllocError>
+    ensures { Adds out.old out.new result (name.now
+        ++ (flat_map (λ n. codes " " ++ decimal n) numbers.now
+        ++ (codes " " ++ texts.verdict_text is_accepted))) }
+{
+    write_numbers(out, name, numbers)?;
+    out.push_str(if is_accepted { " yes" } else { " no" })
+}
+
 fn write_roots<D: Digest>(out: &mut String, root: &D, operations: &D) -> Result<(), AllocError>
     ensures { Adds out.old out.new result (codes "root "
         ++ (encode_lower (D.bytes root.now)
@@ -436,6 +451,16 @@ fn write_line<K: ByteString, V: ByteString, D: Digest>(
             write_batch_proof(out, *leaves, *inactive, digests, pins)
         }
         Reply::Pins(digests) => write_pins(out, digests),
+        Reply::Held(location, is_accepted) => {
+            write_verdict(out, "held", &[*location], *is_accepted)
+        }
+        Reply::Absent(location, is_accepted) => {
+            write_verdict(out, "absent", &[*location], *is_accepted)
+        }
+        Reply::Chunks(operations, chunks, is_accepted) => {
+            write_verdict(out, "chunks", &[*operations, *chunks], *is_accepted)
+        }
+        Reply::Witness(is_accepted) => write_verdict(out, "witness", &[], *is_accepted),
         Reply::Refused(refused) => write_refused(out, *refused),
     }
 }

@@ -1,9 +1,11 @@
 -- The machines of the program's databases.
-use Rattle.std.specs.Prelude.{Bool, ◌^◌, ◌*◌, ◌&&◌, nat_lt, length, None, codes}
+use Rattle.std.specs.Prelude.{ℕ, Bool, ◌^◌, ◌*◌, ◌&&◌, if◌then◌else◌, nat_lt, length, Some, None, codes}
 use Rattle.sha2.specs.Sha256.{sha256}
+use Rattle.qm_model.specs.Checks.{Checks, held_check, absent_check, range_check, witness_check}
 use Rattle.qm_model.specs.Operations.{Bytes, are_bytes}
 use Rattle.qm_model.specs.Forms.{Form}
 use Rattle.qm_model.specs.Live.{floor}
+use Rattle.qm_model.specs.Opening.{Chunks}
 use Rattle.qm_model.specs.Mmb.{log}
 use Rattle.qm_model.specs.Trees.{Shape}
 use Rattle.qm_model.specs.Roots.{sha256_root, sha256_proof, sha256_pins}
@@ -32,6 +34,17 @@ scheme shape form = record {
   grafts = None;
 }
 
+-- the checks of current databases of this form, over chunks of 2 ^ g locations; ordered ones alone prove absences
+abbrev pub checks : Shape → ℕ → Form → Checks
+checks shape g form = record {
+  held = held_check sha256 shape g form;
+  absent = if form.ordered then Some (absent_check sha256 shape g form) else None;
+  range = range_check sha256 shape g form;
+  witness = witness_check sha256 shape g form;
+}
+
 -- the machine of current databases of this form, over trees of this shape: chunks have 32 bytes, with a bit for each location
 abbrev pub current : Shape → Form → Scheme
-current shape form = current_scheme sha256 shape 32 form (record { height = log (8 * 32); name = codes "grafted" })
+current shape form =
+    let chunks : Chunks = record { height = log (8 * 32); name = codes "grafted" } in
+    record (current_scheme sha256 shape 32 form chunks) { grafts = Some (record { chunks = chunks; checks = Some (checks shape chunks.height form) }) }

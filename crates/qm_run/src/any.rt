@@ -16,6 +16,7 @@ mod making;
 mod ordered;
 mod proofs;
 mod reads;
+mod showing;
 mod staged;
 mod turns;
 

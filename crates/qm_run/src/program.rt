@@ -19,6 +19,7 @@ use crate::kind::{Kind, Link, Named, OrderedPlaces, Pair, Places};
 use crate::{any, current};
 use qm_any::Config;
 use qm_base::{ByteKey, ByteValue, Gate, Location};
+use qm_current::Absences;
 use qm_engine::{Answered, Answering, Ending, answer_lines};
 use qm_index::{Factory, FourCap};
 use qm_lines::{InputError, LIMIT, Sink, SinkError, Source, read_all, write_all};
@@ -223,7 +224,7 @@ fn serve_any<
 fn serve_current<
     C: Store + Drop,
     I: Factory<Value = Location<mmr::Family>, Translator = FourCap> + Drop,
-    U: Kind<I, Key = ByteKey, Value = ByteValue>,
+    U: Kind<I, Key = ByteKey, Value = ByteValue> + Absences<mmr::Family, I>,
     K: Sink,
     G: Gate,
 >(alloc: Global, input: &[u8], store: C, sink: &mut K, gate: &G) -> (u8, C)

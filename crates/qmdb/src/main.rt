@@ -49,8 +49,10 @@ line, reply, and an example: a line and what it was answered
   meta                                 meta value                             meta => meta aa
   prove size start max                 proof leaves inactive d .. / op ..     prove 4 3 1 => proof 4 0 8ec48d34.. 040ae6f3.. / C:aa@0
   pins n                               pins d ..                              pins 0 => pins
-  held key, absent key, chunks start max, witness
-                                       (of databases to come)                 held 61 => refused NotOffered
+  held key                             held location verdict                  held 61 => held 1 yes
+  absent key                           absent location verdict                absent 62 => absent 1 yes
+  chunks start max                     chunks count chunks verdict            chunks 0 9 => chunks 4 1 yes
+  witness                              witness verdict                        witness => witness yes
   prune n                              ok                                     prune 0 => ok
   commit, sync                         ok                                     commit => ok
   crash n                              ok                                     crash 0 => ok
@@ -59,7 +61,9 @@ line, reply, and an example: a line and what it was answered
 h is the number of a batch; sizes, locations and n are decimal numbers; key is 2 to 64 hexadecimal digits, value 2 to 128 of them or -
 for the empty one, meta none or a value. lo is *, [key or (key, hi is *, key] or key). A slot is keep, del or put:value, a write key=value
 or key=none. policy is prop, hold, bounded:entries:skips, or rule:entries:skips with any of :drop=value, :stop=value, :swap=value>value.
-next, prev, span, all, range and keys are lines of ordered databases, proof h of any ones. A refused command is answered with refused and why.
+next, prev, span, all, range and keys are lines of ordered databases, proof h of any ones, held, chunks and witness of current ones, absent of
+those that are ordered too: each makes a proof and checks it against the root, and a verdict is yes or no.
+A refused command is answered with refused and why.
 Statuses: 0 all answered, 1 other words, 2 a bad line, 3 and 4 the input or the output failed, 5 no memory, 6 the store failed, 7 too long.";
 
 const VERSION: &str = "qmdb 0.1.0";

@@ -1,17 +1,15 @@
 // Commands that read, list and tell.
 ghost use Rattle.std.specs.Prelude.{◌≡◌, ◌≢◌, ◌∷◌, [], List, ℕ, Some, None, map, Contains, IfOk};
 ghost use Rattle.qm_model.specs.Operations.{Operation};
-ghost use Rattle.qm_machine.specs.Lines.{Question};
 ghost use Rattle.qm_machine.specs.Machine.{State};
 ghost use Rattle.qm_machine.specs.Machine as machine;
 ghost use Rattle.qm_store.specs.Given.{store_given, IsUnchanged};
 ghost use Rattle.qm_engine.specs.Session.{SlotIs, Answers, Obeys, Tells, Uses};
 
-use crate::answering::Unshown;
 use crate::session::{SessionOf, Turn, no_database, no_such_handle, turn_of};
 use crate::table::{Slot, merkleized_at, slot_at};
 use qm_base::ByteString;
-use qm_lines::{Refused, Reply};
+use qm_lines::Reply;
 use qm_offer::{BatchSizes, Common, Numbers, Reading, Roots};
 use qm_store::{Given, Store};
 use std::alloc::{AllocError, Global};
@@ -126,18 +124,6 @@ pub fn ops<X: Reading<C>, C: Store>(
         Err(_) => Turn::Memory,
         Ok((base, operations)) => Turn::Reply(Reply::Ops(base, operations)),
     }
-}
-
-/// What only a current database is asked, for proofs of keys and ranges, which this one does not offer.
-pub fn current<X: Unshown<C>, C: Store>(
-    session: &SessionOf<X, C>,
-) -> Turn<X::Key, X::Value, X::Digest>
-    ensures machine { (question : Question)
-        → Tells C.Store X.Meaning X.Key.bytes X.Value.bytes X.Digest.bytes session.now result
-        (λ s. machine.current X.scheme s question) }
-    ensures never { result ≢ Turn.StoreFault }
-{
-    Turn::Reply(Reply::Refused(Refused::NotOffered))
 }
 
 /// The numbers of the database.

@@ -42,12 +42,14 @@ pub trait Showing<C: Store>: Common<C> {
         ensures never { IfErr result (λ e. e ≢ Error.StaleBatch) };
 
     /// In an ordered database proves that a key has no value: where the operation stands that shows it, and whether the proof is
-    /// accepted.
-    fn absent(&mut self, alloc: Global, key: &Self::Key) -> Result<(u64, bool), Error>
+    /// accepted. An unordered one proves nothing.
+    fn absent(&mut self, alloc: Global, key: &Self::Key) -> Result<Option<(u64, bool)>, Error>
         ensures shown { IfOk result (λ r. (list : List Operation) → Self.stands self.old list
+            → AtChecks Self.scheme (λ chunks checks.
+            r ≡ option_map (λ check. check list (Self.Key.bytes key.now)) checks.absent)) }
+        ensures absent { IfOk result (λ r. (list : List Operation) → Self.stands self.old list
             → AtChecks Self.scheme (λ chunks checks. IfSome checks.absent (λ check.
-            (live_of (live list) (Self.Key.bytes key.now) ≡ None)
-            × (r ≡ check list (Self.Key.bytes key.now))))) }
+            live_of (live list) (Self.Key.bytes key.now) ≡ None))) }
         ensures refused { IfErr result (λ e. (list : List Operation) → Self.stands self.old list
             → AtChecks Self.scheme (λ chunks checks. IfSome checks.absent (λ check.
             IsDue e (existing_refusal (live_of (live list) (Self.Key.bytes key.now)))))) }

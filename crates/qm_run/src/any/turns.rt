@@ -11,8 +11,8 @@ use qm_any::Config;
 use qm_base::{ByteKey, ByteString, ByteValue, Digest, Location, Sha256Digest, Twin};
 use qm_chain::Policy;
 use qm_engine::{
-    Answering, SessionOf, Turn, Unshown, batch_turn, info_turn, making_turn, read_turn,
-    staged_turn, store_turn,
+    Answering, SessionOf, Turn, batch_turn, info_turn, making_turn, read_turn, staged_turn,
+    store_turn,
 };
 use qm_index::{Factory, FourCap};
 use qm_lines::{
@@ -22,14 +22,6 @@ use qm_merkle::mmr;
 use qm_offer::{Durable, Meaning};
 use qm_store::Store;
 use std::alloc::Global;
-
-impl<
-    C: Store + Drop,
-    I: Factory<Value = Location<mmr::Family>, Translator = FourCap> + Drop,
-    U: Kind<I, Key = ByteKey, Value = ByteValue>,
-> Unshown<C> for Database<C, I, U> {
-    ghost unchecked = { tt };
-}
 
 impl<
     C: Store + Drop,

@@ -10,9 +10,10 @@ use crate::kind::Kind;
 use qm_any::Config;
 use qm_base::{ByteKey, ByteString, ByteValue, Digest, Location, Sha256Digest, Twin};
 use qm_chain::Policy;
+use qm_current::Absences;
 use qm_engine::{
-    Answering, SessionOf, Turn, Unshown, batch_turn, info_turn, making_turn, read_turn,
-    staged_turn, store_turn,
+    Answering, SessionOf, Turn, batch_turn, info_turn, making_turn, read_turn, staged_turn,
+    store_turn,
 };
 use qm_index::{Factory, FourCap};
 use qm_lines::{
@@ -26,15 +27,7 @@ use std::alloc::Global;
 impl<
     C: Store + Drop,
     I: Factory<Value = Location<mmr::Family>, Translator = FourCap> + Drop,
-    U: Kind<I, Key = ByteKey, Value = ByteValue>,
-> Unshown<C> for Database<C, I, U> {
-    ghost unchecked = { refl };
-}
-
-impl<
-    C: Store + Drop,
-    I: Factory<Value = Location<mmr::Family>, Translator = FourCap> + Drop,
-    U: Kind<I, Key = ByteKey, Value = ByteValue>,
+    U: Kind<I, Key = ByteKey, Value = ByteValue> + Absences<mmr::Family, I>,
 > Answering<C> for Database<C, I, U> {
     type Opening = Config<FourCap, ()>;
 

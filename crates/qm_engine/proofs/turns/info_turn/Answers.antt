@@ -1,5 +1,4 @@
 use Rattle.std.proofs.Common.{refl}
-use Rattle.qm_lines.specs.Views.{question_view}
 use Rattle.qm_engine.proofs.Handling.{performs-reading, performs-telling}
 use Rattle.qm_engine.proofs.turns.info_turn.Goals as goal
 
@@ -31,4 +30,4 @@ pub returns-in-Pins : goal.returns-in-Pins
 returns-in-Pins g c = rw c.in-Pins.is (performs-telling (λ rest. refl) c.pins.ensures.machine c.pins.ensures.never)
 
 pub returns-in-Current : goal.returns-in-Current
-returns-in-Current g c = rw c.in-Current.is (performs-telling (λ rest. refl) (c.current.ensures.machine (question_view g.X.Key.ByteString.bytes _)) c.current.ensures.never)
+returns-in-Current g c = rw c.in-Current.is (performs-reading (λ rest. refl) (λ s k sound more rest told choices. c.asked_turn.ensures.machine s k) c.asked_turn.ensures.store c.asked_turn.ensures.uses c.asked_turn.ensures.opened)

@@ -21,5 +21,6 @@ returns g c =
       child = c.merkleize.ensures.child;
       unmade = c.merkleize.ensures.unmade;
       whole = λ list chain above is begun on. c.merkleize.ensures.whole list chain above is (record { begun = begun; reads = staged-none g.U.Update.view key chain.base _ c.new.ensures.items }) on;
+      kept = c.merkleize.ensures.kept;
       left = c.merkleize.ensures.left;
     }

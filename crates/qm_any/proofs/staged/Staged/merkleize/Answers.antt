@@ -45,6 +45,7 @@ returns-in_err-child g c =
       child = IfOk-from_err c.from_residual.result _ c.from_residual.ensures.0;
       unmade = rw (exit.1, exit.2) unmade;
       whole = λ list chain above is staged on. rw (exit.1, exit.2) (unplaced-kept (is_on c.args.db.now.commitment c.args.self.batch) e refusal);
+      kept = λ list is low. rw (exit.1, exit.2) (unplaced-kept (is_on c.args.db.now.commitment c.args.self.batch) e refusal);
       left = left-none g.C.Store (hashing_with g.D.Digest.bytes g.H.Hasher.hash g.F.Family.shape g.U.Update.form) c.args.db.now;
     }
 
@@ -70,6 +71,9 @@ returns-in_err-plan g c =
           let same = ap (λ b. b.floor) c.base.ensures.value ∙ ap (λ m. m.bounds.inactivity_floor) (c.parts-keep.ensures.parent ∙ ap (λ b. b.parent) batch) in
           let low = begun-low c.args.self.batch list chain above staged.begun on in
           rw (exit.1, exit.2) (c.in_err-plan.ensures.whole list is (subst (λ n. c.args.db.now.log.tree.start ≤ n) (sym same) (omega (arith, is.low, low))));
+      kept = λ list is low.
+          let same = ap (λ b. b.floor) c.base.ensures.value ∙ ap (λ m. m.bounds.inactivity_floor) (c.parts-keep.ensures.parent ∙ ap (λ b. b.parent) batch) in
+          rw (exit.1, exit.2) (c.in_err-plan.ensures.whole list is (subst (λ n. c.args.db.now.log.tree.start ≤ n) (sym same) low));
       left = c.in_err-plan.ensures.left;
     }
 
@@ -111,6 +115,7 @@ returns-in_err-tree g c =
       child = IfOk-from_err c.from_residual-in_err-tree.result _ c.from_residual-in_err-tree.ensures.0;
       unmade = rw (exit.1, exit.2) unmade;
       whole = λ list chain above is staged on. rw (exit.1, exit.2) (unspelled-kept (map (spelling g.U.Update.form) c.in_ok-plan.plan.operations) size e refusal);
+      kept = λ list is low. rw (exit.1, exit.2) (unspelled-kept (map (spelling g.U.Update.form) c.in_ok-plan.plan.operations) size e refusal);
       left = subst (IsLeft g.C.Store (hashing_with g.D.Digest.bytes g.H.Hasher.hash g.F.Family.shape g.U.Update.form) c.args.db.now) (sym c.grown.ensures.same) c.in_ok-plan.ensures.left;
     }
 
@@ -203,5 +208,6 @@ returns g c =
           child-of c.args.self.batch c.parts-keep.result.0.now c.parts-keep.result.1 _ _ _ _ b.value (c.parts-keep.ensures.parent ∙ ap (λ b. b.parent) batch) (c.parts-keep.ensures.keep ∙ ap (λ b. b.keep) batch) made above);
       unmade = err-then c.sealed.result c.sealed.ensures.memory (λ e memory. unsealed g.C.Store (is_on c.args.db.now.commitment c.args.self.batch) c.args.db.now.log c.grown.new.self.log e here memory);
       whole = λ list chain above is staged on. err-then c.sealed.result c.sealed.ensures.memory (λ e memory n pruned. absurd (cc (memory, pruned)));
+      kept = λ list is low. err-then c.sealed.result c.sealed.ensures.memory (λ e memory n pruned. absurd (cc (memory, pruned)));
       left = subst (IsLeft g.C.Store (hashing_with g.D.Digest.bytes g.H.Hasher.hash g.F.Family.shape g.U.Update.form) c.args.db.now) (sym c.grown.ensures.same) c.in_ok-plan.ensures.left;
     }

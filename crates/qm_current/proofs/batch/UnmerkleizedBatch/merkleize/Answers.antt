@@ -10,6 +10,7 @@ use Rattle.qm_any.specs.Applying.{can_apply}
 use Rattle.qm_any.specs.Databases as anys
 use Rattle.qm_any.specs.Layouts.{hashing_of, layout_of}
 use Rattle.qm_store.specs.Reads.{IsReadError}
+use Rattle.qm_any.specs.Reading.{AtList}
 use Rattle.qm_any.specs.Making.{IsMaking, IsUnmade, list_made, making_of}
 use Rattle.qm_any.specs.Tips.{IsRefused}
 use Rattle.qm_any.proofs.Reading.{left-database}
@@ -93,6 +94,7 @@ returns-in-Ok g c =
       child = ok-then r c.finished.ensures.value (λ b value. two (λ (p : anys.Begun g.row.D.Denot) (m : anys.Made g.row.D.Denot). anys.IsChild p.parent p.keep m) self_any (sym value.0) c.in-Ok.ensures.child);
       unmade = err-then r c.finished.ensures.memory (λ e memory. unsealed members (can_make c.args.db.now c.args.self) c.args.db.now.any.log c.finished.new.db.log e can memory);
       whole = λ list chain above stands begun on. err-then r c.finished.ensures.memory (λ e memory n pruned. absurd (cc (memory, pruned)));
+      kept = λ list stands low. err-then r c.finished.ensures.memory (λ e memory n pruned. absurd (cc (memory, pruned)));
       left = record { any = left; rest = ap (λ (d : Database g.row.C.Denot g.row.D.Denot). record d { any = c.finished.new.db }) c.db.view_is };
     }
 
@@ -127,6 +129,8 @@ returns g c =
           (two (λ (b : anys.Begun g.row.D.Denot) (d : anys.Database g.row.C.Denot g.row.D.Denot). IsUnmade members (anys.is_on d.commitment b) d.log new.log e) self_any db_any c.in-Err.ensures.unmade);
       whole = two (λ (b : anys.Begun g.row.D.Denot) (d : anys.Database g.row.C.Denot g.row.D.Denot). (list : List Operation) (chain above : Chain) → anys.IsDatabase members layout d list → anys.IsBegun hashing b chain above → IsOnChain list chain → IsOfKeptItem e)
           self_any db_any c.in-Err.ensures.whole;
+      kept = two (λ (b : anys.Begun g.row.D.Denot) (d : anys.Database g.row.C.Denot g.row.D.Denot). AtList members layout d (λ list. d.log.tree.start ≤ b.parent.bounds.inactivity_floor → IsOfKeptItem e))
+          self_any db_any c.in-Err.ensures.kept;
       left = record {
         any = subst (λ d. anys.IsLeft members hashing d new) db_any c.in-Err.ensures.left;
         rest = ap (λ (d : Database g.row.C.Denot g.row.D.Denot). record d { any = new }) c.db.view_is;
