@@ -5,9 +5,11 @@
 
 Each file docs/wrong_bodies/CRATE/NAME.edit is written as a must-fail edit is. It is applied to a copy of the sources, the
 copy's `qmdb_rows` is built without a proof (`rt try --cases`) and run over its rows, some at a time, and the first row that
-does not come out as in its stdout is told. Where none does, the copy's `qm_tests` is run (`rt try --test`), and the first
-test that fails is told. The sources as they stand go first, and change no row. Rows of inputs of many megabytes are left out,
-since such a build is slow. The status is 1 where some body changes no row and fails no test. A body takes some minutes."""
+does not come out as in its stdout is told. Where `qm_proof_rows` stands on the crate, its rows are tried before, since they
+take less. Where no row changes, the copy's `qm_tests` is run (`rt try --test`), and the first test that fails is told. The
+sources as they stand go first, and change no row. Rows of inputs of many megabytes are left out, since such a build is slow.
+The status is 1 where some body changes no row and fails no test. A body takes some minutes."""
+import contextlib
 import os
 import re
 import shutil
@@ -17,8 +19,8 @@ import tempfile
 
 TOP = os.path.dirname(os.path.dirname(os.path.abspath(__file__)))
 BODIES = f"{TOP}/docs/wrong_bodies"
-# How many rows one run of the program takes: it has a minute.
-AT_ONCE = 40
+# How many rows one run of a program takes: it has a minute.
+AT_ONCE = {"qmdb_rows": 40, "qm_proof_rows": 400}
 
 
 def read(path):
@@ -31,8 +33,9 @@ def write(path, text):
         it.write(text)
 
 
-def edited(edit, crate):
-    """Applies an edit to a crate, and gives its file with what that had."""
+@contextlib.contextmanager
+def wrong(edit, crate):
+    """Applies an edit to a crate while what is inside runs."""
     lines = [line.split(": ", 1) for line in read(edit).splitlines() if ": " in line]
     file = f"{crate}/{lines[0][1]}"
     was = text = read(file)
@@ -41,7 +44,8 @@ def edited(edit, crate):
             sys.exit(f"{edit}: stands {text.count(old)} times: {old}")
         text = text.replace(old, new)
     write(file, text)
-    return file, was
+    yield
+    write(file, was)
 
 
 def rows_of(folder):
@@ -59,15 +63,36 @@ def rows_of(folder):
     return [row for row in rows if not re.search(r"(?m)^fill ", row[1])]
 
 
+def proof_rows_of(folder):
+    """The rows of the program that checks proofs: one in a line."""
+    given = [line for line in read(f"{folder}/stdin").splitlines(True) if line.strip() and not line.startswith("#")]
+    told = read(f"{folder}/stdout").splitlines(True)
+    return [(line.partition(": ")[0], line, out) for line, out in zip(given, told, strict=True)]
+
+
+def below(crate):
+    """A crate and all that it stands on."""
+    lines = (line.partition("#")[0].partition(":") for line in read(f"{TOP}/crates.txt").splitlines())
+    stands = {name.split()[0]: deps.split() for name, _, deps in lines if name.split()}
+    found, ahead = set(), [crate]
+    while ahead:
+        name = ahead.pop()
+        if name in stands and name not in found:
+            found.add(name)
+            ahead.extend(stands[name])
+    return found
+
+
 def changed(program, rows):
     """The first row that does not come out as it should, or None."""
+    count = AT_ONCE[os.path.basename(program)]
     with tempfile.TemporaryDirectory() as folder:
-        for at in range(0, len(rows), AT_ONCE):
-            write(f"{folder}/{at:04}", "".join(row[1] for row in rows[at : at + AT_ONCE]))
+        for at in range(0, len(rows), count):
+            write(f"{folder}/{at:04}", "".join(row[1] for row in rows[at : at + count]))
         ran = subprocess.run(["rt", "try", "--cases", folder], cwd=program, stdin=subprocess.DEVNULL, capture_output=True, text=True, errors="replace")
-    said = ran.stdout + ran.stderr
+    said = "\n" + ran.stdout + ran.stderr
     for name, _, out in rows:
-        if out not in said:
+        if "\n" + out not in said:
             return name
     return None
 
@@ -84,23 +109,39 @@ def failed(tests):
 
 def main(chosen):
     every = sorted(f"{crate}/{name}" for crate in os.listdir(BODIES) for name in os.listdir(f"{BODIES}/{crate}"))
-    rows = rows_of(f"{TOP}/crates/qmdb_rows")
+    rows = {"qm_proof_rows": proof_rows_of(f"{TOP}/crates/qm_proof_rows"), "qmdb_rows": rows_of(f"{TOP}/crates/qmdb_rows")}
+    stands = {name: below(name) for name in rows}
+    sound = set()
     missed = 0
     with tempfile.TemporaryDirectory() as copy:
         shutil.copytree(f"{TOP}/crates", f"{copy}/crates", ignore=shutil.ignore_patterns("out"))
         for name in ("crates.txt", "HANDLES"):
             shutil.copy(f"{TOP}/{name}", copy)
-        row = changed(f"{copy}/crates/qmdb_rows", rows)
-        if row:
-            sys.exit(f"the sources as they stand change {row}: no body was tried")
+
+        def seen_by(it):
+            """The first row or test that tells a wrong body, or None."""
+            crate = it.partition("/")[0]
+            for name in rows:
+                if crate not in stands[name]:
+                    continue
+                program = f"{copy}/crates/{name}"
+                row = None if name in sound else changed(program, rows[name])
+                if row:
+                    sys.exit(f"the sources as they stand change {row}: no body was tried")
+                sound.add(name)
+                with wrong(f"{BODIES}/{it}", f"{copy}/crates/{crate}"):
+                    row = changed(program, rows[name])
+                if row:
+                    return f"{name}: {row}"
+            with wrong(f"{BODIES}/{it}", f"{copy}/crates/{crate}"):
+                return failed(f"{copy}/crates/qm_tests")
+
         for it in every:
             if chosen and not any(it.startswith(word) for word in chosen):
                 continue
-            file, was = edited(f"{BODIES}/{it}", f"{copy}/crates/{it.partition('/')[0]}")
-            seen = changed(f"{copy}/crates/qmdb_rows", rows) or failed(f"{copy}/crates/qm_tests")
+            seen = seen_by(it)
             print(f"{it}: {seen or 'NO ROW CHANGES AND NO TEST FAILS'}", flush=True)
             missed += not seen
-            write(file, was)
     return 1 if missed else 0
 
 
