@@ -1,0 +1,5 @@
+pub mod Draws
+pub mod Commands
+pub mod Summary
+pub mod Words
+pub mod Rows
