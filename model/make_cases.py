@@ -17,7 +17,8 @@ import fuzz  # noqa: E402
 import model  # noqa: E402
 import qmdb  # noqa: E402
 
-STAGE = qmdb.stage_number('durable')
+STAGE = qmdb.stage_number('remaining')
+DURABLE = qmdb.stage_number('durable')
 SCRIPTS = qmdb.stage_number('ordered')
 WORDS = 'run any unordered mmr'
 ORDERED = 'run any ordered mmr'
@@ -126,7 +127,7 @@ modelled('lines', ''.join(x + '\n' for x in (
 modelled('keys of 32 bytes, values of 64', 'open\nbatch\nput 1 %s %s\nmerkleize 1 prop %s\nops 1\napply 1\nget %s\nmeta\n' % ('61' * 32, '62' * 64, '63' * 64, '61' * 32), items=True)
 modelled('numbers past the end', 'open\nprove 18446744073709551615 0 1\nprove 4611686018427387905 0 1\nprove 4611686018427387904 0 1\nprove 1 18446744073709551615 1\nprove 1 0 18446744073709551615\npins 18446744073709551615\npins 4611686018427387905\npins 4611686018427387904\nget 61 from=18446744073709551615\nchild 18446744073709551615\n')
 section('Lines that are none.')
-for bad in ('', ' ', 'Open', 'open ', ' open', 'open x', 'apply', 'apply ', 'apply 01', 'apply +1', 'apply -1', 'apply 18446744073709551616', 'ops 1 2',
+for bad in ('', ' ', 'Open', 'open ', ' open', 'open x', 'apply', 'apply ', 'apply 01', 'apply +1', 'apply -1', 'apply 18446744073709551616', 'ops 1 2', 'evicted', 'evicted 1 2', 'evicted 01',
  'get', 'get -', 'get 6', 'get 6g', 'put  1 6b 76', 'put 1 6b', 'put 1 - 76', 'put 1 6b 767', 'put 1 6b 76 77', 'merkleize 1 prop', 'merkleize 1 prop non',
  'merkleize 1 prop none ', 'del 1', 'del 1 -', 'del 1 6b 76', 'get 4a 6b', 'get from=3', 'many', 'many from=3', 'many 4a from=3 6b', 'many 4a from=', 'many 4a from=03',
  'child 2 keep', 'child 2 keep=', 'child 2 from=1', 'tip 1', 'batch 1', 'info 1 2', 'proof', 'prove 4 0 0', 'prove 4 0', 'prove 4 0 01', 'pins', 'prune', 'prune 01', 'prune 1 2', 'held', 'held 6', 'held 61 from=1', 'absent -', 'absent 61 62', 'chunks', 'chunks 0', 'chunks 0 0', 'chunks 0 1 2', 'witness 1', 'nothing', 'next', 'next 61 62', 'next 61 from=', 'prev from=1', 'span', 'span 61 from=1', 'all', 'all 61 62', 'range', 'range *', 'range [61', 'range 61 *', 'range [61 62', 'range * [61', 'range 61] *', 'range [ *', 'range * )', 'range [61 62] 63', 'range [61] *', 'keys ** *', 'keys [6 *', 'keys [%s *' % ('61' * 33),
@@ -138,7 +139,7 @@ for bad in ('', ' ', 'Open', 'open ', ' open', 'open x', 'apply', 'apply ', 'app
 section('Words that are no policy.')
 for bad in ('held', 'Hold', '', 'prop:', 'prop:1', 'hold:1:1', 'bounded', 'bounded:1', 'bounded:1:', 'bounded:1:2:3', 'bounded:01:2', 'bounded:1:18446744073709551616', 'rule', 'rule:1',
  'rule:1:1:', 'rule:1:1:drop', 'rule:1:1:drop=', 'rule:1:1:drop=0', 'rule:1:1:drop=02:', 'rule:1:1:drop=01:drop=02', 'rule:1:1:stop=01:drop=02', 'rule:1:1:swap=01>02:stop=03', 'rule:1:1:swap=01',
- 'rule:1:1:swap=01>', 'rule:1:1:swap=>01', 'rule:1:1:swap=01>02>03', 'rule:1:1:spare=1', 'rule:1:1:keep=01', 'rule:1:1:drop=' + '61' * 65):
+ 'rule:1:1:swap=01>', 'rule:1:1:swap=>01', 'rule:1:1:swap=01>02>03', 'rule:1:1:spare', 'rule:1:1:spare=', 'rule:1:1:spare=01', 'rule:1:1:spare=-', 'rule:1:1:spare=18446744073709551616', 'rule:1:1:spare=1:', 'rule:1:1:spare=1:spare=1', 'rule:1:1:spare=1:swap=01>02', 'rule:1:1:keep=01', 'rule:1:1:drop=' + '61' * 65):
     t, s, _ = modelled('no policy: ' + (bad if len(bad) < 40 else bad[:20] + '.. (%d characters)' % len(bad)), 'merkleize 1 %s none\n' % bad)
     assert (t, s) == ('bad line 1\n', 2)
 section('Bytes that are no lines of text.')
@@ -270,6 +271,13 @@ for policy in ('prop', 'hold', 'bounded:0:9', 'bounded:9:0', 'bounded:9:1', 'bou
  'rule:9:9', 'rule:9:9:drop=01', 'rule:9:9:drop=02', 'rule:9:9:drop=03', 'rule:1:9:drop=02', 'rule:0:9:drop=01', 'rule:9:9:stop=01', 'rule:9:9:stop=02', 'rule:9:9:drop=01:stop=01', 'rule:9:9:drop=01:stop=03',
  'rule:9:9:swap=01>03', 'rule:9:9:drop=03:swap=01>03', 'rule:9:9:swap=02>-', 'rule:9:9:drop=02:stop=03:swap=01>0a'):
     modelled('policy ' + policy, HELD + 'batch\nmerkleize 2 %s none\nops 2\napply 2\nmany 61 62 63\ninfo\nbatch\nput 3 62 04\nmerkleize 3 prop none\nops 3\napply 3\nmany 61 62 63\nroot\n' % policy)
+for policy in ('rule:9:9:drop=01:spare=9', 'rule:9:9:drop=01:spare=8', 'rule:3:9:drop=03:spare=0', 'rule:3:9:drop=03:spare=1', 'rule:3:9:drop=02:spare=2', 'rule:9:9:spare=0', 'rule:9:9:drop=01:stop=01:spare=9', 'rule:9:9:drop=01:swap=01>03:spare=9', 'rule:9:9:drop=03:swap=01>03:spare=6', 'rule:18446744073709551615:9:drop=01:spare=18446744073709551615', 'rule:18446744073709551615:9:drop=01:spare=18446744073709551614'):
+    for words in (WORDS, ORDERED):
+        modelled('policy %s, %s' % (policy, words.split(' ')[2]), HELD + 'batch\nput 2 62 01\nmerkleize 2 %s none\nops 2\nevicted 2\nbatch\nput 3 62 04\nstage 3 61 63\nresolve 3 %s none put:01 del 64=03\nops 3\nevicted 3\napply 3\nmany 61 62 63 64\ninfo\nroot\n' % (policy, policy), words=words)
+EVICTING = HELD + 'batch\nput 2 62 01\nevicted 2\nmerkleize 2 rule:9:9:drop=01 none\nevicted 2\nchild 2\nstage 3 61 62 63\nevicted 3\nresolve 3 rule:9:9:drop=03 none keep put:03 keep 64=03\nevicted 3\ntip\nevicted 4\nevicted 1\nevicted 9\napply 3\nevicted 3\nevicted 2\ntip\nevicted 5\nclose\nevicted 3\nevicted 5\nbatch\nopen\nevicted 2\n'
+for words in (WORDS, ORDERED, 'run current unordered mmr', 'run current ordered mmr'):
+    modelled('what steps evicted, ' + words[4:], EVICTING, words=words)
+modelled('spared in rounds of candidates', 'open\n' + 'batch\n' + ''.join('put 1 %04x 01\n' % i for i in range(2100)) + 'merkleize 1 hold none\napply 1\n' + ''.join('batch\nmerkleize %d rule:2090:9999:drop=01:spare=%d none\nevicted %d\n' % (i + 2, n, i + 2) for i, n in enumerate((2088, 1066, 1065, 2090))) + 'child 2\nmerkleize 6 rule:2000:9999:drop=01:spare=1998 none\nevicted 6\n')
 modelled('all keys dropped', HELD + 'batch\nput 2 62 01\nput 2 63 01\nmerkleize 2 rule:9:9:drop=01 none\nops 2\napply 2\ninfo\nbatch\nmerkleize 3 prop none\nops 3\n')
 modelled('what an ancestor made inactive is passed', HELD + 'batch\nput 2 61 04\ndel 2 62\nmerkleize 2 hold none\nchild 2\nmerkleize 3 bounded:1:9 none\nops 3\nchild 3 keep=0\nmerkleize 4 rule:9:9:drop=04 none\napply 3\nchild 3\nmerkleize 5 rule:9:9:drop=04 none\nops 5\napply 5\nmany 61 62 63\ninfo\n')
 modelled('rounds of candidates', 'open\n' + 'batch\n' + ''.join('put 1 %04x 01\n' % i for i in range(1100)) + 'merkleize 1 hold none\napply 1\nbatch\n' + ''.join('del 2 %04x\n' % i for i in range(3, 1090)) + 'merkleize 2 hold none\napply 2\nbatch\nput 3 0001 02\nmerkleize 3 rule:8:1085 none\nops 3\nbatch\nmerkleize 4 bounded:10:2186 none\nops 4\nbatch\nmerkleize 5 bounded:14:9999 none\nops 5\napply 5\ninfo\nroot\n')
@@ -298,7 +306,7 @@ for seed in range(40):
 section('Scripts with commits, crashes, closings and openings.')
 for words, count in ((WORDS, 40), (ORDERED, 20)):
     for seed in range(count):
-        lines = fuzz.script('lasting rows %d' % seed, words[4:], STAGE, (12, 25, 40)[seed % 3], bad=False)
+        lines = fuzz.script('lasting rows %d' % seed, words[4:], DURABLE, (12, 25, 40)[seed % 3], bad=False)
         said = ''.join(x + '\n' for x in lines)
         if len(said) <= 1800: modelled('lasting script %d, %s' % (seed, words.split(' ')[2]), said, words=words)
 section('Chains of three batches: what the second and the third keep, which are applied before each is made, and before the third is asked.')
@@ -385,9 +393,15 @@ put('current, a batch of an earlier opening, store call 18 would fail', ['fail s
 section('Scripts of current databases.')
 for words in (CURRENT, CURRENT_ORDERED):
     for seed in range(16):
-        lines = fuzz.script('current rows %d' % seed, words[4:], STAGE, (12, 25, 40)[seed % 3], bad=seed % 4 == 0)
+        lines = fuzz.script('current rows %d' % seed, words[4:], DURABLE, (12, 25, 40)[seed % 3], bad=seed % 4 == 0)
         said = ''.join(x + '\n' for x in lines)
         if len(said) <= 1800: modelled('current script %d, %s' % (seed, words.split(' ')[2]), said, words=words)
+section('Scripts with spared entries and evicted keys.')
+for words in (WORDS, ORDERED, CURRENT, CURRENT_ORDERED):
+    for seed in range(10):
+        lines = fuzz.script('spared rows %d' % seed, words[4:], STAGE, (12, 25, 40)[seed % 3], bad=seed % 5 == 0)
+        said = ''.join(x + '\n' for x in lines)
+        if len(said) <= 1800: modelled('spared script %d, %s' % (seed, words[4:-4]), said, words=words)
 section('Lines of ordered databases, of an unordered current one.')
 modelled('no neighbours', 'open\nnext 61\nprev 61\nspan 61\nall 61\nrange * *\nkeys * *\nnext 61 from=1\n', words=CURRENT)
 section('Other words, with current in them.')

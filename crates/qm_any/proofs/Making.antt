@@ -75,7 +75,7 @@ all-mapped : {X Y : Type 0} (f : X → Y) (P : Y → Type 0) (xs : List X) → (
 all-mapped f P [] holds = All-nil P
 all-mapped f P (x ∷ xs) holds = All-cons P (f x) (map f xs) (holds x (contains-first x xs)) (all-mapped f P xs (λ y has. holds y (contains-behind x y xs has)))
 
-module _ {D : Type 0} (stands : Commitment) (low count : ℕ) (meta : Option Bytes) where
+module _ {D : Type 0} (stands : Commitment) (low count : ℕ) (meta : Option Bytes) (evicted : List (Bytes × Bytes)) where
   -- a batch that is applied where it stands
   abbrev rest_with : List Commitment → List Layer → KeptTree D → Made D
   rest_with ancestors layers tree = record {
@@ -84,6 +84,7 @@ module _ {D : Type 0} (stands : Commitment) (low count : ℕ) (meta : Option Byt
     tree = tree;
     live = count;
     metadata = meta;
+    evicted = evicted;
   }
 
   -- the numbers of a database at rest agree
@@ -149,37 +150,39 @@ module _ {D : Type 0} (parent : Made D) (keep : ℕ) (few : keep ≤ suc (length
 
 module _ {D : Type 0} (root : Bytes) (meta : Option Bytes) where
   -- a merkleized batch of these parts
-  abbrev sealed_with : Commitment → Commitment → ℕ → List Commitment → ℕ → List Layer → KeptTree D → ℕ → Made D
-  sealed_with base db size tips low layers tree count = record {
+  abbrev sealed_with : Commitment → Commitment → ℕ → List Commitment → ℕ → List Layer → KeptTree D → ℕ → List (Bytes × Bytes) → Made D
+  sealed_with base db size tips low layers tree count evicted = record {
     bounds = record { base = base; db = db; tip = record { size = size; root = root }; ancestors = tips; inactivity_floor = low };
     layers = layers;
     tree = tree;
     live = count;
     metadata = meta;
+    evicted = evicted;
   }
 
   -- the batch of a plan on its parent, by its parts
-  pub sealed-child : (parent : Made D) (keep : ℕ) (plan : Plan) (tree : KeptTree D) (base db : Commitment) (size low count : ℕ) (tips : List Commitment) (layers : List Layer) (kept : KeptTree D)
+  pub sealed-child : (parent : Made D) (keep : ℕ) (plan : Plan) (tree : KeptTree D) (base db : Commitment) (size low count : ℕ) (tips : List Commitment) (layers : List Layer) (kept : KeptTree D) (evicted : List (Bytes × Bytes))
       → base ≡ parent.bounds.tip → db ≡ child_boundary keep parent.bounds → size ≡ tree.leaves → tips ≡ child_tips keep parent.bounds → low ≡ plan.floor
-      → layers ≡ record { base = parent.bounds.tip.size; operations = plan.operations; changes = plan.changes } ∷ take keep parent.layers → kept ≡ tree → count ≡ plan.live
-      → child_made parent keep plan tree root meta ≡ sealed_with base db size tips low layers kept count
-  sealed-child parent keep plan tree base db size low count tips layers kept below at end on floor steps same live =
+      → layers ≡ record { base = parent.bounds.tip.size; operations = plan.operations; changes = plan.changes } ∷ take keep parent.layers → kept ≡ tree → count ≡ plan.live → evicted ≡ plan.evicted
+      → child_made parent keep plan tree root meta ≡ sealed_with base db size tips low layers kept count evicted
+  sealed-child parent keep plan tree base db size low count tips layers kept evicted below at end on floor steps same live told =
       let own : List Layer = record { base = parent.bounds.tip.size; operations = plan.operations; changes = plan.changes } ∷ take keep parent.layers in
-      sym (ap (λ x. sealed_with x db size tips low layers kept count) below
-      ∙ ap (λ x. sealed_with parent.bounds.tip x size tips low layers kept count) at
-      ∙ ap (λ x. sealed_with parent.bounds.tip (child_boundary keep parent.bounds) x tips low layers kept count) end
-      ∙ ap (λ x. sealed_with parent.bounds.tip (child_boundary keep parent.bounds) tree.leaves x low layers kept count) on
-      ∙ ap (λ x. sealed_with parent.bounds.tip (child_boundary keep parent.bounds) tree.leaves (child_tips keep parent.bounds) x layers kept count) floor
-      ∙ ap (λ x. sealed_with parent.bounds.tip (child_boundary keep parent.bounds) tree.leaves (child_tips keep parent.bounds) plan.floor x kept count) steps
-      ∙ ap (λ x. sealed_with parent.bounds.tip (child_boundary keep parent.bounds) tree.leaves (child_tips keep parent.bounds) plan.floor own x count) same
-      ∙ ap (sealed_with parent.bounds.tip (child_boundary keep parent.bounds) tree.leaves (child_tips keep parent.bounds) plan.floor own tree) live)
+      sym (ap (λ x. sealed_with x db size tips low layers kept count evicted) below
+      ∙ ap (λ x. sealed_with parent.bounds.tip x size tips low layers kept count evicted) at
+      ∙ ap (λ x. sealed_with parent.bounds.tip (child_boundary keep parent.bounds) x tips low layers kept count evicted) end
+      ∙ ap (λ x. sealed_with parent.bounds.tip (child_boundary keep parent.bounds) tree.leaves x low layers kept count evicted) on
+      ∙ ap (λ x. sealed_with parent.bounds.tip (child_boundary keep parent.bounds) tree.leaves (child_tips keep parent.bounds) x layers kept count evicted) floor
+      ∙ ap (λ x. sealed_with parent.bounds.tip (child_boundary keep parent.bounds) tree.leaves (child_tips keep parent.bounds) plan.floor x kept count evicted) steps
+      ∙ ap (λ x. sealed_with parent.bounds.tip (child_boundary keep parent.bounds) tree.leaves (child_tips keep parent.bounds) plan.floor own x count evicted) same
+      ∙ ap (λ x. sealed_with parent.bounds.tip (child_boundary keep parent.bounds) tree.leaves (child_tips keep parent.bounds) plan.floor own tree x evicted) live
+      ∙ ap (sealed_with parent.bounds.tip (child_boundary keep parent.bounds) tree.leaves (child_tips keep parent.bounds) plan.floor own tree plan.live) told)
 
 -- the operations of a plan stand after its base list
-pub plan-behind : (plan : Plan) (base tip : List Operation) → IsPlan plan base tip → tip ≡ base ++ plan.operations
+pub plan-behind : (plan : Plan) (base tip : List Operation) {evicted : List (Bytes × Bytes)} → IsPlan plan base tip evicted → tip ≡ base ++ plan.operations
 plan-behind plan base tip is = sym (take-append-drop (length base) tip) ∙ ap₂ (λ front back. front ++ back) is.changes.begins (sym is.operations)
 
 -- and so does their number
-pub plan-length : (plan : Plan) (base tip : List Operation) → IsPlan plan base tip → length base + length plan.operations ≡ length tip
+pub plan-length : (plan : Plan) (base tip : List Operation) {evicted : List (Bytes × Bytes)} → IsPlan plan base tip evicted → length base + length plan.operations ≡ length tip
 plan-length plan base tip is = sym (length-append base plan.operations) ∙ ap length (sym (plan-behind plan base tip is))
 
 -- none of the lists from which a child's steps start has a floor past that of its parent's list
@@ -222,7 +225,7 @@ module _ {D : Type 0} {hashing : Hashing D} (parent : Made D) (keep : ℕ) (chai
       (omega (arith, All-contains (λ (l : List Operation). low ≤ length l) (bases_of chain) l bases-above found, length-map l (spelling hashing.form)))))
 
   -- a plan on the parent's list makes a batch of the child's chain
-  pub child-is_made : (plan : Plan) (tree : KeptTree D) (root : Bytes) (meta : Option Bytes) (tip : List Operation) → IsPlan plan chain.base tip
+  pub child-is_made : (plan : Plan) (tree : KeptTree D) (root : Bytes) (meta : Option Bytes) (tip : List Operation) {evicted : List (Bytes × Bytes)} → IsPlan plan chain.base tip evicted
       → IsKeptTree hashing.bytes hashing.hash hashing.shape tree (spellings hashing tip) (lists_since (child_boundary keep parent.bounds).size (map (spellings hashing) (chain.base ∷ bases_of above)))
       → root ≡ list_root hashing tip → meta ≡ last_metadata tip → All (IsOf hashing.form) tip → IsGood tip → floor chain.base ≤ floor tip → HasRing hashing.form tip
       → IsMade hashing (child_made parent keep plan tree root meta) chain tip
@@ -498,7 +501,7 @@ too_long-size spelt size e (inl long) = inl (long.0, long.2)
 too_long-size spelt size e (inr many) = inr (size, many.2)
 
 -- an error that tells what is too long of the operations of a plan tells it of the own operations of its list
-pub plan-refused : (form : Form) (plan : Plan) (base tip : List Operation) (items : List Bytes) (size : ℕ) (e : Error) → IsPlan plan base tip → items ≡ map (spelling form) plan.operations → size ≡ length base + length plan.operations
+pub plan-refused : (form : Form) (plan : Plan) (base tip : List Operation) (items : List Bytes) (size : ℕ) (e : Error) {evicted : List (Bytes × Bytes)} → IsPlan plan base tip evicted → items ≡ map (spelling form) plan.operations → size ≡ length base + length plan.operations
     → IsTooLong items size e → IsTooLong (own_spellings form base tip) (length tip) e
 plan-refused form plan base tip items size e is spelt count long =
     subst (λ n. IsTooLong (own_spellings form base tip) n e) (count ∙ plan-length plan base tip is) (subst (λ xs. IsTooLong xs size e) (spelt ∙ ap (map (spelling form)) is.operations) long)

@@ -232,29 +232,31 @@ module _ (form : Form) (chain : Chain) (tip : List Operation) where
       either r told on (inr read) = absurd (none-some r (sym (log-untold members old new e (whole on) read) ∙ told))
 
 -- What comes of a merkleize, by what it says of the tip that it makes, which is this one. It fits if it is on the chain.
-pub makes : {X C B S M D : Type 0} (means : meaning.Ghosts X C B S M) (members : store.Ghosts C) (old : X) (was is : Log C D) (list : List Operation) (chain : Chain) (own tip : List Operation) (r : Result M Error) (on : Bool)
+pub makes : {X C B S M D : Type 0} (means : meaning.Ghosts X C B S M) (members : store.Ghosts C) (old : X) (was is : Log C D) (list : List Operation) (chain : Chain) (own tip : List Operation) (pairs evicted : List (Bytes × Bytes)) (r : Result M Error) (on : Bool)
     → means.scheme.grafts ≡ None
     → own ≡ tip
+    → pairs ≡ evicted
     → on ≡ fits means.scheme.root (commitment means.scheme.root list) chain
     → IfOk r (λ _. on ≡ true)
-    → (IsOnChain list chain → IfOk r (λ b. means.is_merkleized b chain own))
+    → (IsOnChain list chain → IfOk r (λ b. means.is_merkleized b chain own × (means.evictions b ≡ pairs)))
     → (IsOnChain list chain → IfOk r (λ _. IsTaken means.scheme.form chain.base own))
     → (IsOnChain list chain → IfErr r (λ e. IsRefused means.scheme.form chain.base own e ⊎ IsReadError members was is e))
     → IfErr r (λ e. e ≡ errors.StaleBatch → on ≡ false)
     → IfErr r (λ e. e ≢ errors.Memory → e ≢ errors.StaleBatch → on ≡ true)
     → (IsOnChain list chain → IfErr r IsOfKeptItem)
-    → Makes means members old list chain tip r
-makes means members old was is list chain own tip (Ok b) on plain same fit fitted made taken refused stale order whole = record {
+    → Makes means members old list chain tip evicted r
+makes means members old was is list chain own tip pairs evicted (Ok b) on plain same told fit fitted made taken refused stale order whole = record {
   instance = λ n numbered. ap (λ grafts. takes grafts n chain.instance) plain;
   fit = sym fit ∙ fitted;
   made = λ here. (
     taken-offered means.scheme.form chain tip (subst (λ t. IsTaken means.scheme.form chain.base t) same (taken here)),
-    subst (λ t. means.is_merkleized b chain t) same (made here),
+    subst (λ t. means.is_merkleized b chain t) same (made here).0,
+    (made here).1 ∙ told,
   );
   stale = tt;
   refused = tt;
 }
-makes means members old was is list chain own tip (Err e) on plain same fit fitted made taken refused stale order whole = record {
+makes means members old was is list chain own tip pairs evicted (Err e) on plain same told fit fitted made taken refused stale order whole = record {
   instance = tt;
   fit = tt;
   made = tt;

@@ -130,13 +130,13 @@ unplaced-refused form base tip on e (inl memory) = inl memory
 unplaced-refused form base tip on e (inr (stale, off)) = inr (inl stale)
 
 -- and of one whose spellings are refused
-pub unspelled-refused : (form : Form) (plan : Plan) (base tip : List Operation) (size : ℕ) (e : Error) → IsPlan plan base tip → size ≡ length base + length plan.operations
+pub unspelled-refused : (form : Form) (plan : Plan) (base tip : List Operation) (size : ℕ) (e : Error) {evicted : List (Bytes × Bytes)} → IsPlan plan base tip evicted → size ≡ length base + length plan.operations
     → (e ≡ errors.Memory) ⊎ IsTooLong (map (spelling form) plan.operations) size e → IsRefused form base tip e
 unspelled-refused form plan base tip size e is count (inl memory) = inl memory
 unspelled-refused form plan base tip size e is count (inr long) = inr (inr (plan-refused form plan base tip (map (spelling form) plan.operations) size e is refl count long))
 
 -- the list of a plan is taken if its spellings are
-pub plan-taken : (form : Form) (plan : Plan) (base tip : List Operation) (size : ℕ) → IsPlan plan base tip → IsSpelled form plan.operations size → size ≡ length base + length plan.operations → IsTaken form base tip
+pub plan-taken : (form : Form) (plan : Plan) (base tip : List Operation) (size : ℕ) {evicted : List (Bytes × Bytes)} → IsPlan plan base tip evicted → IsSpelled form plan.operations size → size ≡ length base + length plan.operations → IsTaken form base tip
 plan-taken form plan base tip size is spelt count =
     let few = spelt.few in (
       subst (λ ops. too_long (map (spelling form) ops) ≡ None) is.operations spelt.short,
@@ -150,8 +150,8 @@ made-leaves {D} {hashing} parent chain tip made = (made.tree).leaves ∙ length-
 -- what a step makes of the list of a parent, by its plan, its tree and its root, is of the child's chain
 pub child-stepped : {D P : Type 0} {hashing : Hashing D} (parent : Made D) (keep : ℕ) (chain above : Chain)
     → keep ≤ suc (length parent.bounds.ancestors) → IsMade hashing parent above chain.base → chain.kept ≡ kept_by keep above chain.base
-    → (rules : Rules P) (policy : P) (ws : List Write) (meta : Option Bytes) (plan : Plan) (tree : KeptTree D) (root : Bytes) (low : ℕ) (shared : Option Bytes)
-    → IsPlan plan chain.base (stepped hashing.form rules chain.base ws policy meta) → IsSpelled hashing.form plan.operations tree.leaves
+    → (rules : Rules P) (policy : P) (ws : List Write) (meta : Option Bytes) (plan : Plan) (tree : KeptTree D) (root : Bytes) (low : ℕ) (shared : Option Bytes) {evicted : List (Bytes × Bytes)}
+    → IsPlan plan chain.base (stepped hashing.form rules chain.base ws policy meta) evicted → IsSpelled hashing.form plan.operations tree.leaves
     → IsKeptTree hashing.bytes hashing.hash hashing.shape tree (spellings hashing (chain.base ++ plan.operations)) (lists_since low (map (spellings hashing) (chain.base ∷ bases_of above)))
     → low ≡ (child_boundary keep parent.bounds).size
     → (plan.floor ≡ floor (chain.base ++ plan.operations) → root ≡ list_root hashing (chain.base ++ plan.operations)) → shared ≡ meta

@@ -47,14 +47,15 @@ pub record State : Type 0 where
 abbrev pub over : {C D : Type 0} → State → Log C D → Database C D
 over state log = record { entries = state.entries; activity = state.activity; log = log; commitment = state.commitment; floor = state.floor; live = state.live; metadata = state.metadata }
 
--- a merkleized batch: its bounds, its own step and those of its kept ancestors, newest first, its tree, and the count of
--- live keys and the metadata of the list that it makes
+-- a merkleized batch: its bounds, its own step and those of its kept ancestors, newest first, its tree, the count of live keys
+-- and the metadata of the list that it makes, and the keys that its step evicted, each with the value that it had
 pub record Made (D : Type 0) : Type 0 where
   pub bounds : Bounds
   pub layers : List Layer
   pub tree : KeptTree D
   pub live : ℕ
   pub metadata : Option Bytes
+  pub evicted : List (Bytes × Bytes)
 
 -- a batch: its parent, which made its base list, how many ancestors it keeps, the parent first, and its writes in order
 pub record Begun (D : Type 0) : Type 0 where
@@ -91,6 +92,7 @@ at_rest db = record {
   tree = record { leaves = db.commitment.size; layers = [] };
   live = db.live;
   metadata = db.metadata;
+  evicted = [];
 }
 
 -- what stands for the lists that a batch's steps lead through, newest first: its tip, its kept ancestors' tips, its boundary
@@ -153,6 +155,7 @@ child_made parent keep plan tree root meta = record {
   tree = tree;
   live = plan.live;
   metadata = meta;
+  evicted = plan.evicted;
 }
 
 -- a batch starts where its parent ends, keeps the first `keep` of its ancestors, counting the parent, and nothing of what led to its boundary
@@ -197,6 +200,10 @@ module _ {D : Type 0} (hashing : Hashing D) where
     pub good : IsGood tip
     pub rises : All (λ (list : List Operation). floor list ≤ floor tip) (bases_of chain)
     pub ring : HasRing hashing.form tip
+
+  -- the same, and these are the keys that its step evicted, each with the value that it had
+  abbrev pub IsMadeWith : Made D → Chain → List Operation → List (Bytes × Bytes) → Type 0
+  IsMadeWith batch chain tip evicted = IsMade batch chain tip × (batch.evicted ≡ evicted)
 
   -- the batch is of this chain, and its parent of that one
   pub record IsBegun (batch : Begun D) (chain above : Chain) : Type 0 where

@@ -12,7 +12,7 @@ use Rattle.qm_base.specs.declared.error.JournalError.TheVariants as journal
 use Rattle.qm_store.specs.declared.Store as store
 use Rattle.qm_store.specs.Log.{Log}
 use Rattle.qm_store.specs.Reads.{IsReadError}
-use Rattle.qm_step.specs.Views.{stepped, left_after}
+use Rattle.qm_step.specs.Views.{stepped, left_after, evicted_after}
 use Rattle.qm_any.specs.Reasons.{IsMakingError}
 use Rattle.qm_any.specs.Tips.{IsTaken, IsRefused}
 
@@ -31,15 +31,19 @@ making_of rules policy ws meta = record { rules = rules; policy = policy; writes
 abbrev pub list_made : {P : Type 0} → Form → Making P → List Operation → List Operation
 list_made form making base = stepped form making.rules base making.writes making.policy making.metadata
 
+-- the keys that it evicts, each with the value that it had
+abbrev pub evicted_made : {P : Type 0} → Form → Making P → List Operation → List (Bytes × Bytes)
+evicted_made form making base = evicted_after form making.rules base making.writes making.policy
+
 -- what it leaves of the policy
 abbrev pub policy_left : {P : Type 0} → Form → Making P → List Operation → P
 policy_left form making base = left_after form making.rules base making.writes making.policy
 
 module _ {C D : Type 0} (members : store.Ghosts C) where
   -- What comes of making a list on a chain's base list, with a policy left and what reads leave of the log: what is made has the list, of
-  -- which nothing is too long, and the policy has moved on; or the list is refused, or a read failed.
-  pub record IsMaking {P A : Type 0} (form : Form) (making : Making P) (chain : Chain) (left : P) (old new : Log C D) (result : Result A Error) (HasList : A → List Operation → Type 0) : Type 0 where
-    pub made : IfOk result (λ a. HasList a (list_made form making chain.base))
+  -- which nothing is too long, and tells what was evicted, and the policy has moved on; or the list is refused, or a read failed.
+  pub record IsMaking {P A : Type 0} (form : Form) (making : Making P) (chain : Chain) (left : P) (old new : Log C D) (result : Result A Error) (HasList : A → List Operation → List (Bytes × Bytes) → Type 0) : Type 0 where
+    pub made : IfOk result (λ a. HasList a (list_made form making chain.base) (evicted_made form making chain.base))
     pub taken : OnOk result (IsTaken form chain.base (list_made form making chain.base))
     pub next : OnOk result (left ≡ policy_left form making chain.base)
     pub refused : IfErr result (λ e. IsRefused form chain.base (list_made form making chain.base) e ⊎ IsReadError members old new e)

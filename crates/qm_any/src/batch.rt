@@ -12,6 +12,7 @@ ghost use Rattle.qm_merkle.specs.Batches.{AreLinked, layers_at, stops};
 ghost use Rattle.qm_proofs.specs.Proofs.{proof_view, first_lacked, needed_positions};
 ghost use Rattle.qm_chain.specs.Bounds.{commitment_view, is_at, knows};
 ghost use Rattle.qm_step.specs.Bases.{base_view};
+ghost use Rattle.qm_step.specs.PlanViews.{pair_views};
 ghost use Rattle.qm_step.specs.Views.{changes_view, keys_of, write_view, AreReads};
 ghost use Rattle.qm_any.specs.Databases.{AreAgreed, IsBegun, IsMade, base_of, bases, child_boundary, child_made, child_tips, operations_in, unapplied};
 ghost use Rattle.qm_store.specs.KeptTrees.{held_at};
@@ -54,8 +55,8 @@ impl<F: Family, D: Digest, U: Update> Model for UnmerkleizedBatch<F, D, U> {
     ghost invariant = { λ b. b.keep ≤ suc (length b.parent.value.bounds.ancestors) };
 }
 
-/// A merkleized batch: the step that its writes make, those of the ancestors that it keeps, and the states of a database
-/// that it knows.
+/// A merkleized batch: the step that its writes make, those of the ancestors that it keeps, the states of a database that it
+/// knows, and what its step evicted.
 #[derive(Drop)]
 pub struct MerkleizedBatch<F: Family, D: Digest, U: Update> {
     pub(crate) bounds: Bounds<F, D>,
@@ -64,18 +65,20 @@ pub struct MerkleizedBatch<F: Family, D: Digest, U: Update> {
     pub(crate) tree: KeptTree<F, D>,
     pub(crate) live: u64,
     pub(crate) metadata: Option<Rc<U::Value>>,
+    evicted: Vec<(U::Key, U::Value)>,
 }
 
 impl<F: Family, D: Digest, U: Update> Model for MerkleizedBatch<F, D, U> {
     ghost use Rattle.std.specs.Prelude.{◌≡◌, map, option_map};
+    ghost use Rattle.qm_step.specs.PlanViews.{pair_views};
     ghost use Rattle.qm_step.specs.Views.{changes_view};
     ghost use Rattle.qm_any.specs.Databases.{Made, AreAgreed};
 
     ghost Value = { Made D };
 
-    ghost view = { λ b. record { bounds = b.bounds; layers = map (λ l. l.value) b.steps.items; tree = b.tree; live = b.live; metadata = option_map (λ m. U.Value.bytes m.value) b.metadata } };
+    ghost view = { λ b. record { bounds = b.bounds; layers = map (λ l. l.value) b.steps.items; tree = b.tree; live = b.live; metadata = option_map (λ m. U.Value.bytes m.value) b.metadata; evicted = pair_views U.Key.bytes U.Value.bytes b.evicted.items } };
 
-    ghost invariant = { λ b. AreAgreed {D = D} (record { bounds = b.bounds; layers = map (λ l. l.value) b.steps.items; tree = b.tree; live = b.live; metadata = option_map (λ m. U.Value.bytes m.value) b.metadata })
+    ghost invariant = { λ b. AreAgreed {D = D} (record { bounds = b.bounds; layers = map (λ l. l.value) b.steps.items; tree = b.tree; live = b.live; metadata = option_map (λ m. U.Value.bytes m.value) b.metadata; evicted = pair_views U.Key.bytes U.Value.bytes b.evicted.items })
         × (map (λ d. changes_view U.Key.bytes U.Value.bytes d.value) b.diffs.items ≡ map (λ l. l.changes) (map (λ l. l.value) b.steps.items)) };
 }
 
@@ -248,6 +251,14 @@ impl<F: Family, D: Digest, U: Update> MerkleizedBatch<F, D, U> {
             ≡ trees.digest_of hash F.shape (trees.leaves_from hash F.shape U.form 0 tip) x) }
     {
         self.tree.get_node(position)
+    }
+
+    /// The keys that the batch's step evicted, in the order of the walk, each with the value that it had; none of a database as
+    /// a batch.
+    pub fn evicted(&self) -> &[(U::Key, U::Value)]
+        ensures { pair_views U.Key.bytes U.Value.bytes result.now ≡ self.now.evicted }
+    {
+        &self.evicted
     }
 
     /// The states of a database that the batch knows, and the floor of its commit.
@@ -456,6 +467,7 @@ impl<F: Family, D: Digest, U: Update> MerkleizedBatch<F, D, U> {
               live = live;
               metadata =
                   option_map (λ m. U.Value.bytes m.value) metadata;
+              evicted = [];
             }) }
     {
         let steps = resting(alloc, commitment.size)?;
@@ -477,6 +489,7 @@ impl<F: Family, D: Digest, U: Update> MerkleizedBatch<F, D, U> {
                 tree,
                 live,
                 metadata,
+                evicted: Vec::new(alloc),
             },
         )?)
     }
@@ -732,6 +745,7 @@ pub(crate) fn sealed<F: Family, D: Digest, U: Update>(
         diff,
         floor,
         live,
+        evicted,
     } = plan;
     let base = parent.bounds.tip;
     let (steps, diffs) = parent.child_steps(alloc, base.size, operations, diff, keep)?;
@@ -754,6 +768,7 @@ pub(crate) fn sealed<F: Family, D: Digest, U: Update>(
             tree,
             live,
             metadata: child.metadata,
+            evicted,
         },
     )?)
 }

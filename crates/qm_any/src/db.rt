@@ -26,7 +26,7 @@ ghost use Rattle.qm_store.specs.Given.{Appended, AppendedPart, store_given, stor
 ghost use Rattle.qm_store.specs.KeptTrees.{IsKeptTree};
 ghost use Rattle.qm_operations.specs.Views.{operation_views};
 ghost use Rattle.qm_any.specs.Applying.{Appends, IsUnapplied, KeepsRest, can_apply, store_in};
-ghost use Rattle.qm_any.specs.Making.{list_made, making_of, policy_left};
+ghost use Rattle.qm_any.specs.Making.{evicted_made, list_made, making_of, policy_left};
 ghost use Rattle.qm_any.specs.Tips.{AreTreeAndRoot, IsTooLong, IsTreeAfter};
 ghost use Rattle.qm_any.specs.Reading.{Reads, AtList};
 
@@ -718,7 +718,8 @@ impl<
             in (list known : List Operation) → ⟦<Self as LaidOut>⟧.stands self.old list
             → IsBase (base_view base.now) list known → HasRing U.form known
             → AreReads U.view U.Key.bytes wanted.entry.reads.now known
-            → IfOk result (λ plan. IsPlan plan known (list_made U.form making known)
+            → IfOk result (λ plan.
+            IsPlan plan known (list_made U.form making known) (evicted_made U.form making known)
             × (policy.new ≡ policy_left U.form making known)) }
         ensures live { IfOk result (λ plan. plan.live ≤ base.now.size + length plan.operations) }
         ensures error { IfErr result (IsReadError C.Store self.old.log self.new.log) }

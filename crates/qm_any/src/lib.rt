@@ -14,7 +14,7 @@ pub mod proof;
 pub mod scan;
 pub mod staged;
 
-pub use offer::listed::{listed, span_from, twin_keys};
+pub use offer::listed::{listed, span_from, twin_keys, twin_pairs};
 pub use offer::ranges::{keys_of, pairs_of};
 pub use open::{init, init_with};
 pub use qm_open::{Config, hasher, initial_root};

@@ -5,7 +5,7 @@ ghost use Rattle.qm_base.specs.Slots.{slot_views, write_views};
 ghost use Rattle.qm_model.specs.Slots.{slotted};
 ghost use Rattle.qm_model.specs.Writes.{read_through};
 ghost use Rattle.qm_step.specs.Views.{reads_view};
-ghost use Rattle.qm_any.specs.Databases.{IsChild, IsMade, IsLeft, IsStaged, is_on, staged_keys};
+ghost use Rattle.qm_any.specs.Databases.{IsChild, IsMadeWith, IsLeft, IsStaged, is_on, staged_keys};
 ghost use Rattle.qm_any.specs.Making.{IsMaking, IsUnmade, making_of};
 ghost use Rattle.qm_any.specs.Reading.{IsOfKeptItem, ReadsThrough, AtBegun, AtList, AtStaged, OnBegun, OnStaged};
 
@@ -106,7 +106,7 @@ impl<F: Family, D: Digest, U: Update> UnmerkleizedBatch<F, D, U> {
             (λ chain. IsMaking C.Store U.form
             (making_of P.rules policy.old self.writes (option_map U.Value.bytes metadata)) chain
             policy.new db.old.log db.new.log result
-            (λ b. IsMade ⟦<Db<F, C, I, H, U, N> as LaidOut>⟧.layout.hashing b.value chain)) }
+            (λ b. IsMadeWith ⟦<Db<F, C, I, H, U, N> as LaidOut>⟧.layout.hashing b.value chain)) }
         ensures child { IfOk result (λ b. IsChild self.parent self.keep b.value) }
         ensures unmade { IfErr result (IsUnmade C.Store (is_on db.old.commitment self) db.old.log
             db.new.log) }
@@ -218,7 +218,7 @@ impl<F: Family, D: Digest, U: Update> Staged<F, D, U> {
             (slotted self.batch.writes (staged_keys self) (slot_views U.Value.bytes slots.now)
             (write_views U.Key.bytes U.Value.bytes others.now)) (option_map U.Value.bytes metadata))
             chain policy.new db.old.log db.new.log result
-            (λ b. IsMade ⟦<Db<F, C, I, H, U, N> as LaidOut>⟧.layout.hashing b.value chain)) }
+            (λ b. IsMadeWith ⟦<Db<F, C, I, H, U, N> as LaidOut>⟧.layout.hashing b.value chain)) }
         ensures child { IfOk result (λ b.
             IsChild self.batch.parent self.batch.keep b.value) }
         ensures unmade { IfErr result (IsUnmade C.Store (is_on db.old.commitment self.batch)

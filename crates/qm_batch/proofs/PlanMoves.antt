@@ -6,7 +6,8 @@ use Rattle.std.proofs.lemmas.List.{length-map}
 use Rattle.std.proofs.lemmas.Option.{same_Some, slice_get-map, slice_get_within, get_or_from_slice_get}
 use Rattle.qm_model.specs.Operations.{Bytes, Operation, update, delete, commit}
 use Rattle.qm_operations.specs.Parts.{key_of}
-use Rattle.qm_model.specs.Live.{Live, live, live_at, live_of, touches, touched}
+use Rattle.qm_operations.specs.Parts as parts
+use Rattle.qm_model.specs.Live.{Live, live, live_at, live_of, value_of, touches, touched}
 use Rattle.qm_step.specs.Changes.{next_in, said_by, update_at, update_from}
 use Rattle.qm_step.specs.Touches.{Touch, IsFrom, IsMoveAt, Once, is_there, operations_of, live_update_at}
 use Rattle.qm_step.proofs.PlanReads.{behind-said, live_update-update, there-here, unless_touched}
@@ -26,21 +27,21 @@ live_update-is list at op h = by (slice_get list at) h
     by (Some x) h = one (live_at at x (drop (at + 1) list)) h
 
 -- and it is the one of its key
-pub live_update-next : (list : List Operation) (at : ℕ) (k v : Bytes) (n : Option Bytes) → live_update_at list at ≡ Some (update k v n) → option_map (λ (e : Live). e.next) (live_of (live list) k) ≡ Some n
-live_update-next list at k v n h = by (update_at list at) refl (sym (live_update-update list at) ∙ h)
+live_update-own : (list : List Operation) (at : ℕ) (k v : Bytes) (n : Option Bytes) → live_update_at list at ≡ Some (update k v n) → option_map update_from (live_of (live list) k) ≡ Some (update k v n)
+live_update-own list at k v n h = by (update_at list at) refl (sym (live_update-update list at) ∙ h)
   where
-    stands : (o : Option Live) → live_of (live list) k ≡ o → is_there (option_map (λ (e : Live). (e.location, e.value)) o) at ≡ true → update_at list at ≡ Some (update k v n) → option_map (λ (e : Live). e.next) o ≡ Some n
+    stands : (o : Option Live) → live_of (live list) k ≡ o → is_there (option_map (λ (e : Live). (e.location, e.value)) o) at ≡ true → update_at list at ≡ Some (update k v n) → option_map update_from o ≡ Some (update k v n)
     stands None own there here = absurd (true≢false (sym there))
     stands (Some e) own there here =
         let within = of_key-within (live list) k e own in
         let same : update e.key e.value e.next ≡ update k v n = same_Some (update e.key e.value e.next) (update k v n) (sym (live-stands list e within.0) ∙ ap (update_at list) (eqb-true e.location at there) ∙ here) in
-        ap (λ op. Some (next_in op)) same
+        ap (λ op. Some op) same
 
     free : (t : Bool) (k2 v2 : Bytes) (n2 : Option Bytes) → ◌≡◌ {A = Option Operation} (if t then None else Some (update k2 v2 n2)) (Some (update k v n)) → (t ≡ false) × (update k2 v2 n2 ≡ update k v n)
     free true k2 v2 n2 h = cc
     free false k2 v2 n2 h = (refl, same_Some (update k2 v2 n2) (update k v n) h)
 
-    by : (o : Option Operation) → update_at list at ≡ o → option_and_then (unless_touched (drop (at + 1) list)) o ≡ Some (update k v n) → option_map (λ (e : Live). e.next) (live_of (live list) k) ≡ Some n
+    by : (o : Option Operation) → update_at list at ≡ o → option_and_then (unless_touched (drop (at + 1) list)) o ≡ Some (update k v n) → option_map update_from (live_of (live list) k) ≡ Some (update k v n)
     by None is h = cc
     by (Some (update k2 v2 n2)) is h =
         let found = free (touched k2 (drop (at + 1) list)) k2 v2 n2 h in
@@ -50,6 +51,21 @@ live_update-next list at k v n h = by (update_at list at) refl (sym (live_update
         stands (live_of (live list) k) refl (there-here list at k v n here ∙ ap not untouched) here
     by (Some (delete k2)) is h = cc
     by (Some (commit m f)) is h = cc
+
+-- with its next key, and its value
+pub live_update-next : (list : List Operation) (at : ℕ) (k v : Bytes) (n : Option Bytes) → live_update_at list at ≡ Some (update k v n) → option_map (λ (e : Live). e.next) (live_of (live list) k) ≡ Some n
+live_update-next list at k v n h = by (live_of (live list) k) (live_update-own list at k v n h)
+  where
+    by : (o : Option Live) → option_map update_from o ≡ Some (update k v n) → option_map (λ (e : Live). e.next) o ≡ Some n
+    by None own = cc
+    by (Some e) own = ap (λ op. Some (next_in op)) (same_Some (update_from e) (update k v n) own)
+
+pub live_update-value : (list : List Operation) (at : ℕ) (k v : Bytes) (n : Option Bytes) → live_update_at list at ≡ Some (update k v n) → value_of list k ≡ Some v
+live_update-value list at k v n h = by (live_of (live list) k) (live_update-own list at k v n h)
+  where
+    by : (o : Option Live) → option_map update_from o ≡ Some (update k v n) → option_map (λ (e : Live). e.value) o ≡ Some v
+    by None own = cc
+    by (Some e) own = ap parts.value_of (same_Some (update_from e) (update k v n) own)
 
 -- how long a list with operations after a base list is
 pub made-long : {A : Type 0} (f : A → Touch) (base list : List Operation) (made : List A) → base ++ operations_of (map f made) ≡ list → length list ≡ length base + length made

@@ -10,7 +10,7 @@ use Rattle.qm_model.specs.Keys.{contains_key}
 use Rattle.qm_model.specs.Operations.{Bytes, Operation}
 use Rattle.qm_model.specs.Live.{Live, live, live_keys, live_of, floor, touches}
 use Rattle.qm_model.specs.Writes.{Write, made_inactive}
-use Rattle.qm_model.specs.Step.{Kind, committed}
+use Rattle.qm_model.specs.Step.{Kind, committed, evicted_of}
 use Rattle.qm_model.specs.Walk.{Limits, Rules, Walked, walk}
 use Rattle.qm_model.proofs.Decisions.{decided-live, decided-once}
 use Rattle.qm_model.proofs.OrderedLists.{some-map}
@@ -59,7 +59,7 @@ module _ {P : Type 0} (kind : Kind) (rules : Rules P) (policy next : P) (base : 
   abbrev walked : Walked P
   walked = walk rules (base ++ writes) (floor base) limits policy
 
-  module _ (ds : List Decided) (end : ℕ) (are : AreDecided base (base ++ writes) ds end next walked) (counts : CountsMoves kind.moves) where
+  module _ (ds : List Decided) (es : List (Bytes × Bytes)) (end : ℕ) (are : AreDecided base (base ++ writes) ds es end next walked) (counts : CountsMoves kind.moves) where
     abbrev decisions : List Operation
     decisions = kind.moves (base ++ writes) (map write_for ds)
 
@@ -85,7 +85,7 @@ module _ {P : Type 0} (kind : Kind) (rules : Rules P) (policy next : P) (base : 
         let list = ap (λ ops. length (live ops)) own-list in
         omega (arith, gone, shown, list, counted)
 
-    pub are-own : AreOwn kind rules policy next (made ++ map (touch_in base) (kind.moves (base ++ kind.writes base ws) (map write_for ds))) (behind - count_by (λ d. is_none d.value) ds) end base ws
+    pub are-own : AreOwn kind rules policy next (made ++ map (touch_in base) (kind.moves (base ++ kind.writes base ws) (map write_for ds))) es (behind - count_by (λ d. is_none d.value) ds) end base ws
     are-own = record {
       from = All-append (IsFrom base) made moved from (All-from_recursion (IsFrom base) moved (touched-from base decisions));
       count = own-count;
@@ -93,12 +93,13 @@ module _ {P : Type 0} (kind : Kind) (rules : Rules P) (policy next : P) (base : 
           ap (λ ops. committed ops end meta) own-list
           ∙ ap (λ (x : Walked P). committed ((base ++ writes) ++ kind.moves (base ++ writes) x.decisions) x.floor meta) are.makes;
       left = ap (λ (x : Walked P). x.policy) are.makes;
+      told = are.told ∙ ap (λ (x : Walked P). evicted_of (base ++ writes) x.decisions) are.makes;
     }
 
 -- a walk decides each key once
-pub decided-apart : {P : Type 0} (rules : Rules P) (base list : List Operation) (from : ℕ) (limits : Limits) (policy next : P) (ds : List Decided) (end : ℕ) → AreDecided base list ds end next (walk rules list from limits policy) →
+pub decided-apart : {P : Type 0} (rules : Rules P) (base list : List Operation) (from : ℕ) (limits : Limits) (policy next : P) (ds : List Decided) (es : List (Bytes × Bytes)) (end : ℕ) → AreDecided base list ds es end next (walk rules list from limits policy) →
     IsDistinct bytes_eq (map (λ d. d.key) (map write_for ds))
-decided-apart {P} rules base list from limits policy next ds end are =
+decided-apart {P} rules base list from limits policy next ds es end are =
     subst (λ (us : List Write). IsDistinct bytes_eq (map (λ (d : Write). d.key) us)) (sym (ap (λ (x : Walked P). x.decisions) are.makes)) (decided-once rules list from limits policy)
 
 -- the operations of writes stand after a base list and make the one with them

@@ -85,7 +85,7 @@ module _ {P : Type 0} (rules : Rules P) (list : List Operation) where
 
   -- a live update is decided as the policy says
   pub decides : (at e s : ℕ) (p : P) (key value : Bytes) (next : Option Bytes) → live_update_at list at ≡ Some (update key value next) →
-      walk_from rules (drop at list) at (suc e) s p ≡ decided (λ f e s p. walk_from rules (drop f list) f e s p) at e s key (rules.decide p at key value)
+      walk_from rules (drop at list) at (suc e) s p ≡ decided (λ f e s p. walk_from rules (drop f list) f e s p) at e s key (rules.decide p at (suc e) key value)
   decides at e s p key value next one = by (slice_get list at) refl one
     where
       answered : (answer : Action × P) → decided (walk_from rules (drop (at + 1) list)) at e s key answer ≡ decided (λ f e s p. walk_from rules (drop f list) f e s p) at e s key answer
@@ -93,12 +93,12 @@ module _ {P : Type 0} (rules : Rules P) (list : List Operation) where
       answered (stop, q) = refl
       answered (evict, q) = ap (noted key None) (next_is at e s q)
 
-      visit : (s : ℕ) (u : Live) → visited rules (walk_from rules (drop (at + 1) list)) at (suc e) s p (Some u) ≡ decided (walk_from rules (drop (at + 1) list)) at e s u.key (rules.decide p at u.key u.value)
+      visit : (s : ℕ) (u : Live) → visited rules (walk_from rules (drop (at + 1) list)) at (suc e) s p (Some u) ≡ decided (walk_from rules (drop (at + 1) list)) at e s u.key (rules.decide p at (suc e) u.key u.value)
       visit zero u = refl
       visit (suc s) u = refl
 
       here : (op : Operation) (u : Option Live) → live_at at op (drop (at + 1) list) ≡ u → option_map update_from u ≡ Some (update key value next) →
-          visited rules (walk_from rules (drop (at + 1) list)) at (suc e) s p (live_at at op (drop (at + 1) list)) ≡ decided (λ f e s p. walk_from rules (drop f list) f e s p) at e s key (rules.decide p at key value)
+          visited rules (walk_from rules (drop (at + 1) list)) at (suc e) s p (live_at at op (drop (at + 1) list)) ≡ decided (λ f e s p. walk_from rules (drop f list) f e s p) at e s key (rules.decide p at (suc e) key value)
       here op None is some = cc
       here op (Some u) is some =
           let same : update_from u ≡ update key value next = same_Some (update_from u) (update key value next) some in
@@ -106,10 +106,10 @@ module _ {P : Type 0} (rules : Rules P) (list : List Operation) where
           let value_is : u.value ≡ value = cc in
           ap (visited rules (walk_from rules (drop (at + 1) list)) at (suc e) s p) is
           ∙ visit s u
-          ∙ ap₂ (λ k v. decided (walk_from rules (drop (at + 1) list)) at e s k (rules.decide p at k v)) key_is value_is
-          ∙ answered (rules.decide p at key value)
+          ∙ ap₂ (λ k v. decided (walk_from rules (drop (at + 1) list)) at e s k (rules.decide p at (suc e) k v)) key_is value_is
+          ∙ answered (rules.decide p at (suc e) key value)
 
       by : (o : Option Operation) → slice_get list at ≡ o → option_and_then (λ op. option_map update_from (live_at at op (drop (at + 1) list))) o ≡ Some (update key value next) →
-          walk_from rules (drop at list) at (suc e) s p ≡ decided (λ f e s p. walk_from rules (drop f list) f e s p) at e s key (rules.decide p at key value)
+          walk_from rules (drop at list) at (suc e) s p ≡ decided (λ f e s p. walk_from rules (drop f list) f e s p) at e s key (rules.decide p at (suc e) key value)
       by None place some = cc
       by (Some op) place some = ap (λ ops. walk_from rules ops at (suc e) s p) (drop-here list at op place) ∙ here op (live_at at op (drop (at + 1) list)) refl some

@@ -21,13 +21,13 @@ commit-change : (base own : List Operation) (m : Option Bytes) (f : ℕ) (q : By
 commit-change base own m f q = change-push base own q (commit m f)
 
 -- the plan of own operations with a commit after them
-pub own-plan : (base own : List Operation) (changes : Changes) (live_keys place end : ℕ) (meta : Option Bytes) → live_keys ≡ length (live (base ++ own)) → place ≡ (if live_keys == 0 then length (base ++ own) else end) →
+pub own-plan : (base own : List Operation) (changes : Changes) (evicted : List (Bytes × Bytes)) (live_keys place end : ℕ) (meta : Option Bytes) → live_keys ≡ length (live (base ++ own)) → place ≡ (if live_keys == 0 then length (base ++ own) else end) →
     AreChanges changes base (base ++ own) →
-    IsPlan (record { operations = own ++ commit meta place ∷ []; changes = changes; floor = place; live = live_keys }) base (committed (base ++ own) end meta)
-own-plan base own changes live_keys place end meta count at are =
+    IsPlan (record { operations = own ++ commit meta place ∷ []; changes = changes; floor = place; live = live_keys; evicted = evicted }) base (committed (base ++ own) end meta) evicted
+own-plan base own changes evicted live_keys place end meta count at are =
     let ops = base ++ own in
     let is : (if length (live ops) == 0 then length ops else end) ≡ place = ap (λ n. if n == 0 then length ops else end) (sym count) ∙ sym at in
-    subst (λ n. IsPlan (record { operations = own ++ commit meta place ∷ []; changes = changes; floor = place; live = live_keys }) base (ops ++ commit meta n ∷ [])) (sym is)
+    subst (λ n. IsPlan (record { operations = own ++ commit meta place ∷ []; changes = changes; floor = place; live = live_keys; evicted = evicted }) base (ops ++ commit meta n ∷ []) evicted) (sym is)
     (record {
       operations = sym (ap (drop (length base)) (append_assoc base own (commit meta place ∷ [])) ∙ drop_at base (own ++ commit meta place ∷ []) (length base) refl);
       changes = record {
@@ -36,4 +36,5 @@ own-plan base own changes live_keys place end meta count at are =
       };
       floor = sym (floor-last 0 ops meta place);
       live = count ∙ sym (ap length (live-commit ops meta place));
+      told = refl;
     })

@@ -3,7 +3,7 @@ use Rattle.std.specs.Prelude.{◌≡◌, ℕ, List, ◌++◌, length, All, Optio
 use Rattle.std.specs.BTreeSet.{BTreeSet}
 use Rattle.qm_model.specs.Operations.{Bytes, Operation}
 use Rattle.qm_model.specs.Live.{live}
-use Rattle.qm_model.specs.Step.{Kind, committed, policy_after, step}
+use Rattle.qm_model.specs.Step.{Kind, committed, evicted_by, policy_after, step}
 use Rattle.qm_model.specs.Walk.{Rules}
 use Rattle.qm_model.specs.Writes.{Write}
 use Rattle.qm_batch.specs.declared.plan.walk.Found as found
@@ -38,12 +38,13 @@ abbrev pub found_view : {U : Type 0} → (U → Operation) → found.Found U →
 found_view update_view f = record { operation = update_view f.update; before = f.before }
 
 -- these own operations of a step touch keys of its base list, leave so many keys live, and make with a floor the step's
--- list; the policy before it and after it is this one
-pub record AreOwn {P : Type 0} (kind : Kind) (rules : Rules P) (policy next : P) (touches : List Touch) (keys end : ℕ) (base : List Operation) (ws : List Write) : Type 0 where
+-- list; the policy before it and after it is this one, and these are the keys that it evicts
+pub record AreOwn {P : Type 0} (kind : Kind) (rules : Rules P) (policy next : P) (touches : List Touch) (evicted : List (Bytes × Bytes)) (keys end : ℕ) (base : List Operation) (ws : List Write) : Type 0 where
   pub from : All (IsFrom base) touches
   pub count : keys ≡ length (live (base ++ operations_of touches))
   pub list : (meta : Option Bytes) → committed (base ++ operations_of touches) end meta ≡ step kind rules base ws policy meta
   pub left : next ≡ policy_after kind rules base ws policy
+  pub told : evicted ≡ evicted_by kind rules base ws policy
 
 module _ {U K V : Type 0} (update_view : U → Operation) (key : K → Bytes) (value : V → Bytes) where
   -- what a walk goes over

@@ -8,14 +8,14 @@ ghost use Rattle.qm_operations.specs.Views.{operation_view};
 ghost use Rattle.qm_model.specs.Bits.{bits};
 ghost use Rattle.qm_model.specs.Live as lives;
 ghost use Rattle.qm_model.specs.Operations as model;
-ghost use Rattle.qm_model.specs.Step.{committed, policy_after, step};
+ghost use Rattle.qm_model.specs.Step.{committed, evicted_by, policy_after, step};
 ghost use Rattle.qm_model.specs.Writes as writes;
 ghost use Rattle.qm_step.specs.Bases.{base_view, IsBase};
 ghost use Rattle.qm_step.specs.Going.{write_for, IsDecided};
 ghost use Rattle.qm_step.specs.Kinds.{kind_of, AreWritten, CountsMoves, HasRing};
 ghost use Rattle.qm_base.specs.Reads.{ReadsItems};
 ghost use Rattle.qm_step.specs.Lent.{IsLent, IsWhole, ReadsLent};
-ghost use Rattle.qm_step.specs.PlanViews.{decided_views, touch_views};
+ghost use Rattle.qm_step.specs.PlanViews.{decided_views, pair_views, touch_views};
 ghost use Rattle.qm_batch.specs.PlanPaths.{AreOwn};
 ghost use Rattle.qm_step.specs.Rings.{touch_in};
 ghost use Rattle.qm_step.specs.Touches.{IsFrom, operations_of};
@@ -53,23 +53,28 @@ pub struct Plan<F, U: Update> {
     pub floor: Location<F>,
     /// How many keys are live in it.
     pub live: u64,
+    /// The keys that the walk evicted, in its order, each with the value that it had.
+    pub evicted: Vec<(U::Key, U::Value)>,
 }
 
 impl<F, U: Update> Model for Plan<F, U> {
     ghost use Rattle.qm_operations.specs.Views.{operation_views};
+    ghost use Rattle.qm_step.specs.PlanViews.{pair_views};
     ghost use Rattle.qm_step.specs.Views.{Plan, changes_view};
 
     ghost Value = { Plan };
 
-    ghost view = { λ p. record { operations = operation_views U.view U.Key.bytes U.Value.bytes p.operations.items; changes = changes_view U.Key.bytes U.Value.bytes p.diff; floor = p.floor; live = p.live } };
+    ghost view = { λ p. record { operations = operation_views U.view U.Key.bytes U.Value.bytes p.operations.items; changes = changes_view U.Key.bytes U.Value.bytes p.diff; floor = p.floor; live = p.live; evicted = pair_views U.Key.bytes U.Value.bytes p.evicted.items } };
 }
 
-/// The own operations of a step without its commit, how many keys they leave live, and where the walk ended.
+/// The own operations of a step without its commit, how many keys they leave live, where the walk ended, and the keys that it
+/// evicted, each with the value that it had.
 #[derive(Drop)]
 struct Own<F, U: Update> {
     touches: Vec<Touch<F, U>>,
     live: u64,
     floor: u64,
+    evicted: Vec<(U::Key, U::Value)>,
 }
 
 // How many of the operations are of keys that stood in the base list.
@@ -152,11 +157,16 @@ fn own_of<F, I: qm_index::Unordered<Value = Location<F>>, L: Items, U: Steps<F, 
     ensures live { IfOk result (λ own.
         own.live ≡ behind - count_by (λ d. is_none d.value) walked.decided.items) }
     ensures floor { IfOk result (λ own. own.floor ≡ walked.floor) }
+    ensures evicted { IfOk result (λ own. own.evicted ≡ walked.evicted) }
     ensures count { IfOk result (λ own. length made.items ≤ length own.touches.items) }
     ensures reads { ReadsLent L.reads U.form I.index_key (I.entries index.now) log.old log.new
         result }
 {
-    let Walked { decided, floor } = walked;
+    let Walked {
+        decided,
+        evicted: told,
+        floor,
+    } = walked;
     let live = behind.saturating_sub(evicted(&decided) as u64);
     let found = befores_of(alloc, index, log, base, &made, &decided)?;
     let touches = U::moved(alloc, base.size, made, decided, &found)?;
@@ -164,6 +174,7 @@ fn own_of<F, I: qm_index::Unordered<Value = Location<F>>, L: Items, U: Steps<F, 
         touches,
         live,
         floor,
+        evicted: told,
     })
 }
 
@@ -194,7 +205,7 @@ fn own_along<
         → HasRing U.form list
         → IfSome (L.reads.told log.old) (λ _. IfOk result (λ own. AreOwn (kind_of U.form) P.rules
         policy.old policy.new (touch_views U.view U.Key.bytes U.Value.bytes own.touches.items)
-        own.live own.floor list ws)) }
+        (pair_views U.Key.bytes U.Value.bytes own.evicted.items) own.live own.floor list ws)) }
     ensures count { IfOk result (λ own. own.live ≤ base.now.size + length own.touches.items) }
     ensures reads { ReadsItems L.reads log.old log.new result
         (IsWhole L.reads U.form I.index_key (I.entries index.now) log.old
@@ -232,7 +243,8 @@ fn own_operations<
         → AreReads U.view U.Key.bytes wanted.now.reads.now list
         → IfSome (L.reads.told log.old) (λ _. IfOk result (λ own. AreOwn (kind_of U.form) P.rules
         policy.old policy.new (touch_views U.view U.Key.bytes U.Value.bytes own.touches.items)
-        own.live own.floor list (wanted_view U.Key.bytes U.Value.bytes wanted.now))) }
+        (pair_views U.Key.bytes U.Value.bytes own.evicted.items) own.live own.floor list
+        (wanted_view U.Key.bytes U.Value.bytes wanted.now))) }
     ensures count { IfOk result (λ own. own.live ≤ base.now.size + length own.touches.items) }
     ensures reads { ReadsItems L.reads log.old log.new result
         (IsWhole L.reads U.form I.index_key (I.entries index.now) log.old
@@ -285,7 +297,8 @@ fn planned<F, U: Update>(
         (base ++ operations_of (touch_views U.view U.Key.bytes U.Value.bytes own.touches.items)))
         → IsPlan plan base (committed
         (base ++ operations_of (touch_views U.view U.Key.bytes U.Value.bytes own.touches.items))
-        own.floor (option_map U.Value.bytes metadata))) }
+        own.floor (option_map U.Value.bytes metadata))
+        (pair_views U.Key.bytes U.Value.bytes own.evicted.items)) }
     ensures memory { IfErr result (λ e. e ≡ Error.Memory) }
 {
     let diff = diff_of_touches(alloc, size, &own.touches)?;
@@ -297,13 +310,15 @@ fn planned<F, U: Update>(
         diff,
         floor: Location::new(floor),
         live: own.live,
+        evicted: own.evicted,
     })
 }
 
 /// What writes and metadata make of the base list of a batch: the operations of the writes, then what the policy decides
 /// of the live updates from the floor on, then a commit. Index, log and candidates are lent for the base list or a list on
-/// the way to it. Each write takes one look-up; each candidate that the walk comes to takes one read, if no layer has it.
-/// If this is refused the policy may have moved on.
+/// the way to it. Each write takes one look-up; each candidate that the walk comes to takes one read, if no layer has it. A
+/// policy that evicts takes two copies, of a key and its value, for each live update that the walk comes to. If this is
+/// refused the policy may have moved on.
 #[allow(clippy::too_many_arguments)]
 pub fn plain<
     F,
@@ -330,7 +345,9 @@ pub fn plain<
         → HasRing U.form lent → HasRing U.form list
         → IfSome (L.reads.told log.old) (λ _. IfOk result (λ plan. IsPlan plan list
         (step (kind_of U.form) P.rules list (map (write_view U.Key.bytes U.Value.bytes) writes.now)
-        policy.old (option_map U.Value.bytes metadata)))) }
+        policy.old (option_map U.Value.bytes metadata))
+        (evicted_by (kind_of U.form) P.rules list
+        (map (write_view U.Key.bytes U.Value.bytes) writes.now) policy.old))) }
     ensures next { (lent list : List model.Operation)
         → IsLent L.reads U.form I.index_key (I.entries index.now) log.old lent
         → B.activity candidates.now ≡ bits lent → IsBase (base_view base.now) lent list
@@ -384,7 +401,9 @@ pub fn staged<
         → AreReads U.view U.Key.bytes wanted.entry.reads.now list
         → IfSome (L.reads.told log.old) (λ _. IfOk result (λ plan. IsPlan plan list
         (step (kind_of U.form) P.rules list (wanted_view U.Key.bytes U.Value.bytes wanted.entry)
-        policy.old (option_map U.Value.bytes metadata)))) }
+        policy.old (option_map U.Value.bytes metadata))
+        (evicted_by (kind_of U.form) P.rules list
+        (wanted_view U.Key.bytes U.Value.bytes wanted.entry) policy.old))) }
     ensures next { (lent list : List model.Operation)
         → IsLent L.reads U.form I.index_key (I.entries index.now) log.old lent
         → B.activity candidates.now ≡ bits lent → IsBase (base_view base.now) lent list

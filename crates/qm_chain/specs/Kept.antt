@@ -10,10 +10,10 @@ write-evict value h = cc
 stop-evict : stop ≡ evict → ⊥
 stop-evict h = cc
 
-pub keeping : {P : Type 0} (limits : P → ℕ → Limits) (p : P) (location : ℕ) (key value : Bytes) → false ≡ false →
-    Keeps (record { limits = limits; decide = λ p location key value. (write value, p) }) (λ _. false) p location key value
-keeping limits p location key value calm = record { not_evicted = write-evict value; kept = refl }
+pub keeping : {P : Type 0} (limits : P → ℕ → Limits) (p : P) (location remaining : ℕ) (key value : Bytes) → false ≡ false →
+    Keeps (record { limits = limits; decide = λ p location remaining key value. (write value, p) }) (λ _. false) p location remaining key value
+keeping limits p location remaining key value calm = record { not_evicted = write-evict value; kept = refl }
 
-pub stopping : {P : Type 0} (limits : P → ℕ → Limits) (p : P) (location : ℕ) (key value : Bytes) → false ≡ false →
-    Keeps (record { limits = limits; decide = λ p location key value. (stop, p) }) (λ _. false) p location key value
-stopping limits p location key value calm = record { not_evicted = stop-evict; kept = refl }
+pub stopping : {P : Type 0} (limits : P → ℕ → Limits) (p : P) (location remaining : ℕ) (key value : Bytes) → false ≡ false →
+    Keeps (record { limits = limits; decide = λ p location remaining key value. (stop, p) }) (λ _. false) p location remaining key value
+stopping limits p location remaining key value calm = record { not_evicted = stop-evict; kept = refl }

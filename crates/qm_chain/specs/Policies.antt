@@ -12,6 +12,6 @@ action_view value Stop = stop
 action_view value Evict = evict
 
 -- the policy does not evict, and neither does what it becomes
-pub record Keeps {P : Type 0} (rules : Rules P) (evicts : P → Bool) (p : P) (location : ℕ) (key value : Bytes) : Type 0 where
-  pub not_evicted : (rules.decide p location key value).0 ≡ evict → ⊥
-  pub kept : evicts (rules.decide p location key value).1 ≡ false
+pub record Keeps {P : Type 0} (rules : Rules P) (evicts : P → Bool) (p : P) (location remaining : ℕ) (key value : Bytes) : Type 0 where
+  pub not_evicted : (rules.decide p location remaining key value).0 ≡ evict → ⊥
+  pub kept : evicts (rules.decide p location remaining key value).1 ≡ false

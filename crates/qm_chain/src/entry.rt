@@ -13,6 +13,7 @@ pub struct Entry<'a, F, K, V> {
     location: Location<F>,
     key: &'a K,
     value: V,
+    remaining: usize,
 }
 
 impl<'a, F, K, V> Model for Entry<'a, F, K, V> {
@@ -20,18 +21,19 @@ impl<'a, F, K, V> Model for Entry<'a, F, K, V> {
 
     ghost Value = { Seen K V };
 
-    ghost view = { λ e. record { location = e.location; key = e.key.now; value = e.value } };
+    ghost view = { λ e. record { location = e.location; key = e.key.now; value = e.value; remaining = e.remaining } };
 }
 
 impl<'a, F, K, V> Entry<'a, F, K, V> {
-    /// The entry of a live update.
-    pub fn new(location: Location<F>, key: &'a K, value: V) -> Self
-        ensures { result ≡ record { location = location; key = key.now; value = value } }
+    /// The entry of a live update, before whose decision so many entries are left.
+    pub fn new(location: Location<F>, key: &'a K, value: V, remaining: usize) -> Self
+        ensures { result ≡ record { location = location; key = key.now; value = value; remaining = remaining } }
     {
         Entry {
             location,
             key,
             value,
+            remaining,
         }
     }
 
@@ -54,6 +56,13 @@ impl<'a, F, K, V> Entry<'a, F, K, V> {
         ensures { result.now ≡ self.now.value }
     {
         &self.value
+    }
+
+    /// How many entries the walk has left before this decision, this one included.
+    pub fn remaining(&self) -> usize
+        ensures { result ≡ self.now.remaining }
+    {
+        self.remaining
     }
 
     /// Writes the key again with its value, and goes on.

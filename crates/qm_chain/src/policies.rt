@@ -29,11 +29,11 @@ pub struct Bounded {
 }
 
 impl<F, K: ByteString, V: ByteString> Policy<F, K, V> for Proportional {
-    ghost rules = { record { limits = λ p n. record { entries = min (n + 1) (2 ^ 64 - 1); skips = 2 ^ 64 - 1 }; decide = λ p location key value. (write value, p) } };
+    ghost rules = { record { limits = λ p n. record { entries = min (n + 1) (2 ^ 64 - 1); skips = 2 ^ 64 - 1 }; decide = λ p location remaining key value. (write value, p) } };
 
     ghost may_evict = { λ _. false };
 
-    ghost keeps = { λ p location key value. keeping _ p location key value };
+    ghost keeps = { λ p location remaining key value. keeping _ p location remaining key value };
 
     fn evicts(&self) -> bool {
         false
@@ -60,11 +60,11 @@ impl<F, K: ByteString, V: ByteString> Policy<F, K, V> for Proportional {
 }
 
 impl<F, K: ByteString, V: ByteString> Policy<F, K, V> for Hold {
-    ghost rules = { record { limits = λ p n. record { entries = 0; skips = 0 }; decide = λ p location key value. (stop, p) } };
+    ghost rules = { record { limits = λ p n. record { entries = 0; skips = 0 }; decide = λ p location remaining key value. (stop, p) } };
 
     ghost may_evict = { λ _. false };
 
-    ghost keeps = { λ p location key value. stopping _ p location key value };
+    ghost keeps = { λ p location remaining key value. stopping _ p location remaining key value };
 
     fn evicts(&self) -> bool {
         false
@@ -90,11 +90,11 @@ impl<F, K: ByteString, V: ByteString> Policy<F, K, V> for Hold {
 }
 
 impl<F, K: ByteString, V: ByteString> Policy<F, K, V> for Bounded {
-    ghost rules = { record { limits = λ p n. record { entries = p.entries; skips = p.skips }; decide = λ p location key value. (write value, p) } };
+    ghost rules = { record { limits = λ p n. record { entries = p.entries; skips = p.skips }; decide = λ p location remaining key value. (write value, p) } };
 
     ghost may_evict = { λ _. false };
 
-    ghost keeps = { λ p location key value. keeping _ p location key value };
+    ghost keeps = { λ p location remaining key value. keeping _ p location remaining key value };
 
     fn evicts(&self) -> bool {
         false

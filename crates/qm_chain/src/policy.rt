@@ -43,12 +43,12 @@ pub trait Policy<F, K: ByteString, V: ByteString>: Drop {
         live: Entry<'a, F, K, V>,
     ) -> Result<Decision<'a, V>, AllocError>
         ensures action { IfOk result (λ d. action_view V.bytes d
-            ≡ (rules.decide self.old live.entry.location (K.bytes live.entry.key)
-            (V.bytes live.entry.value)).0) }
+            ≡ (rules.decide self.old live.entry.location live.entry.remaining
+            (K.bytes live.entry.key) (V.bytes live.entry.value)).0) }
         ensures next { IfOk result (λ _. self.new
-            ≡ (rules.decide self.old live.entry.location (K.bytes live.entry.key)
-            (V.bytes live.entry.value)).1) };
+            ≡ (rules.decide self.old live.entry.location live.entry.remaining
+            (K.bytes live.entry.key) (V.bytes live.entry.value)).1) };
 
     /// If it may not evict, it does not, and may not after it decided.
-    ghost keeps: { (p : Self) (location : ℕ) (key value : List ℕ) → may_evict p ≡ false → Keeps rules may_evict p location key value };
+    ghost keeps: { (p : Self) (location remaining : ℕ) (key value : List ℕ) → may_evict p ≡ false → Keeps rules may_evict p location remaining key value };
 }

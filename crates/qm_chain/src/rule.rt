@@ -11,9 +11,9 @@ use crate::policy::{Limits, Policy};
 use qm_base::{ByteString, Twin, twin_option};
 use std::alloc::{AllocError, Global};
 
-/// Within these limits, drops a value, stops at a value, or swaps a value for another. It tests them in this order, and keeps
-/// a value that is none of them; values are compared by their bytes. A value that is written by a swap is copied, which may
-/// take memory.
+/// Within these limits, drops a value, unless it spares the last entries, stops at a value, or swaps a value for another. It
+/// tests them in this order, and keeps a value that is none of them; values are compared by their bytes. A value that is
+/// written by a swap is copied, which may take memory.
 #[derive(Drop)]
 pub struct Rule<V> {
     /// How many live updates it may decide.
@@ -26,6 +26,8 @@ pub struct Rule<V> {
     pub stop: Option<V>,
     /// The value that is swapped, and the one that is written for it.
     pub swap: Option<(V, V)>,
+    /// No value is dropped if no more entries are left than this, the one to be decided included.
+    pub spare: Option<u64>,
 }
 
 // Whether a value is this one.
@@ -68,16 +70,28 @@ fn swapped<'a, F, K, V: ByteString>(
     }
 }
 
+// Whether nothing is spared with so many entries left.
+fn is_unspared(spare: Option<u64>, remaining: usize) -> bool
+    ensures { result ≡ model.is_unspared spare remaining }
+{
+    match spare {
+        None => true,
+        Some(spare) => spare < remaining as u64,
+    }
+}
+
 // Decides an entry.
 fn decided<'a, F, K, V: ByteString>(
     alloc: Global,
     rule: &Rule<V>,
     live: Entry<'a, F, K, V>,
 ) -> Result<Decision<'a, V>, AllocError>
-    ensures { IfOk result (λ d.
-        action_view V.bytes d ≡ rule_action V.bytes rule.now (V.bytes live.entry.value)) }
+    ensures { IfOk result (λ d. action_view V.bytes d
+        ≡ rule_action V.bytes rule.now live.entry.remaining (V.bytes live.entry.value)) }
 {
-    if is_it(&rule.drop, live.value()) {
+    let is_dropped = is_it(&rule.drop, live.value());
+    let is_unspared = is_unspared(rule.spare, live.remaining());
+    if is_dropped && is_unspared {
         let (decision, _value) = live.evict();
         return Ok(decision);
     }
@@ -92,7 +106,7 @@ impl<F, K: ByteString, V: ByteString> Policy<F, K, V> for Rule<V> {
 
     ghost may_evict = { may_drop };
 
-    ghost keeps = { λ p location key value keeps_all. rule_keeps V.bytes p location key value keeps_all };
+    ghost keeps = { λ p location remaining key value keeps_all. rule_keeps V.bytes p location remaining key value keeps_all };
 
     fn evicts(&self) -> bool {
         self.drop.is_some()
@@ -110,8 +124,8 @@ impl<F, K: ByteString, V: ByteString> Policy<F, K, V> for Rule<V> {
         alloc: Global,
         live: Entry<'a, F, K, V>,
     ) -> Result<Decision<'a, V>, AllocError>
-        ensures action { IfOk result (λ d.
-            action_view V.bytes d ≡ rule_action V.bytes self.old (V.bytes live.entry.value)) }
+        ensures action { IfOk result (λ d. action_view V.bytes d
+            ≡ rule_action V.bytes self.old live.entry.remaining (V.bytes live.entry.value)) }
         ensures next { IfOk result (λ _. self.new ≡ self.old) }
     {
         decided(alloc, self, live)
@@ -146,6 +160,7 @@ impl<V: ByteString> Twin for Rule<V> {
             drop,
             stop,
             swap,
+            spare: self.spare,
         })
     }
 }

@@ -85,27 +85,29 @@ module _ {X C B S M : Type 0} (means : meaning.Ghosts X C B S M) (grafts : Graft
       let here : (number == chain.instance) ≡ true = subst (λ k. (k == chain.instance) ≡ true) (numbers n is) (subst (λ g. takes g n chain.instance ≡ true) grafted took) in
       apart (sym (decided ∙ ap (λ b. b && fit) here ∙ fits-on_chain means.scheme.root list chain on) ∙ off)
 
-  pub makes : {D : Type 0} (members : store.Ghosts C) (was is : Log C D) (own tip : List Operation) (r : Result M Error)
+  pub makes : {D : Type 0} (members : store.Ghosts C) (was is : Log C D) (own tip : List Operation) (pairs evicted : List (Bytes × Bytes)) (r : Result M Error)
       → own ≡ tip
+      → pairs ≡ evicted
       → IfOk r (λ _. can ≡ true)
-      → (chain.instance ≡ number → IsOnChain list chain → IfOk r (λ b. means.is_merkleized b chain own))
+      → (chain.instance ≡ number → IsOnChain list chain → IfOk r (λ b. means.is_merkleized b chain own × (means.evictions b ≡ pairs)))
       → (chain.instance ≡ number → IsOnChain list chain → IfOk r (λ _. IsTaken means.scheme.form chain.base own))
       → (chain.instance ≡ number → IsOnChain list chain → IfErr r (λ e. IsRefused means.scheme.form chain.base own e ⊎ IsReadError members was is e))
       → IfErr r (λ e. e ≡ errors.StaleBatch → can ≡ false)
       → IfErr r (λ e. e ≢ errors.Memory → e ≢ errors.StaleBatch → can ≡ true)
       → (IsOnChain list chain → IfErr r IsOfKeptItem)
-      → Makes means members old list chain tip r
-  makes members was is own tip (Ok b) same fitted made taken refused stale order whole = record {
+      → Makes means members old list chain tip evicted r
+  makes members was is own tip pairs evicted (Ok b) same told fitted made taken refused stale order whole = record {
     instance = own-chain fitted;
     fit = (both fitted).1;
     made = λ here. (
       taken-offered means.scheme.form chain tip (subst (λ t. IsTaken means.scheme.form chain.base t) same (taken (sym (same-number fitted)) here)),
-      subst (λ t. means.is_merkleized b chain t) same (made (sym (same-number fitted)) here),
+      subst (λ t. means.is_merkleized b chain t) same (made (sym (same-number fitted)) here).0,
+      (made (sym (same-number fitted)) here).1 ∙ told,
     );
     stale = tt;
     refused = tt;
   }
-  makes members was is own tip (Err e) same fitted made taken refused stale order whole = record {
+  makes members was is own tip pairs evicted (Err e) same told fitted made taken refused stale order whole = record {
     instance = tt;
     fit = tt;
     made = tt;

@@ -59,6 +59,10 @@ module _ {D : Type 0} (hashing : Hashing D) (chunk : ℕ) where
     pub kept : IsKept hashing.bytes hashing.hash hashing.shape chunk hashing.form batch.kept tip (anys.bases_of chain)
     pub numbered : batch.instance ≡ chain.instance
 
+  -- the same, and these are the keys that its step evicted, each with the value that it had
+  abbrev pub IsMadeWith : Made D → Chain → List Operation → List (Bytes × Bytes) → Type 0
+  IsMadeWith batch chain tip evicted = IsMade batch chain tip × (batch.any.evicted ≡ evicted)
+
   -- the batch is of this chain, and its parent of that one
   pub record IsBegun (batch : Begun D) (chain above : Chain) : Type 0 where
     pub any : anys.IsBegun hashing batch.any chain above

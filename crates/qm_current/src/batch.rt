@@ -5,6 +5,7 @@ ghost use Rattle.qm_model.specs.Batches.{Chain, child_of};
 ghost use Rattle.qm_model.specs.Live as lives;
 ghost use Rattle.qm_model.specs.Operations.{Operation};
 ghost use Rattle.qm_model.specs.Writes.{read_through};
+ghost use Rattle.qm_step.specs.PlanViews.{pair_views};
 ghost use Rattle.qm_any.specs.Layouts.{Hashing};
 ghost use Rattle.qm_any.specs.Reading.{AtBegun, AtMade, ReadsThrough};
 ghost use Rattle.qm_current.specs.Databases.{IsBegun, IsMade};
@@ -132,6 +133,14 @@ impl<F: Graftable, D: Digest, U: Update, N: Chunks> MerkleizedBatch<F, D, U, N> 
         ensures { D.bytes result ≡ self.now.any.bounds.tip.root }
     {
         self.any.root()
+    }
+
+    /// The keys that the batch's step evicted, in the order of the walk, each with the value that it had; none of a database as
+    /// a batch.
+    pub fn evicted(&self) -> &[(U::Key, U::Value)]
+        ensures { pair_views U.Key.bytes U.Value.bytes result.now ≡ self.now.any.evicted }
+    {
+        self.any.evicted()
     }
 
     /// The any batch.

@@ -9,7 +9,7 @@ ghost use Rattle.qm_any.specs.Making.{IsMaking, IsUnmade, making_of};
 ghost use Rattle.qm_any.specs.Reading as readings;
 ghost use Rattle.qm_any.specs.Reading.{AtList, IsOfKeptItem};
 ghost use Rattle.qm_roots.specs.Kept.{IsKept};
-ghost use Rattle.qm_current.specs.Databases.{AreSized, IsDatabase, IsJoined, IsMade};
+ghost use Rattle.qm_current.specs.Databases.{AreSized, IsDatabase, IsJoined, IsMadeWith};
 ghost use Rattle.qm_current.specs.Making.{IsLeft, OnBegun, can_make};
 
 use crate::batch::{MerkleizedBatch, UnmerkleizedBatch};
@@ -52,7 +52,7 @@ impl<F: Graftable, D: Digest, U: Update, N: Chunks> UnmerkleizedBatch<F, D, U, N
             (λ chain. IsMaking C.Store U.form
             (making_of P.rules policy.old self.any.writes (option_map U.Value.bytes metadata)) chain
             policy.new db.old.any.log db.new.any.log result (λ b.
-            IsMade ⟦<AnyDb<F, C, I, H, U, N> as LaidOut>⟧.layout.hashing N.LEN b.value chain)) }
+            IsMadeWith ⟦<AnyDb<F, C, I, H, U, N> as LaidOut>⟧.layout.hashing N.LEN b.value chain)) }
         ensures numbered { IfOk result (λ b. b.value.instance ≡ self.instance) }
         ensures child { IfOk result (λ b.
             anys.IsChild self.any.parent self.any.keep b.value.any) }

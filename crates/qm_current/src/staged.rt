@@ -9,7 +9,7 @@ ghost use Rattle.qm_any.specs.Databases.{staged_keys};
 ghost use Rattle.qm_any.specs.Making.{IsMaking, IsUnmade, making_of};
 ghost use Rattle.qm_any.specs.Reading as readings;
 ghost use Rattle.qm_any.specs.Reading.{AtList, IsOfKeptItem, ReadsThrough, AtBegun, AtStaged};
-ghost use Rattle.qm_current.specs.Databases.{IsMade, begun_of};
+ghost use Rattle.qm_current.specs.Databases.{IsMadeWith, begun_of};
 ghost use Rattle.qm_current.specs.Making.{IsLeft, OnStaged, can_make};
 
 use crate::batch::{MerkleizedBatch, UnmerkleizedBatch};
@@ -152,7 +152,7 @@ impl<F: Graftable, D: Digest, U: Update, N: Chunks> Staged<F, D, U, N> {
             (slot_views U.Value.bytes slots.now) (write_views U.Key.bytes U.Value.bytes others.now))
             (option_map U.Value.bytes metadata)) chain
             policy.new db.old.any.log db.new.any.log result (λ b.
-            IsMade ⟦<AnyDb<F, C, I, H, U, N> as LaidOut>⟧.layout.hashing N.LEN b.value chain)) }
+            IsMadeWith ⟦<AnyDb<F, C, I, H, U, N> as LaidOut>⟧.layout.hashing N.LEN b.value chain)) }
         ensures child { IfOk result (λ b. (b.value.instance ≡ self.instance)
             × anys.IsChild self.any.batch.parent self.any.batch.keep b.value.any) }
         ensures unmade { IfErr result

@@ -32,7 +32,7 @@ use Rattle.qm_lines.specs.declared.command.StoreCommand.TheVariants as stored
 use Rattle.qm_lines.specs.Policies.{policy_view, rules_of}
 use Rattle.qm_lines.specs.Parsed.{byte_line}
 use Rattle.qm_lines.specs.Views.{line_view}
-use Rattle.qm_lines.proofs.SameWalks.{same_step}
+use Rattle.qm_lines.proofs.SameWalks.{same_step, same_evicted}
 use Rattle.qm_lines.proofs.Inputs.{IsAt, at_within, at_command, at_more, at_bad}
 use Rattle.qm_engine.specs.Stores.{HasLog, IsLeft}
 use Rattle.qm_store.specs.declared.Store as stores
@@ -85,6 +85,7 @@ relabelled_read (reads.Keys low high) = refl
 
 relabelled_info : (c : InfoCommand Bytes) → relabelled policy_view (own_line (commands.Info c)) ≡ byte_line (commands.Info c)
 relabelled_info (infos.Ops h) = refl
+relabelled_info (infos.Evicted h) = refl
 relabelled_info infos.Info = refl
 relabelled_info (infos.BatchInfo h) = refl
 relabelled_info infos.Root = refl
@@ -113,7 +114,7 @@ relabelled_line (commands.Info c) = relabelled_info c
 relabelled_line (commands.Store c) = relabelled_store c
 
 pub same_turn : (m : Scheme) (s : State) (c : Command Bytes Bytes AnyPolicy) → turn m rules_of s (own_line c) ≡ turn m policies s (byte_line c)
-same_turn m s c = turn_relabelled policy_view rules_of policies same_step m s (own_line c) ∙ ap (turn m policies s) (relabelled_line c)
+same_turn m s c = turn_relabelled policy_view rules_of policies same_step same_evicted m s (own_line c) ∙ ap (turn m policies s) (relabelled_line c)
 
 -- which takes the same of the choices to come
 pub same_chosen : (c : Command Bytes Bytes AnyPolicy) (more : List ℕ) → IsChosen (own_line c) more → IsChosen (byte_line c) more

@@ -39,7 +39,7 @@ use Rattle.qm_engine.specs.declared.session.Turn.TheVariants.{Reply}
 use Rattle.qm_engine.specs.Table.{writing_of, merkleized_of}
 use Rattle.qm_engine.specs.Turn.{turn_of_error}
 use Rattle.qm_store.specs.Refusals.{refusal_of}
-use Rattle.qm_offer.specs.Words.{AtBatch, AtTip, Fits, Makes, tip_of}
+use Rattle.qm_offer.specs.Words.{AtBatch, AtTip, Fits, Makes, evictions_of, tip_of}
 use Rattle.qm_engine.specs.Making.{made_into, TakesOf, IsMaking}
 use Rattle.qm_machine.specs.Sound.{IsSoundSlot, IsSteady}
 use Rattle.qm_engine.specs.Stores.{HasLog, IsLeft}
@@ -77,7 +77,7 @@ module _ {X C B S M K V D : Type 0} (members : stores.Ghosts C) (means : meaning
       → ((chain : Chain) (tip : List Operation) → means.is_merkleized batch chain tip → means.is_batch made (child_of keep chain tip) chain [])
       → ((new : machine.Slot) → SlotIs members means s.had (Writing made) new → Q (started s new))
       → Q (start_child s h keep b)
-  child_in Q h keep batch made s (Merkleized w) (machine.merkleized chain tip) is e begun each =
+  child_in Q h keep batch made s (Merkleized w) (machine.merkleized chain tip evicted) is e begun each =
       let same : w ≡ batch = cc in
       each (machine.writing (child_of keep chain tip) chain [])
       (begun chain tip (subst (λ v. means.is_merkleized v chain tip) same is.0), child-among s.had keep chain tip is.1 is.2, is.1)
@@ -121,7 +121,7 @@ module _ {X C B S M K V D : Type 0} (members : stores.Ghosts C) (means : meaning
       apply_none (Database x) table opened h list s k (get_or table h Gone) (slot_at s.table h) (k.slots h) e)
 
   -- the tip list of a batch whose number is used up
-  module _ (held : Given X C) (table : List (Slot B S M)) (opened h : ℕ) (s : State) (list : List Operation) (chain : Chain) (tip : List Operation)
+  module _ (held : Given X C) (table : List (Slot B S M)) (opened h : ℕ) (s : State) (list : List Operation) (chain : Chain) (tip : List Operation) (evicted : List (Bytes × Bytes))
       (k : Holds members means held table opened (with_slot s h machine.gone)) (in_had : Contains s.had list) (among : IsAmong s.had chain) where
     -- it is on the chain if it fits, also beside the list that is made
     on_chain : Apart root s.had → fits root (commitment root list) chain ≡ true → IsOnChain list chain
@@ -131,12 +131,12 @@ module _ {X C B S M K V D : Type 0} (members : stores.Ghosts C) (means : meaning
     on_chain-made apart fit = on_chain-fits root (tip ∷ s.had) list chain apart (Contains-more s.had tip list in_had) (IsAmong-more s.had tip chain among) fit
 
     abbrev Chosen : (Answer × State → Type 0) → Bool → Option refusals.Refused → Type 0
-    Chosen Goal fit due = Goal (cond fit (merkleize_tip s h chain tip due) (refuse (with_slot s h machine.gone) refusals.StaleBatch))
+    Chosen Goal fit due = Goal (cond fit (merkleize_tip s h chain tip evicted due) (refuse (with_slot s h machine.gone) refusals.StaleBatch))
 
     -- it was made
-    pub making_ok : (made : M) (low high bottom : ℕ) → IsMaking means s.opened list chain tip (Ok made)
+    pub making_ok : (made : M) (low high bottom : ℕ) → IsMaking means s.opened list chain tip evicted (Ok made)
         → ((chain : Chain) (tip : List Operation) → means.is_merkleized made chain tip → (low ≡ length chain.base) × (high ≡ length tip) × (bottom ≡ floor tip))
-        → Goes (Reply (replies.Merkleized h low high bottom)) held (set table h (Merkleized made)) opened (made_into means.scheme s h list chain tip)
+        → Goes (Reply (replies.Merkleized h low high bottom)) held (set table h (Merkleized made)) opened (made_into means.scheme s h list chain tip evicted)
     making_ok made low high bottom making sized =
         subst (λ t. Chosen Goal t (tip_refusal means.scheme.form chain tip)) (sym (and_from _ _ making.instance making.fit)) (by_due (tip_refusal means.scheme.form chain tip) refl)
       where
@@ -144,12 +144,13 @@ module _ {X C B S M K V D : Type 0} (members : stores.Ghosts C) (means : meaning
         Goal = Goes (Reply (replies.Merkleized h low high bottom)) held (set table h (Merkleized made)) opened
 
         new : machine.Slot
-        new = machine.merkleized chain tip
+        new = machine.merkleized chain tip evicted
 
-        by_due : (due : Option refusals.Refused) → tip_refusal means.scheme.form chain tip ≡ due → Goal (merkleize_tip s h chain tip due)
+        by_due : (due : Option refusals.Refused) → tip_refusal means.scheme.form chain tip ≡ due → Goal (merkleize_tip s h chain tip evicted due)
         by_due (Some r) is_due = λ apart. absurd (none_some (making.made (on_chain apart making.fit)).0 is_due)
         by_due None is_due = λ apart.
             let now = (making.made (on_chain-made apart making.fit)).1 in
+            let told = (making.made (on_chain-made apart making.fit)).2 in
             let sizes = sized chain tip now in (
               rw (sizes.0, sizes.1, sizes.2) refl,
               record {
@@ -162,15 +163,15 @@ module _ {X C B S M K V D : Type 0} (members : stores.Ghosts C) (means : meaning
                 lengths = subst (λ t. length (set table h (Merkleized made)) ≡ length t) (set_set s.table h machine.gone new) (lengths_set members means table (with_slot s h machine.gone) h (Merkleized made) new k.lengths);
                 slots = subst (λ t. (i : ℕ) → SlotIs members means (tip ∷ s.had) (get_or (set table h (Merkleized made)) i Gone) (slot_at t i)) (set_set s.table h machine.gone new)
                     (set_at (SlotIs members means (tip ∷ s.had)) Gone machine.gone tt table (set s.table h machine.gone) h (Merkleized made) new k.lengths
-                    (λ i. SlotIs-more members means s.had tip (get_or table i Gone) (slot_at (set s.table h machine.gone) i) (k.slots i)) (now, IsAmong-more s.had tip chain among, Contains-first tip s.had));
+                    (λ i. SlotIs-more members means s.had tip (get_or table i Gone) (slot_at (set s.table h machine.gone) i) (k.slots i)) (now, IsAmong-more s.had tip chain among, Contains-first tip s.had, told));
               },
             )
 
     -- it was not
-    pub making_err : (error : Error) → IsMaking means s.opened list chain tip (Err error) → Goes (turn_of_error error) held table opened (made_into means.scheme s h list chain tip)
+    pub making_err : (error : Error) → IsMaking means s.opened list chain tip evicted (Err error) → Goes (turn_of_error error) held table opened (made_into means.scheme s h list chain tip evicted)
     making_err error making =
         by_error error _
-        (λ is_stale. choice (takes means.scheme.grafts s.opened chain.instance && fits root (commitment root list) chain) (merkleize_tip s h chain tip (tip_refusal means.scheme.form chain tip)) (refuse (with_slot s h machine.gone) refusals.StaleBatch) (Goal refused.StaleBatch)
+        (λ is_stale. choice (takes means.scheme.grafts s.opened chain.instance && fits root (commitment root list) chain) (merkleize_tip s h chain tip evicted (tip_refusal means.scheme.form chain tip)) (refuse (with_slot s h machine.gone) refusals.StaleBatch) (Goal refused.StaleBatch)
         (λ both. let taken = and-true (takes means.scheme.grafts s.opened chain.instance) (fits root (commitment root list) chain) both in
         behind is_stale taken.0 taken.1 (tip_refusal means.scheme.form chain tip)) (λ unfit apart. (refl, k)))
         (λ r other told. let due = subst Due told (making.refused other) in
@@ -182,18 +183,18 @@ module _ {X C B S M K V D : Type 0} (members : stores.Ghosts C) (means : meaning
         Due : Option refusals.Refused → Type 0
         Due o = IfSome o (λ r. TakesOf means s.opened chain × Fits means list chain × (IsOnChain list chain → tip_refusal means.scheme.form chain tip ≡ Some r))
 
-        behind : error ≡ errors.StaleBatch → TakesOf means s.opened chain → fits root (commitment root list) chain ≡ true → (due : Option refusals.Refused) → Goal refused.StaleBatch (merkleize_tip s h chain tip due)
+        behind : error ≡ errors.StaleBatch → TakesOf means s.opened chain → fits root (commitment root list) chain ≡ true → (due : Option refusals.Refused) → Goal refused.StaleBatch (merkleize_tip s h chain tip evicted due)
         behind is_stale same fit None = λ apart. absurd (making.stale is_stale same (on_chain-made apart fit))
         behind is_stale same fit (Some r) = λ apart. absurd (making.stale is_stale same (on_chain apart fit))
 
-        refusing : (r : Refused) → Due (Some (refused_view r)) → (due : Option refusals.Refused) → tip_refusal means.scheme.form chain tip ≡ due → Goal r (merkleize_tip s h chain tip due)
+        refusing : (r : Refused) → Due (Some (refused_view r)) → (due : Option refusals.Refused) → tip_refusal means.scheme.form chain tip ≡ due → Goal r (merkleize_tip s h chain tip evicted due)
         refusing r due None is_due = λ apart. absurd (none_some is_due (due.2 (on_chain-made apart due.1)))
         refusing r due (Some q) is_due = λ apart. (ap refuses (sym (due.2 (on_chain apart due.1)) ∙ is_due), k)
 
   -- what a call says that makes a batch's tip list
-  pub making_of : (x : X) (n : ℕ) (list : List Operation) (chain : Chain) (tip : List Operation) (made : Result M Error) → means.numbered x n → Makes means members x list chain tip made → IsMaking means n list chain tip made
-  making_of x n list chain tip (Ok b) is makes = record { instance = makes.instance n is; fit = makes.fit; made = makes.made; stale = tt; refused = tt }
-  making_of x n list chain tip (Err e) is makes = record {
+  pub making_of : (x : X) (n : ℕ) (list : List Operation) (chain : Chain) (tip : List Operation) (evicted : List (Bytes × Bytes)) (made : Result M Error) → means.numbered x n → Makes means members x list chain tip evicted made → IsMaking means n list chain tip evicted made
+  making_of x n list chain tip evicted (Ok b) is makes = record { instance = makes.instance n is; fit = makes.fit; made = makes.made; stale = tt; refused = tt }
+  making_of x n list chain tip evicted (Err e) is makes = record {
     instance = tt;
     fit = tt;
     made = tt;
@@ -204,15 +205,15 @@ module _ {X C B S M K V D : Type 0} (members : stores.Ghosts C) (means : meaning
   -- a merkleize of a batch whose number is used up, under policies with these rules
   pub merkleize_made : {P : Type 0} (rules : Rules P) (Q : Answer × State → Type 0) (x after : X) (table : List (Slot B S M)) (opened h : ℕ) (policy : P) (meta : Option Bytes) (batch : B) (made : Result M Error) (s : State)
       → Holds members means (Database x) table opened s → Keeps members means x after
-      → AtBatch means x batch (λ list chain above ws. Makes means members x list chain (tip_of means.scheme rules chain ws policy meta) made)
+      → AtBatch means x batch (λ list chain above ws. Makes means members x list chain (tip_of means.scheme rules chain ws policy meta) (evictions_of means.scheme rules chain ws policy) made)
       → writing_of (get_or table h Gone) ≡ Some batch
-      → ((list : List Operation) (chain : Chain) (tip : List Operation) → Holds members means (Database after) (set table h Gone) opened (with_slot s h machine.gone) → Contains s.had list → IsAmong s.had chain
-      → IsMaking means s.opened list chain tip made → Q (made_into means.scheme s h list chain tip))
+      → ((list : List Operation) (chain : Chain) (tip : List Operation) (evicted : List (Bytes × Bytes)) → Holds members means (Database after) (set table h Gone) opened (with_slot s h machine.gone) → Contains s.had list → IsAmong s.had chain
+      → IsMaking means s.opened list chain tip evicted made → Q (made_into means.scheme s h list chain tip evicted))
       → Q (machine.merkleize means.scheme rules s h policy meta)
   merkleize_made rules Q x after table opened h policy meta batch made s k keeps making e each =
       with_writing members means x table opened h s (λ list. merkleize_in means.scheme rules s h policy meta list) Q k batch e (λ list chain above ws stands in_had among above_among is.
-      each list chain (tip_of means.scheme rules chain ws policy meta) (Holds-used members means x after table opened h s keeps k) in_had among
-      (making_of x s.opened list chain (tip_of means.scheme rules chain ws policy meta) made (numbered-held members means s.opened x s.had s.database k.database) (making list chain above ws stands is)))
+      each list chain (tip_of means.scheme rules chain ws policy meta) (evictions_of means.scheme rules chain ws policy) (Holds-used members means x after table opened h s keeps k) in_had among
+      (making_of x s.opened list chain (tip_of means.scheme rules chain ws policy meta) (evictions_of means.scheme rules chain ws policy) made (numbered-held members means s.opened x s.had s.database k.database) (making list chain above ws stands is)))
 
   -- an apply that was accepted
   applied_in : (peakless : IsBare means.scheme) (x after : X) (table : List (Slot B S M)) (opened : ℕ) (h : ℕ) (batch : M) (size : ℕ) (s : State) (list : List Operation)
@@ -225,7 +226,7 @@ module _ {X C B S M K V D : Type 0} (members : stores.Ghosts C) (means : meaning
       → ((l : List Operation) → means.stands after l → size ≡ length l)
       → (a : Slot B S M) (b : machine.Slot) → SlotIs members means s.had a b → IsSoundSlot s.had b → merkleized_of a ≡ Some batch
       → Goes (Reply (replies.Applied size)) (Database after) table opened (apply_in means.scheme s h list b)
-  applied_in peakless x after table opened h batch size s list k counts in_had log_is low floors same_number fit_of did grown sized (Merkleized w) (machine.merkleized chain tip) is sound e =
+  applied_in peakless x after table opened h batch size s list k counts in_had log_is low floors same_number fit_of did grown sized (Merkleized w) (machine.merkleized chain tip evicted) is sound e =
       let same : w ≡ batch = cc in
       let batch_is : means.is_merkleized batch chain tip = subst (λ v. means.is_merkleized v chain tip) same is.0 in
       choice (fits root (commitment root list) chain) (lines.Applied (length tip), record s { database = Some tip; log = record s.log { list = tip } }) (refuse s refusals.StaleBatch) (Goes (Reply (replies.Applied size)) (Database after) table opened)
@@ -261,7 +262,7 @@ module _ {X C B S M K V D : Type 0} (members : stores.Ghosts C) (means : meaning
       → ((chain : Chain) (tip : List Operation) → means.is_merkleized batch chain tip → IsOnChain list chain → ⊥)
       → (a : Slot B S M) (b : machine.Slot) → SlotIs members means s.had a b → merkleized_of a ≡ Some batch
       → Goes (Reply (replies.Refused refused.StaleBatch)) (Database x) table opened (apply_in means.scheme s h list b)
-  unapplied_in x table opened h batch s list k in_had off (Merkleized w) (machine.merkleized chain tip) is e =
+  unapplied_in x table opened h batch s list k in_had off (Merkleized w) (machine.merkleized chain tip evicted) is e =
       let same : w ≡ batch = cc in
       let batch_is : means.is_merkleized batch chain tip = subst (λ v. means.is_merkleized v chain tip) same is.0 in
       choice (fits root (commitment root list) chain) (lines.Applied (length tip), record s { database = Some tip; log = record s.log { list = tip } }) (refuse s refusals.StaleBatch) (Goes (Reply (replies.Refused refused.StaleBatch)) (Database x) table opened)
@@ -310,7 +311,7 @@ module _ {X C B S M K V D : Type 0} (members : stores.Ghosts C) (means : meaning
       → GrownPart x left (cond (fits root (commitment root list) chain) (map (spelling means.scheme.form) (drop (length list) tip)) []))
       → (a : Slot B S M) (b : machine.Slot) → SlotIs members means s.had a b → merkleized_of a ≡ Some batch
       → IsLeft means.scheme left s.log ((apply_in means.scheme s h list b).1).log
-  left_in peakless x left table opened h batch s list k counts in_had log_is apart grown (Merkleized w) (machine.merkleized chain tip) is e =
+  left_in peakless x left table opened h batch s list k counts in_had log_is apart grown (Merkleized w) (machine.merkleized chain tip evicted) is e =
       let same : w ≡ batch = cc in
       let batch_is : means.is_merkleized batch chain tip = subst (λ v. means.is_merkleized v chain tip) same is.0 in
       by_fit (fits root (commitment root list) chain) (grown chain tip batch_is (λ fit. on_chain-fits root s.had list chain apart in_had is.1 fit))

@@ -129,7 +129,7 @@ module _ {X C B S M : Type 0} (members : stores.Ghosts C) (means : meaning.Ghost
   SlotIs-more had new Gone machine.gone h = tt
   SlotIs-more had new (Writing b) (machine.writing chain above ws) h = (h.0, IsAmong-more had new chain h.1, IsAmong-more had new above h.2)
   SlotIs-more had new (Staged b) (machine.staged chain above ws keys) h = (h.0, IsAmong-more had new chain h.1, IsAmong-more had new above h.2)
-  SlotIs-more had new (Merkleized b) (machine.merkleized chain tip) h = (h.0, IsAmong-more had new chain h.1, Contains-more had new tip h.2)
+  SlotIs-more had new (Merkleized b) (machine.merkleized chain tip evicted) h = (h.0, IsAmong-more had new chain h.1, Contains-more had new tip h.2, h.3)
   SlotIs-more had new a b h = absurd h
 
   -- a closed store, before any command

@@ -25,9 +25,9 @@ use Rattle.qm_model.specs.Refusals.{tip_refusal, proof_refusal, range_refusal}
 use Rattle.qm_model.proofs.Chains.{take-least, Begins-self, Begins-length, Begins-through, known-begins, on_chain-fits}
 use Rattle.qm_model.proofs.Boundaries.{quotient-rises}
 use Rattle.qm_model.proofs.Openings.{Keeps, unordered-keeps, ordered-keeps, unordered-parts, ordered-parts, begins_take, begins_both, floor-rises, length-rises, pruned-rises}
-use Rattle.qm_machine.specs.Lines.{Line, Open, Batch, Child, Tip, Put, Del, Merkleize, Stage, Expand, Resolve, Apply, Ops, Get, Many, Next, Prev, Span, Range, Keys, Info, BatchInfo, Root, BatchRoot, BatchProof, Meta, Prove, Pins, Question, Held, Absent, Witness, Current, Prune, Commit, Sync, Close, Destroy, Crash, Answer}
+use Rattle.qm_machine.specs.Lines.{Line, Open, Batch, Child, Tip, Put, Del, Merkleize, Stage, Expand, Resolve, Apply, Ops, Evicted, Get, Many, Next, Prev, Span, Range, Keys, Info, BatchInfo, Root, BatchRoot, BatchProof, Meta, Prove, Pins, Question, Held, Absent, Witness, Current, Prune, Commit, Sync, Close, Destroy, Crash, Answer}
 use Rattle.qm_machine.specs.Lines as lines
-use Rattle.qm_machine.specs.Machine.{State, Slot, gone, writing, staged, merkleized, turn, slot_at, start_child, put_in, list_operations, with_database, closed, commit, opened_as, found_in, unless, merkleize_tip, merkleize_writes, merkleize_in, resolve_in, apply_in, if_readable, if_staged, stage_in, expand_in, read_in, read, if_ordered, if_any, if_current, if_absences, held_at, absent_at, if_checked, asked, answered, neighbour_in, neighbour_of, info_in, root_in, proof_in, pruned, prune_in}
+use Rattle.qm_machine.specs.Machine.{State, Slot, gone, writing, staged, merkleized, turn, slot_at, start_child, put_in, list_operations, list_evicted, with_database, closed, commit, opened_as, found_in, unless, merkleize_tip, merkleize_writes, merkleize_in, resolve_in, apply_in, if_readable, if_staged, stage_in, expand_in, read_in, read, if_ordered, if_any, if_current, if_absences, held_at, absent_at, if_checked, asked, answered, neighbour_in, neighbour_of, info_in, root_in, proof_in, pruned, prune_in}
 use Rattle.qm_model.specs.Schemes.{Grafts, Scheme, HasBounds, takes, chunks_of, kind_of, engine_of, layout_of}
 use Rattle.qm_model.specs.Held.{pins_lacked, proof_lacked}
 use Rattle.qm_machine.specs.Sound.{IsSoundSlot, IsSound}
@@ -275,7 +275,7 @@ module _ (m : Scheme) {P : Type 0} (rules : Rules P) where
       by (Some checks) = asked_stays s g checks question
 
   child_stays : (s : State) (h : ℕ) (keep : Option ℕ) (slot : Slot) → Stays s (start_child s h keep slot)
-  child_stays s h keep (merkleized chain tip) = refl
+  child_stays s h keep (merkleized chain tip evicted) = refl
   child_stays s h keep gone = refl
   child_stays s h keep (staged chain parent ws keys) = refl
   child_stays s h keep (writing chain parent ws) = refl
@@ -284,13 +284,19 @@ module _ (m : Scheme) {P : Type 0} (rules : Rules P) where
   put_stays s h w (writing chain parent ws) = refl
   put_stays s h w gone = refl
   put_stays s h w (staged chain parent ws keys) = refl
-  put_stays s h w (merkleized chain tip) = refl
+  put_stays s h w (merkleized chain tip evicted) = refl
 
   operations_stay : (s : State) (h : ℕ) (slot : Slot) → Stays s (list_operations s h slot)
-  operations_stay s h (merkleized chain tip) = refl
+  operations_stay s h (merkleized chain tip evicted) = refl
   operations_stay s h gone = refl
   operations_stay s h (staged chain parent ws keys) = refl
   operations_stay s h (writing chain parent ws) = refl
+
+  evicted_stay : (s : State) (h : ℕ) (slot : Slot) → Stays s (list_evicted s h slot)
+  evicted_stay s h (merkleized chain tip evicted) = refl
+  evicted_stay s h gone = refl
+  evicted_stay s h (staged chain parent ws keys) = refl
+  evicted_stay s h (writing chain parent ws) = refl
 
   readable_stays : (s : State) (list : List Operation) (chain : Chain) (tip : List Operation) (answer : Answer) → Stays s (if_readable m s list chain tip answer)
   readable_stays s list chain tip answer = either_stays s (readable m.root (commitment m.root list) chain tip) _ _ refl refl
@@ -302,17 +308,17 @@ module _ (m : Scheme) {P : Type 0} (rules : Rules P) where
   stage_stays s h keys list (writing chain parent ws) = staged_stays s h list chain parent _ _
   stage_stays s h keys list gone = refl
   stage_stays s h keys list (staged chain parent ws ks) = refl
-  stage_stays s h keys list (merkleized chain tip) = refl
+  stage_stays s h keys list (merkleized chain tip evicted) = refl
 
   expand_stays : (s : State) (h : ℕ) (keys : List Bytes) (list : List Operation) (slot : Slot) → Stays s (expand_in m s h keys list slot)
   expand_stays s h keys list (staged chain parent ws ks) = staged_stays s h list chain parent _ _
   expand_stays s h keys list gone = refl
   expand_stays s h keys list (writing chain parent ws) = refl
-  expand_stays s h keys list (merkleized chain tip) = refl
+  expand_stays s h keys list (merkleized chain tip evicted) = refl
 
   read_in_stays : (s : State) (h : ℕ) (keys : List Bytes) (list : List Operation) (slot : Slot) → Stays s (read_in m s h keys list slot)
   read_in_stays s h keys list (writing chain parent ws) = readable_stays s list parent chain.base _
-  read_in_stays s h keys list (merkleized chain tip) = readable_stays s list chain tip _
+  read_in_stays s h keys list (merkleized chain tip evicted) = readable_stays s list chain tip _
   read_in_stays s h keys list gone = refl
   read_in_stays s h keys list (staged chain parent ws ks) = refl
 
@@ -321,7 +327,7 @@ module _ (m : Scheme) {P : Type 0} (rules : Rules P) where
   read_stays s keys (Some h) = listed s s.database _ (λ list. read_in_stays s h keys list (slot_at s.table h))
 
   neighbour_in_stays : (s : State) (h : ℕ) (beside : List Bytes → Option Bytes) (list : List Operation) (slot : Slot) → Stays s (neighbour_in m s h beside list slot)
-  neighbour_in_stays s h beside list (merkleized chain tip) = readable_stays s list chain tip _
+  neighbour_in_stays s h beside list (merkleized chain tip evicted) = readable_stays s list chain tip _
   neighbour_in_stays s h beside list gone = refl
   neighbour_in_stays s h beside list (writing chain parent ws) = refl
   neighbour_in_stays s h beside list (staged chain parent ws ks) = refl
@@ -331,19 +337,19 @@ module _ (m : Scheme) {P : Type 0} (rules : Rules P) where
   neighbour_stays s beside (Some h) = listed s s.database _ (λ list. neighbour_in_stays s h beside list (slot_at s.table h))
 
   info_stays : (s : State) (h : ℕ) (slot : Slot) → Stays s (info_in m s h slot)
-  info_stays s h (merkleized chain tip) = refl
+  info_stays s h (merkleized chain tip evicted) = refl
   info_stays s h gone = refl
   info_stays s h (staged chain parent ws keys) = refl
   info_stays s h (writing chain parent ws) = refl
 
   root_stays : (s : State) (h : ℕ) (slot : Slot) → Stays s (root_in m s h slot)
-  root_stays s h (merkleized chain tip) = refl
+  root_stays s h (merkleized chain tip evicted) = refl
   root_stays s h gone = refl
   root_stays s h (staged chain parent ws keys) = refl
   root_stays s h (writing chain parent ws) = refl
 
   proof_stays : (s : State) (h : ℕ) (list : List Operation) (slot : Slot) → Stays s (proof_in m s h list slot)
-  proof_stays s h list (merkleized chain tip) =
+  proof_stays s h list (merkleized chain tip evicted) =
       either_stays s (readable m.root (commitment m.root list) chain tip) _ _ (unless_due s (proof_lacked m.shape s.log.start list chain tip) _) refl
   proof_stays s h list gone = refl
   proof_stays s h list (staged chain parent ws keys) = refl
@@ -362,14 +368,14 @@ module _ (m : Scheme) {P : Type 0} (rules : Rules P) where
   merkleize_stays s h policy meta list (writing chain parent ws) = writes_stay s h policy meta list chain ws
   merkleize_stays s h policy meta list gone = refl
   merkleize_stays s h policy meta list (staged chain parent ws keys) = refl
-  merkleize_stays s h policy meta list (merkleized chain tip) = refl
+  merkleize_stays s h policy meta list (merkleized chain tip evicted) = refl
 
   resolve_stays : (s : State) (h : ℕ) (policy : P) (meta : Option Bytes) (given : List slots.Slot) (others : List Write) (list : List Operation) (slot : Slot) → Stays s (resolve_in m rules s h policy meta given others list slot)
   resolve_stays s h policy meta given others list (staged chain parent ws keys) =
       either_stays s (length keys == length given) _ _ (writes_stay s h policy meta list chain (slotted ws keys given others)) refl
   resolve_stays s h policy meta given others list gone = refl
   resolve_stays s h policy meta given others list (writing chain parent ws) = refl
-  resolve_stays s h policy meta given others list (merkleized chain tip) = refl
+  resolve_stays s h policy meta given others list (merkleized chain tip evicted) = refl
 
   -- Those that change it.
 
@@ -394,21 +400,21 @@ module _ (m : Scheme) {P : Type 0} (rules : Rules P) where
 
   -- the tips of the table's batches are of the machine's form
   abbrev AreFormed : State → Type 0
-  AreFormed s = (h : ℕ) (chain : Chain) (tip : List Operation) → slot_at s.table h ≡ merkleized chain tip → All (IsOf m.form) tip
+  AreFormed s = (h : ℕ) (chain : Chain) (tip : List Operation) (evicted : List (Bytes × Bytes)) → slot_at s.table h ≡ merkleized chain tip evicted → All (IsOf m.form) tip
 
   -- a batch that fits makes a list that begins with the database's
   apply_follows : (s : State) (h : ℕ) (list : List Operation) (slot : Slot) → s.database ≡ Some list → IsSoundSlot s.had slot → IsSound m rules s → Apart m.root s.had
-      → ((chain : Chain) (tip : List Operation) → slot ≡ merkleized chain tip → All (IsOf m.form) tip) → Follows s (apply_in m s h list slot)
+      → ((chain : Chain) (tip : List Operation) (evicted : List (Bytes × Bytes)) → slot ≡ merkleized chain tip evicted → All (IsOf m.form) tip) → Follows s (apply_in m s h list slot)
   apply_follows s h list gone e one is apart formed = unmoved s is
   apply_follows s h list (staged chain parent ws keys) e one is apart formed = unmoved s is
   apply_follows s h list (writing chain parent ws) e one is apart formed = unmoved s is
-  apply_follows s h list (merkleized chain tip) e one is apart formed =
+  apply_follows s h list (merkleized chain tip evicted) e one is apart formed =
       either s (fits m.root (commitment m.root list) chain) _ _
       (λ fit.
       let held = is.held list e in
       let on = on_chain-fits m.root s.had list chain apart held.1 one.0 fit in
       let begins : Begins s.log.list tip = subst (λ ops. Begins ops tip) (sym held.0) (known-begins list chain tip (inr on) one.1 one.3) in
-      (grown-kept m rules s.log tip is.kept begins (is.made tip one.2) (formed chain tip refl), inl begins))
+      (grown-kept m rules s.log tip is.kept begins (is.made tip one.2) (formed chain tip evicted refl), inl begins))
       (λ unfit. unmoved s is)
 
   commit_follows : (s : State) → IsSound m rules s → Follows s (commit s)
@@ -434,7 +440,7 @@ module _ (m : Scheme) {P : Type 0} (rules : Rules P) where
 
   -- whichever command it is
   pub turn-followed : HasBounds m → (s : State) (line : Line P) → IsSound m rules s → Apart m.root s.had
-      → ((h : ℕ) (chain : Chain) (tip : List Operation) → slot_at s.table h ≡ merkleized chain tip → All (IsOf m.form) tip)
+      → ((h : ℕ) (chain : Chain) (tip : List Operation) (evicted : List (Bytes × Bytes)) → slot_at s.table h ≡ merkleized chain tip evicted → All (IsOf m.form) tip)
       → IsKept (engine_of m rules) ((turn m rules s line).1).log × Followed s.log ((turn m rules s line).1).log
   turn-followed bounds s (Open bound) is apart formed = opened_follows bounds.prompt s bound (opening (layout_of m) (found_in m s.log) bound) refl is
   turn-followed bounds s Batch is apart formed = stays s _ is (listed s s.database _ (λ list. refl))
@@ -448,6 +454,7 @@ module _ (m : Scheme) {P : Type 0} (rules : Rules P) where
   turn-followed bounds s (Resolve h policy meta given others) is apart formed = stays s _ is (listed s s.database _ (λ list. resolve_stays s h policy meta given others list (slot_at s.table h)))
   turn-followed bounds s (Apply h) is apart formed = with_list s s.database _ is (λ list e. apply_follows s h list (slot_at s.table h) e (is.slots h) is apart (formed h))
   turn-followed bounds s (Ops h) is apart formed = stays s _ is (operations_stay s h (slot_at s.table h))
+  turn-followed bounds s (Evicted h) is apart formed = stays s _ is (evicted_stay s h (slot_at s.table h))
   turn-followed bounds s (Get key from) is apart formed = stays s _ is (read_stays s (key ∷ []) from)
   turn-followed bounds s (Many keys from) is apart formed = stays s _ is (read_stays s keys from)
   turn-followed bounds s (Next key from) is apart formed = stays s _ is (ordered_only s _ (neighbour_stays s (λ keys. key_above keys key) from))

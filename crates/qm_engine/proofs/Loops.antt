@@ -15,7 +15,7 @@ use Rattle.qm_model.specs.Schemes.{Scheme, chunks_of, engine_of}
 use Rattle.qm_machine.proofs.Runs.{state_after-push, answers-push, Apart-before}
 use Rattle.qm_engine.specs.Stores.{HasLog, IsLeft}
 use Rattle.qm_engine.specs.Runs.{IsRun, IsOwnStore, IsOwnLeft, after}
-use Rattle.qm_model.specs.Operations.{Operation}
+use Rattle.qm_model.specs.Operations.{Bytes, Operation}
 use Rattle.qm_model.specs.Forms.{IsOf}
 use Rattle.qm_machine.specs.Machine.{choices_after}
 use Rattle.qm_machine.specs.Sound.{IsSteady, IsSound}
@@ -159,11 +159,11 @@ module _ {X C B S M : Type 0} (members : stores.Ghosts C) (means : meaning.Ghost
       )
 
   -- the tips of batches are of its form
-  tips-formed : (session : Session X C B S M) (s : State) → Stands members means session s → (h : ℕ) (chain : Chain) (tip : List Operation) → slot_at s.table h ≡ machine.merkleized chain tip → All (IsOf means.scheme.form) tip
-  tips-formed session s stands h chain tip named =
+  tips-formed : (session : Session X C B S M) (s : State) → Stands members means session s → (h : ℕ) (chain : Chain) (tip : List Operation) (evicted : List (Bytes × Bytes)) → slot_at s.table h ≡ machine.merkleized chain tip evicted → All (IsOf means.scheme.form) tip
+  tips-formed session s stands h chain tip evicted named =
       by (slice_index_or session.table.items h Gone) (subst (SlotIs members means s.had (slice_index_or session.table.items h Gone)) named (stands.slots h))
     where
-      by : (a : Slot B S M) → SlotIs members means s.had a (machine.merkleized chain tip) → All (IsOf means.scheme.form) tip
+      by : (a : Slot B S M) → SlotIs members means s.had a (machine.merkleized chain tip evicted) → All (IsOf means.scheme.form) tip
       by (Merkleized b) is = means.made_formed b chain tip is.0
       by Gone is = absurd is
       by (Writing b) is = absurd is

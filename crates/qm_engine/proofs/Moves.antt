@@ -44,13 +44,13 @@ no-grafts None is = refl
 no-grafts (Some g) is = absurd (cc)
 
 -- what the machine does with a slot that names no batch to be written, or no staged one
-module _ {X C B S M : Type 0} (members : stores.Ghosts C) (means : meaning.Ghosts X C B S M) {A : Type 0} (does : machine.Slot → A) {refusal : A} (gone : does machine.gone ≡ refusal) (merkleized : (chain : Chain) (tip : List Operation) → does (machine.merkleized chain tip) ≡ refusal) where
+module _ {X C B S M : Type 0} (members : stores.Ghosts C) (means : meaning.Ghosts X C B S M) {A : Type 0} (does : machine.Slot → A) {refusal : A} (gone : does machine.gone ≡ refusal) (merkleized : (chain : Chain) (tip : List Operation) (evicted : List (Bytes × Bytes)) → does (machine.merkleized chain tip evicted) ≡ refusal) where
   pub not_writing : ((chain above : Chain) (ws : List Write) (keys : List Bytes) → does (machine.staged chain above ws keys) ≡ refusal)
       → (had : List (List Operation)) (a : Slot B S M) (b : machine.Slot) → SlotIs members means had a b → None ≡ writing_of a → does b ≡ refusal
   not_writing staged had (Writing w) b is none = absurd (cc)
   not_writing staged had Gone machine.gone is none = gone
   not_writing staged had (Staged w) (machine.staged chain above ws keys) is none = staged chain above ws keys
-  not_writing staged had (Merkleized w) (machine.merkleized chain tip) is none = merkleized chain tip
+  not_writing staged had (Merkleized w) (machine.merkleized chain tip evicted) is none = merkleized chain tip evicted
   not_writing staged had a b is none = absurd is
 
   pub not_staged : ((chain above : Chain) (ws : List Write) → does (machine.writing chain above ws) ≡ refusal)
@@ -58,7 +58,7 @@ module _ {X C B S M : Type 0} (members : stores.Ghosts C) (means : meaning.Ghost
   not_staged writing had (Staged w) b is none = absurd (cc)
   not_staged writing had Gone machine.gone is none = gone
   not_staged writing had (Writing w) (machine.writing chain above ws) is none = writing chain above ws
-  not_staged writing had (Merkleized w) (machine.merkleized chain tip) is none = merkleized chain tip
+  not_staged writing had (Merkleized w) (machine.merkleized chain tip evicted) is none = merkleized chain tip evicted
   not_staged writing had a b is none = absurd is
 
 -- the same of one that names no merkleized batch

@@ -42,7 +42,7 @@ module _ {X C B S M K V D : Type 0} (members : stores.Ghosts C) (means : meaning
   named_state list machine.gone = refl
   named_state list (machine.writing chain above ws) = refl
   named_state list (machine.staged chain above ws keys) = refl
-  named_state list (machine.merkleized chain tip) = readable_state members means key value digest s list chain tip (found tip)
+  named_state list (machine.merkleized chain tip evicted) = readable_state members means key value digest s list chain tip (found tip)
 
   -- over an ordered database, through the merkleized batch of this number
   on_batch : (turn : Turn K V D) → Holds members means (Database x) table opened s → Keeps members means x after → means.scheme.form.ordered ≡ true → Some batch ≡ merkleized_of (get_or table h Gone)
@@ -62,7 +62,7 @@ module _ {X C B S M K V D : Type 0} (members : stores.Ghosts C) (means : meaning
       Goes = Turns members means key value digest turn (Database after) table opened
 
       by : (list : List Operation) → means.stands x list → Contains s.had list → (slot : machine.Slot) → SlotIs members means s.had (Merkleized batch) slot → Answers members means key value digest turn s (named list slot)
-      by list stands in_had (machine.merkleized chain tip) is = each list chain tip stands is.0 in_had is.1 is.2
+      by list stands in_had (machine.merkleized chain tip evicted) is = each list chain tip stands is.0 in_had is.1 is.2
       by list stands in_had slot is = absurd is
 
   pub neighbour_ok : (k : Option K) → Holds members means (Database x) table opened s → Keeps members means x after → means.scheme.form.ordered ≡ true → Some batch ≡ merkleized_of (get_or table h Gone)

@@ -99,12 +99,12 @@ module _ {X C B S M K V D : Type 0} (members : stores.Ghosts C) (means : meaning
   proof_state-in s h list machine.gone = refl
   proof_state-in s h list (machine.writing chain above ws) = refl
   proof_state-in s h list (machine.staged chain above ws keys) = refl
-  proof_state-in s h list (machine.merkleized chain tip) =
+  proof_state-in s h list (machine.merkleized chain tip evicted) =
       choice (can_read list chain tip) (unless s (lacked s list chain tip) (proved_by chain tip)) (refuse s refusals.StaleRead) (λ next. next.1 ≡ s) (λ can. unless_state s (lacked s list chain tip) (proved_by chain tip)) (λ not. refl)
 
   named_proof : means.scheme.grafts ≡ None → (turn : Turn K V D) (x : X) (table : List (Slot B S M)) (opened h : ℕ) (batch : M) (s : State) → Holds members means (Database x) table opened s → merkleized_of (get_or table h Gone) ≡ Some batch
-      → ((list : List Operation) (chain : Chain) (tip : List Operation) → means.stands x list → means.is_merkleized batch chain tip → Contains s.had list → IsAmong s.had chain → Contains s.had tip
-      → Answers members means key value digest turn s (proof_in means.scheme s h list (machine.merkleized chain tip)))
+      → ((list : List Operation) (chain : Chain) (tip : List Operation) → means.stands x list → means.is_merkleized batch chain tip → Contains s.had list → IsAmong s.had chain → Contains s.had tip → (evicted : List (Bytes × Bytes))
+      → Answers members means key value digest turn s (proof_in means.scheme s h list (machine.merkleized chain tip evicted)))
       → Goes turn (Database x) table opened (machine.batch_proof means.scheme s h)
   named_proof plain turn x table opened h batch s k e told =
       subst (Goes turn (Database x) table opened) (sym (ap (λ grafts. if_any s grafts (with_database s s.database (λ list. proof_in means.scheme s h list (slot_at s.table h)))) plain))
@@ -113,7 +113,7 @@ module _ {X C B S M K V D : Type 0} (members : stores.Ghosts C) (means : meaning
       k (by list stands in_had (slot_at s.table h) (subst (λ a. SlotIs members means s.had a (slot_at s.table h)) (merkleized_slot members means (get_or table h Gone) batch e) (k.slots h)))))
     where
       by : (list : List Operation) → means.stands x list → Contains s.had list → (named : machine.Slot) → SlotIs members means s.had (Merkleized batch) named → Answers members means key value digest turn s (proof_in means.scheme s h list named)
-      by list stands in_had (machine.merkleized chain tip) is = told list chain tip stands is.0 in_had is.1 is.2
+      by list stands in_had (machine.merkleized chain tip evicted) is = told list chain tip stands is.0 in_had is.1 is.2 evicted
       by list stands in_had named is = absurd is
 
   pub batch_proof_ok : means.scheme.grafts ≡ None → (r : reply.Reply K V D) (proof : Proof) (pins : List Bytes) (x : X) (table : List (Slot B S M)) (opened h : ℕ) (batch : M) (s : State) → Holds members means (Database x) table opened s
@@ -124,7 +124,7 @@ module _ {X C B S M K V D : Type 0} (members : stores.Ghosts C) (means : meaning
       → merkleized_of (get_or table h Gone) ≡ Some batch
       → Goes (Reply r) (Database x) table opened (machine.batch_proof means.scheme s h)
   batch_proof_ok plain r proof pins x table opened h batch s k is_view can are e =
-      named_proof plain (Reply r) x table opened h batch s k e (λ list chain tip stands is in_had among tip_in apart.
+      named_proof plain (Reply r) x table opened h batch s k e (λ list chain tip stands is in_had among tip_in evicted apart.
       let allowed = can list chain tip stands is in
       let facts = are list chain tip stands is (known-readable root s.had list chain tip apart in_had among tip_in allowed) in
       is_view ∙ subst (λ t. lines.BatchProved proof pins ≡ (cond t (unless s (lacked s list chain tip) (proved_by chain tip)) (refuse s refusals.StaleRead)).0) (sym allowed)
@@ -135,7 +135,7 @@ module _ {X C B S M K V D : Type 0} (members : stores.Ghosts C) (means : meaning
       → merkleized_of (get_or table h Gone) ≡ Some batch
       → Goes (turn_of_error error) (Database x) table opened (machine.batch_proof means.scheme s h)
   batch_proof_err plain error x table opened h batch s k fails e =
-      named_proof plain (turn_of_error error) x table opened h batch s k e (λ list chain tip stands is in_had among tip_in.
+      named_proof plain (turn_of_error error) x table opened h batch s k e (λ list chain tip stands is in_had among tip_in evicted.
       by_refusal error _ (λ r told apart. by list chain tip in_had among tip_in (fails list chain tip stands is) apart r told (is_stale_read error)))
     where
       Goal : List Operation → Chain → List Operation → Refused → Bool → Type 0

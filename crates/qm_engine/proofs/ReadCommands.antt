@@ -8,7 +8,7 @@ use Rattle.qm_model.specs.Batches.{Chain, IsAmong, IsKnown, Apart, commitment, r
 use Rattle.qm_machine.specs.Lines.{Answer}
 use Rattle.qm_machine.specs.Lines as lines
 use Rattle.qm_model.specs.Refused as refusals
-use Rattle.qm_machine.specs.Machine.{State, slot_at, refuse, list_operations, if_readable, read_in}
+use Rattle.qm_machine.specs.Machine.{State, slot_at, refuse, list_operations, list_evicted, if_readable, read_in}
 use Rattle.qm_machine.specs.Machine as machine
 use Rattle.qm_model.proofs.Chains.{known-readable}
 use Rattle.qm_base.specs.declared.error.Error.{Error}
@@ -108,20 +108,20 @@ module _ {X C B S M K V D : Type 0} (members : stores.Ghosts C) (means : meaning
       → ((chain : Chain) (tip : List Operation) → means.is_merkleized batch chain tip → CanRead means list chain tip)
       → ((chain : Chain) (tip : List Operation) → means.is_merkleized batch chain tip → IsKnown list chain tip → values ≡ map (value_of tip) keys)
       → Apart root s.had → lines.Read values ≡ (read_in means.scheme s h keys list named).0
-  made_ok s list h keys batch values (machine.merkleized chain tip) in_had is can are =
+  made_ok s list h keys batch values (machine.merkleized chain tip evicted) in_had is can are =
       readable_ok s list chain tip (lines.Read values) (lines.Read (map (value_of tip) keys)) in_had is.1 is.2 (can chain tip is.0) (λ known. ap lines.Read (are chain tip is.0 known))
   made_ok s list h keys batch values named in_had is can are = absurd is
 
   pub made_err : (s : State) (list : List Operation) (h : ℕ) (keys : List Bytes) (batch : M) (error : Error) (named : machine.Slot) → Contains s.had list → SlotIs members means s.had (Merkleized batch) named
       → ((chain : Chain) (tip : List Operation) → means.is_merkleized batch chain tip → IsReadFailure means list chain tip error)
       → Answers members means key value digest (turn_of_error error) s (read_in means.scheme s h keys list named)
-  made_err s list h keys batch error (machine.merkleized chain tip) in_had is why =
+  made_err s list h keys batch error (machine.merkleized chain tip evicted) in_had is why =
       readable_err s list chain tip error (lines.Read (map (value_of tip) keys)) in_had is.1 is.2 (why chain tip is.0)
   made_err s list h keys batch error named in_had is why = absurd is
 
   read_state-in : (s : State) (h : ℕ) (keys : List Bytes) (list : List Operation) (named : machine.Slot) → (read_in means.scheme s h keys list named).1 ≡ s
   read_state-in s h keys list (machine.writing chain above ws) = readable_state s list above chain.base (lines.Read (map (read_through chain.base ws) keys))
-  read_state-in s h keys list (machine.merkleized chain tip) = readable_state s list chain tip (lines.Read (map (value_of tip) keys))
+  read_state-in s h keys list (machine.merkleized chain tip evicted) = readable_state s list chain tip (lines.Read (map (value_of tip) keys))
   read_state-in s h keys list machine.gone = refl
   read_state-in s h keys list (machine.staged chain above ws ks) = refl
 
@@ -149,9 +149,18 @@ module _ {X C B S M K V D : Type 0} (members : stores.Ghosts C) (means : meaning
       → ((chain : Chain) (tip : List Operation) → means.is_merkleized batch chain tip → (base ≡ length chain.base) × (own ≡ own_operations chain tip))
       → (a : Slot B S M) (b : machine.Slot) → SlotIs members means s.had a b → merkleized_of a ≡ Some batch
       → (lines.Listed base own ≡ (list_operations s h b).0) × Holds members means held table opened (list_operations s h b).1
-  ops_ok held table opened h base own batch s k listed (Merkleized w) (machine.merkleized chain tip) is e =
+  ops_ok held table opened h base own batch s k listed (Merkleized w) (machine.merkleized chain tip evicted) is e =
       let same : w ≡ batch = cc in
       let facts = listed chain tip (subst (λ v. means.is_merkleized v chain tip) same is.0) in
       (ap₂ lines.Listed facts.0 facts.1, k)
   ops_ok held table opened h base own batch s k listed (Merkleized w) b is e = absurd is
   ops_ok held table opened h base own batch s k listed a b is e = absurd (cc)
+
+  pub evicted_ok : (held : Given X C) (table : List (Slot B S M)) (opened : ℕ) (h : ℕ) (pairs : List (Bytes × Bytes)) (batch : M) (s : State) → Holds members means held table opened s → pairs ≡ means.evictions batch
+      → (a : Slot B S M) (b : machine.Slot) → SlotIs members means s.had a b → merkleized_of a ≡ Some batch
+      → (lines.Dropped pairs ≡ (list_evicted s h b).0) × Holds members means held table opened (list_evicted s h b).1
+  evicted_ok held table opened h pairs batch s k told (Merkleized w) (machine.merkleized chain tip evicted) is e =
+      let same : w ≡ batch = cc in
+      (ap lines.Dropped (told ∙ sym (ap means.evictions same) ∙ is.3), k)
+  evicted_ok held table opened h pairs batch s k told (Merkleized w) b is e = absurd is
+  evicted_ok held table opened h pairs batch s k told a b is e = absurd (cc)

@@ -32,7 +32,7 @@ use Rattle.qm_engine.specs.declared.session.Turn.TheVariants.{Reply}
 use Rattle.qm_engine.specs.Table.{writing_of, staged_of}
 use Rattle.qm_engine.specs.Turn.{turn_of_error}
 use Rattle.qm_store.specs.Refusals.{refusal_of}
-use Rattle.qm_offer.specs.Words.{AtBatch, AtStaged, CanRead, IsReadFailure, Makes, tip_of}
+use Rattle.qm_offer.specs.Words.{AtBatch, AtStaged, CanRead, IsReadFailure, Makes, evictions_of, tip_of}
 use Rattle.qm_engine.specs.Making.{made_into, IsMaking}
 use Rattle.qm_engine.specs.Session.{SlotIs, Holds}
 use Rattle.qm_engine.proofs.Tables.{set_set}
@@ -150,17 +150,17 @@ module _ {X C B S M K V D : Type 0} (members : stores.Ghosts C) (means : meaning
     pub resolve_made : (Q : Answer × State → Type 0) (x after : X) (table : List (Slot B S M)) (opened h : ℕ) (batch : S) (made : Result M Error) (s : State)
         → Holds members means (Database x) table opened s → Keeps members means x after
         → length given ≡ means.count batch
-        → AtStaged means x batch (λ list chain above ws keys. Makes means members x list chain (tip_of means.scheme rules chain (slotted ws keys given others) policy meta) made)
+        → AtStaged means x batch (λ list chain above ws keys. Makes means members x list chain (tip_of means.scheme rules chain (slotted ws keys given others) policy meta) (evictions_of means.scheme rules chain (slotted ws keys given others) policy) made)
         → staged_of (get_or table h Gone) ≡ Some batch
-        → ((list : List Operation) (chain : Chain) (tip : List Operation) → Holds members means (Database after) (set table h Gone) opened (with_slot s h machine.gone) → Contains s.had list → IsAmong s.had chain
-        → IsMaking means s.opened list chain tip made → Q (made_into means.scheme s h list chain tip))
+        → ((list : List Operation) (chain : Chain) (tip : List Operation) (evicted : List (Bytes × Bytes)) → Holds members means (Database after) (set table h Gone) opened (with_slot s h machine.gone) → Contains s.had list → IsAmong s.had chain
+        → IsMaking means s.opened list chain tip evicted made → Q (made_into means.scheme s h list chain tip evicted))
         → Q (machine.resolve means.scheme rules s h policy meta given others)
     resolve_made Q x after table opened h batch made s k keeps as_many making e each =
         with_staged members means x table opened h s (λ list. resolve_in means.scheme rules s h policy meta given others list) Q k batch e (λ list chain above ws keys stands in_had among above_among is.
         subst (λ t. Q (cond t (merkleize_writes means.scheme rules s h policy meta list chain (slotted ws keys given others)) (refuse s (refusals.SlotCount (length keys) (length given)))))
         (sym (eq-eqb (length keys) (length given) (sym (as_many ∙ means.counted batch chain above ws keys is))))
-        (each list chain (tip_of means.scheme rules chain (slotted ws keys given others) policy meta) (Holds-used members means x after table opened h s keeps k) in_had among
-        (making_of members means key value digest x s.opened list chain (tip_of means.scheme rules chain (slotted ws keys given others) policy meta) made (numbered-held members means s.opened x s.had s.database k.database) (making list chain above ws keys stands is))))
+        (each list chain (tip_of means.scheme rules chain (slotted ws keys given others) policy meta) (evictions_of means.scheme rules chain (slotted ws keys given others) policy) (Holds-used members means x after table opened h s keeps k) in_had among
+        (making_of members means key value digest x s.opened list chain (tip_of means.scheme rules chain (slotted ws keys given others) policy meta) (evictions_of means.scheme rules chain (slotted ws keys given others) policy) made (numbered-held members means s.opened x s.had s.database k.database) (making list chain above ws keys stands is))))
 
     -- one that is refused leaves what the number names
     pub resolve_refused : (x : X) (table : List (Slot B S M)) (opened h n : ℕ) (r : Refused) (s : State) → Holds members means (Database x) table opened s → n ≡ length given
@@ -184,5 +184,5 @@ module _ {X C B S M K V D : Type 0} (members : stores.Ghosts C) (means : meaning
             (λ other apart. (ap (λ q. lines.Refuses (refused_view q)) why.1 ∙ ap₂ (λ a b. lines.Refuses (refusals.SlotCount a b)) counted is_given, k))
         by list Gone machine.gone is why = λ apart. (ap (λ q. lines.Refuses (refused_view q)) why, k)
         by list (Writing w) (machine.writing chain above ws) is why = λ apart. (ap (λ q. lines.Refuses (refused_view q)) why, k)
-        by list (Merkleized w) (machine.merkleized chain tip) is why = λ apart. (ap (λ q. lines.Refuses (refused_view q)) why, k)
+        by list (Merkleized w) (machine.merkleized chain tip evicted) is why = λ apart. (ap (λ q. lines.Refuses (refused_view q)) why, k)
         by list a b is why = absurd is

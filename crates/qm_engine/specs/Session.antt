@@ -39,7 +39,7 @@ module _ {X C B S M : Type 0} (members : store.Ghosts C) (means : meaning.Ghosts
   SlotIs had Gone machine.gone = Unit {0}
   SlotIs had (Writing b) (machine.writing chain above ws) = means.is_batch b chain above ws × IsAmong had chain × IsAmong had above
   SlotIs had (Staged b) (machine.staged chain above ws keys) = means.is_staged b chain above ws keys × IsAmong had chain × IsAmong had above
-  SlotIs had (Merkleized b) (machine.merkleized chain tip) = means.is_merkleized b chain tip × IsAmong had chain × Contains had tip
+  SlotIs had (Merkleized b) (machine.merkleized chain tip evicted) = means.is_merkleized b chain tip × IsAmong had chain × Contains had tip × (means.evictions b ≡ evicted)
   SlotIs had slot named = ⊥
 
   -- what is held stands for this state

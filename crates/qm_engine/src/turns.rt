@@ -27,7 +27,7 @@ use qm_lines::{
 };
 use qm_offer::{Batching, Durable, Making, Neighbours, Proving, Reading, Staging};
 use qm_store::{Given, Store};
-use reads::{batch_info, batch_root, info, meta, ops, read, read_key, root};
+use reads::{batch_info, batch_root, evicted, info, meta, ops, read, read_key, root};
 pub use showing::{shown_turn, unshown_turn};
 use staged::{expand, resolve, stage};
 use std::alloc::Global;
@@ -198,6 +198,7 @@ pub fn info_turn<
 {
     match command {
         InfoCommand::Ops(number) => ops::<X, C>(alloc, session, *number),
+        InfoCommand::Evicted(number) => evicted::<X, C>(alloc, session, *number),
         InfoCommand::Info => info::<X, C>(session),
         InfoCommand::BatchInfo(number) => batch_info::<X, C>(session, *number),
         InfoCommand::Root => root::<X, C>(session),

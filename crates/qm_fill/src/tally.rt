@@ -19,6 +19,7 @@ fn is_summed_up(command: &InfoCommand<ByteKey>) -> bool
     match command {
         InfoCommand::Info | InfoCommand::Root => true,
         InfoCommand::Ops(_)
+        | InfoCommand::Evicted(_)
         | InfoCommand::BatchInfo(_)
         | InfoCommand::BatchRoot(_)
         | InfoCommand::BatchProof(_)

@@ -16,7 +16,7 @@ policy_view (Rule r) = ruled.rule_view (λ v. v) r
 
 -- its limits and decisions are those of the policy that it is, and it stays the same
 abbrev pub rules_of : Rules AnyPolicy
-rules_of = record { limits = λ p n. limits_of (policy_view p) n; decide = λ p location key value. (action_of (policy_view p) value, p) }
+rules_of = record { limits = λ p n. limits_of (policy_view p) n; decide = λ p location remaining key value. (action_of (policy_view p) remaining value, p) }
 
 abbrev pub may_drop : AnyPolicy → Bool
 may_drop (Proportional p) = false
@@ -30,8 +30,8 @@ write-evict value h = cc
 stop-evict : stop ≡ evict → ⊥
 stop-evict h = cc
 
-pub stays : (p : AnyPolicy) (location : ℕ) (key value : Bytes) → may_drop p ≡ false → Keeps rules_of may_drop p location key value
-stays (Proportional p) location key value calm = record { not_evicted = write-evict value; kept = refl }
-stays (Hold p) location key value calm = record { not_evicted = stop-evict; kept = refl }
-stays (Bounded p) location key value calm = record { not_evicted = write-evict value; kept = refl }
-stays (Rule r) location key value calm = record { not_evicted = (ruled.rule_keeps (λ v. v) r location key value calm).not_evicted; kept = calm }
+pub stays : (p : AnyPolicy) (location remaining : ℕ) (key value : Bytes) → may_drop p ≡ false → Keeps rules_of may_drop p location remaining key value
+stays (Proportional p) location remaining key value calm = record { not_evicted = write-evict value; kept = refl }
+stays (Hold p) location remaining key value calm = record { not_evicted = stop-evict; kept = refl }
+stays (Bounded p) location remaining key value calm = record { not_evicted = write-evict value; kept = refl }
+stays (Rule r) location remaining key value calm = record { not_evicted = (ruled.rule_keeps (λ v. v) r location remaining key value calm).not_evicted; kept = calm }

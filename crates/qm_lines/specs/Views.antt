@@ -87,6 +87,7 @@ module _ {K V : Type 0} (key : K → Bytes) (value : V → Bytes) where
 
   abbrev pub info_view : {Q : Type 0} → InfoCommand K → lines.Line Q
   info_view (infos.Ops h) = lines.Ops h
+  info_view (infos.Evicted h) = lines.Evicted h
   info_view infos.Info = lines.Info
   info_view (infos.BatchInfo h) = lines.BatchInfo h
   info_view infos.Root = lines.Root
@@ -121,6 +122,7 @@ module _ {K V : Type 0} (key : K → Bytes) (value : V → Bytes) where
   answer_view digest (replies.Merkleized h base size floor) = lines.Merkleized h base size floor
   answer_view digest (replies.Applied size) = lines.Applied size
   answer_view digest (replies.Ops base ops) = lines.Listed base (map (listed_view key value) ops.items)
+  answer_view digest (replies.Evicted pairs) = lines.Dropped (map (pair_view key value) pairs.items)
   answer_view digest (replies.Read values) = lines.Read (map (option_map value) values.items)
   answer_view digest (replies.Expanded a b values) = lines.Expanded a b (map (option_map value) values.items)
   answer_view digest (replies.Neighbour k) = lines.Neighbour (option_map key k)

@@ -78,6 +78,8 @@ pub enum ReadCommand<K> {
 pub enum InfoCommand<K> {
     /// Lists the own operations of the merkleized batch of this number.
     Ops(u64),
+    /// Lists the keys that the merkleized batch of this number evicted, with the values that they had.
+    Evicted(u64),
     /// Tells the database's numbers.
     Info,
     /// Tells the numbers of the merkleized batch of this number.

@@ -58,8 +58,8 @@ impl<F, K: ByteString> Policy<F, K, ByteValue> for AnyPolicy {
         alloc: Global,
         live: Entry<'a, F, K, ByteValue>,
     ) -> Result<Decision<'a, ByteValue>, AllocError>
-        ensures action { IfOk result (λ d.
-            action_view (λ v. v) d ≡ action_of (policy_view self.old) live.entry.value) }
+        ensures action { IfOk result (λ d. action_view (λ v. v) d
+            ≡ action_of (policy_view self.old) live.entry.remaining live.entry.value) }
         ensures next { IfOk result (λ _. self.new ≡ self.old) }
     {
         match self {

@@ -51,6 +51,8 @@ pub enum Reply<K, V, D> {
     Applied(u64),
     /// The size of a batch's base, and its own operations.
     Ops(u64, Vec<Listed<K, V>>),
+    /// Evicted keys with the values that they had, in the order of the walk.
+    Evicted(Vec<(K, V)>),
     /// The values of the keys that were asked, in their order.
     Read(Vec<Option<V>>),
     /// From which staged key up to which, and the values of these.

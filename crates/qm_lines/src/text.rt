@@ -375,15 +375,16 @@ fn write_whole<K: ByteString, V: ByteString>(
     write_bytes(out, " ", next.as_bytes())
 }
 
-// Keys with their values, each after a space.
-fn write_range<K: ByteString, V: ByteString>(
+// A name, and keys with their values, each after a space.
+fn write_pairs<K: ByteString, V: ByteString>(
     out: &mut String,
+    name: &str,
     pairs: &[(K, V)],
 ) -> Result<(), AllocError>
     ensures { Adds out.old out.new result
-        (texts.reply_line (lines.Ranged (map (pair_view K.bytes V.bytes) pairs.now))) }
+        (name.now ++ texts.pairs_text (map (pair_view K.bytes V.bytes) pairs.now)) }
 {
-    out.push_str("range")?;
+    out.push_str(name)?;
     for (key, value) in pairs {
         write_pair(out, " ", key.as_bytes(), value.as_bytes())?;
     }
@@ -429,12 +430,13 @@ fn write_line<K: ByteString, V: ByteString, D: Digest>(
         }
         Reply::Applied(size) => write_number(out, "applied ", *size),
         Reply::Ops(base, ops) => write_listed(out, *base, ops),
+        Reply::Evicted(pairs) => write_pairs(out, "evicted", pairs),
         Reply::Read(values) => write_read(out, values),
         Reply::Expanded(first, end, values) => write_expanded(out, *first, *end, values),
         Reply::Neighbour(key) => write_neighbour(out, key),
         Reply::Span(span) => write_span(out, span),
         Reply::All(whole) => write_whole(out, whole),
-        Reply::Range(pairs) => write_range(out, pairs),
+        Reply::Range(pairs) => write_pairs(out, "range", pairs),
         Reply::Keys(keys) => write_keys(out, keys),
         Reply::Info(start, size, floor, boundary, is_live) => {
             write_info(out, &[*start, *size, *floor, *boundary], *is_live)

@@ -1,6 +1,6 @@
 -- The same commands, with policies under another name.
 use Rattle.std.specs.Prelude.{length, ◌==◌, ◌&&◌}
-use Rattle.std.proofs.Common.{◌≡◌, ℕ, List, cond, Option, Some, None, refl, ap}
+use Rattle.std.proofs.Common.{◌≡◌, ℕ, List, cond, Option, Some, None, refl, ap, ap₂}
 use Rattle.qm_model.specs.Operations.{Bytes, Operation}
 use Rattle.qm_model.specs.Walk.{Rules}
 use Rattle.qm_model.specs.Writes.{Write}
@@ -9,8 +9,8 @@ use Rattle.qm_model.specs.Slots as slots
 use Rattle.qm_model.specs.Batches.{Chain, commitment, fits}
 use Rattle.qm_model.specs.Refused.{StaleBatch, SlotCount}
 use Rattle.qm_model.specs.Refusals.{tip_refusal}
-use Rattle.qm_model.specs.Step.{Kind, step}
-use Rattle.qm_machine.specs.Lines.{Line, Open, Batch, Child, Tip, Put, Del, Merkleize, Stage, Expand, Resolve, Apply, Ops, Get, Many, Next, Prev, Span, All, Range, Keys, Info, BatchInfo, Root, BatchRoot, BatchProof, Meta, Prove, Pins, Current, Prune, Commit, Sync, Close, Destroy, Crash}
+use Rattle.qm_model.specs.Step.{Kind, step, evicted_by}
+use Rattle.qm_machine.specs.Lines.{Line, Open, Batch, Child, Tip, Put, Del, Merkleize, Stage, Expand, Resolve, Apply, Ops, Evicted, Get, Many, Next, Prev, Span, All, Range, Keys, Info, BatchInfo, Root, BatchRoot, BatchProof, Meta, Prove, Pins, Current, Prune, Commit, Sync, Close, Destroy, Crash}
 use Rattle.qm_machine.specs.Machine.{choices_after, State, Slot, gone, writing, staged, merkleized, slot_at, with_slot, with_database, refuse, merkleize_tip, merkleize_writes, merkleize_in, merkleize, resolve_in, resolve, turn}
 use Rattle.qm_model.specs.Schemes.{Scheme, kind_of, takes}
 
@@ -28,6 +28,7 @@ relabelled f (Expand h keys) = Expand h keys
 relabelled f (Resolve h policy meta given others) = Resolve h (f policy) meta given others
 relabelled f (Apply h) = Apply h
 relabelled f (Ops h) = Ops h
+relabelled f (Evicted h) = Evicted h
 relabelled f (Get key from) = Get key from
 relabelled f (Many keys from) = Many keys from
 relabelled f (Next key from) = Next key from
@@ -66,6 +67,7 @@ choices-relabelled f (Expand h keys) choices = refl
 choices-relabelled f (Resolve h policy meta given others) choices = refl
 choices-relabelled f (Apply h) choices = refl
 choices-relabelled f (Ops h) choices = refl
+choices-relabelled f (Evicted h) choices = refl
 choices-relabelled f (Get key from) choices = refl
 choices-relabelled f (Many keys from) choices = refl
 choices-relabelled f (Next key from) choices = refl
@@ -90,18 +92,20 @@ choices-relabelled f Close choices = refl
 choices-relabelled f Destroy choices = refl
 choices-relabelled f (Crash keep) choices = refl
 
--- if each policy makes the steps of its other name
+-- if each policy makes the steps of its other name, and evicts as it does
 module _ {P Q : Type 0} (f : P → Q) (a : Rules P) (b : Rules Q)
-    (same : (kind : Kind) (ops : List Operation) (ws : List Write) (p : P) (meta : Option Bytes) → step kind a ops ws p meta ≡ step kind b ops ws (f p) meta) (m : Scheme) where
+    (same : (kind : Kind) (ops : List Operation) (ws : List Write) (p : P) (meta : Option Bytes) → step kind a ops ws p meta ≡ step kind b ops ws (f p) meta)
+    (alike : (kind : Kind) (ops : List Operation) (ws : List Write) (p : P) → evicted_by kind a ops ws p ≡ evicted_by kind b ops ws (f p)) (m : Scheme) where
   same_writes : (s : State) (h : ℕ) (policy : P) (meta : Option Bytes) (list : List Operation) (chain : Chain) (ws : List Write) → merkleize_writes m a s h policy meta list chain ws ≡ merkleize_writes m b s h (f policy) meta list chain ws
   same_writes s h policy meta list chain ws =
-      ap (λ tip. cond (takes m.grafts s.opened chain.instance && fits m.root (commitment m.root list) chain) (merkleize_tip s h chain tip (tip_refusal m.form chain tip)) (refuse (with_slot s h gone) StaleBatch)) (same (kind_of m) chain.base ws policy meta)
+      ap₂ (λ tip evicted. cond (takes m.grafts s.opened chain.instance && fits m.root (commitment m.root list) chain) (merkleize_tip s h chain tip evicted (tip_refusal m.form chain tip)) (refuse (with_slot s h gone) StaleBatch))
+      (same (kind_of m) chain.base ws policy meta) (alike (kind_of m) chain.base ws policy)
 
   same_in : (s : State) (h : ℕ) (policy : P) (meta : Option Bytes) (list : List Operation) (slot : Slot) → merkleize_in m a s h policy meta list slot ≡ merkleize_in m b s h (f policy) meta list slot
   same_in s h policy meta list (writing chain above ws) = same_writes s h policy meta list chain ws
   same_in s h policy meta list gone = refl
   same_in s h policy meta list (staged chain above ws keys) = refl
-  same_in s h policy meta list (merkleized chain tip) = refl
+  same_in s h policy meta list (merkleized chain tip evicted) = refl
 
   same_merkleize : (s : State) (h : ℕ) (policy : P) (meta : Option Bytes) → merkleize m a s h policy meta ≡ merkleize m b s h (f policy) meta
   same_merkleize s h policy meta = in_database s.database
@@ -113,7 +117,7 @@ module _ {P Q : Type 0} (f : P → Q) (a : Rules P) (b : Rules Q)
   same_resolve_in : (s : State) (h : ℕ) (policy : P) (meta : Option Bytes) (given : List slots.Slot) (others : List Write) (list : List Operation) (slot : Slot) → resolve_in m a s h policy meta given others list slot ≡ resolve_in m b s h (f policy) meta given others list slot
   same_resolve_in s h policy meta given others list gone = refl
   same_resolve_in s h policy meta given others list (writing chain above ws) = refl
-  same_resolve_in s h policy meta given others list (merkleized chain tip) = refl
+  same_resolve_in s h policy meta given others list (merkleized chain tip evicted) = refl
   same_resolve_in s h policy meta given others list (staged chain above ws keys) =
       ap (λ made. cond (length keys == length given) made (refuse s (SlotCount (length keys) (length given)))) (same_writes s h policy meta list chain (slotted ws keys given others))
 
@@ -137,6 +141,7 @@ module _ {P Q : Type 0} (f : P → Q) (a : Rules P) (b : Rules Q)
   turn_relabelled s (Resolve h policy meta given others) = same_resolve s h policy meta given others
   turn_relabelled s (Apply h) = refl
   turn_relabelled s (Ops h) = refl
+  turn_relabelled s (Evicted h) = refl
   turn_relabelled s (Get key from) = refl
   turn_relabelled s (Many keys from) = refl
   turn_relabelled s (Next key from) = refl

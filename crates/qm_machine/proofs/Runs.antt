@@ -10,10 +10,10 @@ use Rattle.qm_model.specs.Writes.{Write}
 use Rattle.qm_model.specs.Slots.{slotted}
 use Rattle.qm_model.specs.Slots as slots
 use Rattle.qm_model.specs.Batches.{Chain, Apart, commitment, fits, readable}
-use Rattle.qm_machine.specs.Lines.{Line, Open, Batch, Child, Tip, Put, Del, Merkleize, Stage, Expand, Resolve, Apply, Ops, Get, Many, Next, Prev, Span, All, Range, Keys, Info, BatchInfo, Root, BatchRoot, BatchProof, Meta, Prove, Pins, Question, Held, Absent, Witness, Current, Prune, Commit, Sync, Close, Destroy, Crash, Answer}
+use Rattle.qm_machine.specs.Lines.{Line, Open, Batch, Child, Tip, Put, Del, Merkleize, Stage, Expand, Resolve, Apply, Ops, Evicted, Get, Many, Next, Prev, Span, All, Range, Keys, Info, BatchInfo, Root, BatchRoot, BatchProof, Meta, Prove, Pins, Question, Held, Absent, Witness, Current, Prune, Commit, Sync, Close, Destroy, Crash, Answer}
 use Rattle.qm_machine.specs.Lines as lines
 use Rattle.qm_model.specs.Refused.{Refused}
-use Rattle.qm_machine.specs.Machine.{State, Slot, choices_after, gone, writing, staged, merkleized, turn, answers, state_after, slot_at, start_child, put_in, list_operations, with_database, opened_as, found_in, closed, unless, merkleize_tip, merkleize_writes, merkleize_in, resolve_in, apply_in, if_readable, if_staged, stage_in, expand_in, read_in, read, if_ordered, neighbour_in, neighbour_of, info_in, root_in, proof_in, prune_in, if_any, if_current, if_absences, held_at, absent_at, answered}
+use Rattle.qm_machine.specs.Machine.{State, Slot, choices_after, gone, writing, staged, merkleized, turn, answers, state_after, slot_at, start_child, put_in, list_operations, list_evicted, with_database, opened_as, found_in, closed, unless, merkleize_tip, merkleize_writes, merkleize_in, resolve_in, apply_in, if_readable, if_staged, stage_in, expand_in, read_in, read, if_ordered, neighbour_in, neighbour_of, info_in, root_in, proof_in, prune_in, if_any, if_current, if_absences, held_at, absent_at, answered}
 use Rattle.qm_machine.specs.Machine.{asked, if_checked}
 use Rattle.qm_model.specs.Schemes.{Scheme, layout_of, Grafts, takes}
 use Rattle.qm_model.specs.Held.{pins_lacked, proof_lacked}
@@ -49,19 +49,25 @@ put_keeps : (s : State) (h : ℕ) (w : Write) (slot : Slot) → Keeps s (put_in 
 put_keeps s h w gone = (λ x a. a, refl)
 put_keeps s h w (staged chain parent ws keys) = (λ x a. a, refl)
 put_keeps s h w (writing chain parent ws) = (λ x a. a, refl)
-put_keeps s h w (merkleized chain tip) = (λ x a. a, refl)
+put_keeps s h w (merkleized chain tip evicted) = (λ x a. a, refl)
 
 listed_keeps : (s : State) (h : ℕ) (slot : Slot) → Keeps s (list_operations s h slot)
 listed_keeps s h gone = (λ x a. a, refl)
 listed_keeps s h (staged chain parent ws keys) = (λ x a. a, refl)
 listed_keeps s h (writing chain parent ws) = (λ x a. a, refl)
-listed_keeps s h (merkleized chain tip) = (λ x a. a, refl)
+listed_keeps s h (merkleized chain tip evicted) = (λ x a. a, refl)
+
+evicted_keeps : (s : State) (h : ℕ) (slot : Slot) → Keeps s (list_evicted s h slot)
+evicted_keeps s h gone = (λ x a. a, refl)
+evicted_keeps s h (staged chain parent ws keys) = (λ x a. a, refl)
+evicted_keeps s h (writing chain parent ws) = (λ x a. a, refl)
+evicted_keeps s h (merkleized chain tip evicted) = (λ x a. a, refl)
 
 child_keeps : (s : State) (h : ℕ) (keep : Option ℕ) (slot : Slot) → Keeps s (start_child s h keep slot)
 child_keeps s h keep gone = (λ x a. a, refl)
 child_keeps s h keep (staged chain parent ws keys) = (λ x a. a, refl)
 child_keeps s h keep (writing chain parent ws) = (λ x a. a, refl)
-child_keeps s h keep (merkleized chain tip) = (λ x a. a, refl)
+child_keeps s h keep (merkleized chain tip evicted) = (λ x a. a, refl)
 
 unless_keeps : (s : State) (due : Option Refused) (answer : Answer) → Keeps s (unless s due answer)
 unless_keeps s None answer = (λ x a. a, refl)
@@ -100,16 +106,16 @@ answered_keeps s g question = by g.checks
     by None = (λ x a. a, refl)
     by (Some checks) = asked_keeps s g checks question
 
-tip_keeps : (s : State) (h : ℕ) (chain : Chain) (tip : List Operation) (due : Option Refused) → Keeps s (merkleize_tip s h chain tip due)
-tip_keeps s h chain tip None = (λ x a. Contains-more s.had tip x a, refl)
-tip_keeps s h chain tip (Some r) = (λ x a. a, refl)
+tip_keeps : (s : State) (h : ℕ) (chain : Chain) (tip : List Operation) (evicted : List (Bytes × Bytes)) (due : Option Refused) → Keeps s (merkleize_tip s h chain tip evicted due)
+tip_keeps s h chain tip evicted None = (λ x a. Contains-more s.had tip x a, refl)
+tip_keeps s h chain tip evicted (Some r) = (λ x a. a, refl)
 
 module _ (m : Scheme) where
   apply_keeps : (s : State) (h : ℕ) (list : List Operation) (slot : Slot) → Keeps s (apply_in m s h list slot)
   apply_keeps s h list gone = (λ x a. a, refl)
   apply_keeps s h list (staged chain parent ws keys) = (λ x a. a, refl)
   apply_keeps s h list (writing chain parent ws) = (λ x a. a, refl)
-  apply_keeps s h list (merkleized chain tip) = either s (fits m.root (commitment m.root list) chain) _ _ (λ x a. a, refl) (λ x a. a, refl)
+  apply_keeps s h list (merkleized chain tip evicted) = either s (fits m.root (commitment m.root list) chain) _ _ (λ x a. a, refl) (λ x a. a, refl)
 
   readable_keeps : (s : State) (list : List Operation) (chain : Chain) (tip : List Operation) (answer : Answer) → Keeps s (if_readable m s list chain tip answer)
   readable_keeps s list chain tip answer = either s (readable m.root (commitment m.root list) chain tip) _ _ (λ x a. a, refl) (λ x a. a, refl)
@@ -118,7 +124,7 @@ module _ (m : Scheme) where
   read_in_keeps s h keys list gone = (λ x a. a, refl)
   read_in_keeps s h keys list (staged chain parent ws ks) = (λ x a. a, refl)
   read_in_keeps s h keys list (writing chain parent ws) = readable_keeps s list parent chain.base _
-  read_in_keeps s h keys list (merkleized chain tip) = readable_keeps s list chain tip _
+  read_in_keeps s h keys list (merkleized chain tip evicted) = readable_keeps s list chain tip _
 
   staged_keeps : (s : State) (h : ℕ) (list : List Operation) (chain parent : Chain) (answer : Answer) (slot : Slot) → Keeps s (if_staged m s h list chain parent answer slot)
   staged_keeps s h list chain parent answer slot = either s (readable m.root (commitment m.root list) parent chain.base) _ _ (λ x a. a, refl) (λ x a. a, refl)
@@ -127,13 +133,13 @@ module _ (m : Scheme) where
   stage_keeps s h keys list gone = (λ x a. a, refl)
   stage_keeps s h keys list (writing chain parent ws) = staged_keeps s h list chain parent _ _
   stage_keeps s h keys list (staged chain parent ws ks) = (λ x a. a, refl)
-  stage_keeps s h keys list (merkleized chain tip) = (λ x a. a, refl)
+  stage_keeps s h keys list (merkleized chain tip evicted) = (λ x a. a, refl)
 
   expand_keeps : (s : State) (h : ℕ) (keys : List Bytes) (list : List Operation) (slot : Slot) → Keeps s (expand_in m s h keys list slot)
   expand_keeps s h keys list gone = (λ x a. a, refl)
   expand_keeps s h keys list (writing chain parent ws) = (λ x a. a, refl)
   expand_keeps s h keys list (staged chain parent ws ks) = staged_keeps s h list chain parent _ _
-  expand_keeps s h keys list (merkleized chain tip) = (λ x a. a, refl)
+  expand_keeps s h keys list (merkleized chain tip evicted) = (λ x a. a, refl)
 
   read_keeps : (s : State) (keys : List Bytes) (from : Option ℕ) → Keeps s (read m s keys from)
   read_keeps s keys None = with_list s s.database _ (λ list. (λ x a. a, refl))
@@ -146,7 +152,7 @@ module _ (m : Scheme) where
   neighbour_in_keeps s h beside list gone = (λ x a. a, refl)
   neighbour_in_keeps s h beside list (staged chain parent ws ks) = (λ x a. a, refl)
   neighbour_in_keeps s h beside list (writing chain parent ws) = (λ x a. a, refl)
-  neighbour_in_keeps s h beside list (merkleized chain tip) = readable_keeps s list chain tip _
+  neighbour_in_keeps s h beside list (merkleized chain tip evicted) = readable_keeps s list chain tip _
 
   neighbour_keeps : (s : State) (beside : List Bytes → Option Bytes) (from : Option ℕ) → Keeps s (neighbour_of m s beside from)
   neighbour_keeps s beside None = with_list s s.database _ (λ list. (λ x a. a, refl))
@@ -156,38 +162,38 @@ module _ (m : Scheme) where
   info_keeps s h gone = (λ x a. a, refl)
   info_keeps s h (staged chain parent ws keys) = (λ x a. a, refl)
   info_keeps s h (writing chain parent ws) = (λ x a. a, refl)
-  info_keeps s h (merkleized chain tip) = (λ x a. a, refl)
+  info_keeps s h (merkleized chain tip evicted) = (λ x a. a, refl)
 
   root_keeps : (s : State) (h : ℕ) (slot : Slot) → Keeps s (root_in m s h slot)
   root_keeps s h gone = (λ x a. a, refl)
   root_keeps s h (staged chain parent ws keys) = (λ x a. a, refl)
   root_keeps s h (writing chain parent ws) = (λ x a. a, refl)
-  root_keeps s h (merkleized chain tip) = (λ x a. a, refl)
+  root_keeps s h (merkleized chain tip evicted) = (λ x a. a, refl)
 
   proof_keeps : (s : State) (h : ℕ) (list : List Operation) (slot : Slot) → Keeps s (proof_in m s h list slot)
   proof_keeps s h list gone = (λ x a. a, refl)
   proof_keeps s h list (staged chain parent ws keys) = (λ x a. a, refl)
   proof_keeps s h list (writing chain parent ws) = (λ x a. a, refl)
-  proof_keeps s h list (merkleized chain tip) = either s (readable m.root (commitment m.root list) chain tip) _ _ (unless_keeps s (proof_lacked m.shape s.log.start list chain tip) _) (λ x a. a, refl)
+  proof_keeps s h list (merkleized chain tip evicted) = either s (readable m.root (commitment m.root list) chain tip) _ _ (unless_keeps s (proof_lacked m.shape s.log.start list chain tip) _) (λ x a. a, refl)
 
   prune_keeps : (s : State) (to : ℕ) (list : List Operation) → Keeps s (prune_in m s to list)
   prune_keeps s to list = either s (nat_lt (m.boundary list) to) _ _ (λ x a. a, refl) (λ x a. a, refl)
 
 module _ (m : Scheme) {P : Type 0} (rules : Rules P) where
   writes_keep : (s : State) (h : ℕ) (policy : P) (meta : Option Bytes) (list : List Operation) (chain : Chain) (ws : List Write) → Keeps s (merkleize_writes m rules s h policy meta list chain ws)
-  writes_keep s h policy meta list chain ws = either s (takes m.grafts s.opened chain.instance && fits m.root (commitment m.root list) chain) _ _ (tip_keeps s h chain _ (tip_refusal m.form chain _)) (λ x a. a, refl)
+  writes_keep s h policy meta list chain ws = either s (takes m.grafts s.opened chain.instance && fits m.root (commitment m.root list) chain) _ _ (tip_keeps s h chain _ _ (tip_refusal m.form chain _)) (λ x a. a, refl)
 
   resolve_keeps : (s : State) (h : ℕ) (policy : P) (meta : Option Bytes) (given : List slots.Slot) (others : List Write) (list : List Operation) (slot : Slot) → Keeps s (resolve_in m rules s h policy meta given others list slot)
   resolve_keeps s h policy meta given others list gone = (λ x a. a, refl)
   resolve_keeps s h policy meta given others list (writing chain parent ws) = (λ x a. a, refl)
-  resolve_keeps s h policy meta given others list (merkleized chain tip) = (λ x a. a, refl)
+  resolve_keeps s h policy meta given others list (merkleized chain tip evicted) = (λ x a. a, refl)
   resolve_keeps s h policy meta given others list (staged chain parent ws keys) =
       either s (length keys == length given) _ _ (writes_keep s h policy meta list chain (slotted ws keys given others)) (λ x a. a, refl)
 
   merkleize_keeps : (s : State) (h : ℕ) (policy : P) (meta : Option Bytes) (list : List Operation) (slot : Slot) → Keeps s (merkleize_in m rules s h policy meta list slot)
   merkleize_keeps s h policy meta list gone = (λ x a. a, refl)
   merkleize_keeps s h policy meta list (staged chain parent ws keys) = (λ x a. a, refl)
-  merkleize_keeps s h policy meta list (merkleized chain tip) = (λ x a. a, refl)
+  merkleize_keeps s h policy meta list (merkleized chain tip evicted) = (λ x a. a, refl)
   merkleize_keeps s h policy meta list (writing chain parent ws) = writes_keep s h policy meta list chain ws
 
   abbrev Turns : State → Line P → Type 0
@@ -206,6 +212,7 @@ module _ (m : Scheme) {P : Type 0} (rules : Rules P) where
   turn_keeps s (Resolve h policy meta given others) = with_list s s.database _ (λ list. resolve_keeps s h policy meta given others list (slot_at s.table h))
   turn_keeps s (Apply h) = with_list s s.database _ (λ list. apply_keeps m s h list (slot_at s.table h))
   turn_keeps s (Ops h) = listed_keeps s h (slot_at s.table h)
+  turn_keeps s (Evicted h) = evicted_keeps s h (slot_at s.table h)
   turn_keeps s (Get key from) = read_keeps m s (key ∷ []) from
   turn_keeps s (Many keys from) = read_keeps m s keys from
   turn_keeps s (Next key from) = ordered_keeps m s _ (neighbour_keeps m s (λ keys. key_above keys key) from)

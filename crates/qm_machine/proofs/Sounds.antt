@@ -16,7 +16,7 @@ use Rattle.qm_model.specs.Writes.{Write}
 use Rattle.qm_model.specs.Slots.{slotted}
 use Rattle.qm_model.specs.Slots as slots
 use Rattle.qm_model.specs.Ordered.{IsRing}
-use Rattle.qm_model.specs.Step.{Kind, Made, IsGood, first, next, step, ordered, unordered}
+use Rattle.qm_model.specs.Step.{Kind, Made, IsGood, first, next, step, evicted_by, ordered, unordered}
 use Rattle.qm_model.specs.Batches.{Chain, Apart, IsAmong, IsRising, Begins, commitment, fits, readable}
 use Rattle.qm_model.specs.Grafted.{boundary}
 use Rattle.qm_model.specs.Own.{Engine, Log, no_log, left_at, ArePrompt, ArePruned, IsKept, Takes, OpensParts, settled_list, ended_size, ended_part, KeepsCount}
@@ -34,9 +34,9 @@ use Rattle.qm_model.proofs.OrderedSteps.{made-ordered}
 use Rattle.qm_model.proofs.Prefixes.{unordered-begins, ordered-begins}
 use Rattle.qm_model.proofs.Boundaries.{boundary-rises}
 use Rattle.qm_model.proofs.Openings.{IsPart, ended-part, ended-whole, unordered-parts, ordered-parts, unordered-left, ordered-left, unordered-keeps, ordered-keeps}
-use Rattle.qm_machine.specs.Lines.{Line, Open, Batch, Child, Tip, Put, Del, Merkleize, Stage, Expand, Resolve, Apply, Ops, Get, Many, Next, Prev, Span, Range, Keys, Info, BatchInfo, Root, BatchRoot, BatchProof, Meta, Prove, Pins, Question, Held, Absent, Witness, Current, Prune, Commit, Sync, Close, Destroy, Crash, Answer}
+use Rattle.qm_machine.specs.Lines.{Line, Open, Batch, Child, Tip, Put, Del, Merkleize, Stage, Expand, Resolve, Apply, Ops, Evicted, Get, Many, Next, Prev, Span, Range, Keys, Info, BatchInfo, Root, BatchRoot, BatchProof, Meta, Prove, Pins, Question, Held, Absent, Witness, Current, Prune, Commit, Sync, Close, Destroy, Crash, Answer}
 use Rattle.qm_machine.specs.Lines as lines
-use Rattle.qm_machine.specs.Machine.{State, Slot, gone, writing, staged, merkleized, turn, slot_at, with_slot, initial, started, start_child, put_in, list_operations, with_database, closed, settled, commit, restarted, opened_as, if_any, if_current, if_absences, held_at, absent_at, if_checked, asked, answered, found_in, unless, merkleize_tip, merkleize_writes, merkleize_in, resolve_in, apply_in, if_readable, if_staged, stage_in, expand_in, read_in, read, if_ordered, neighbour_in, neighbour_of, info_in, root_in, proof_in, pruned, prune_in}
+use Rattle.qm_machine.specs.Machine.{State, Slot, gone, writing, staged, merkleized, turn, slot_at, with_slot, initial, started, start_child, put_in, list_operations, list_evicted, with_database, closed, settled, commit, restarted, opened_as, if_any, if_current, if_absences, held_at, absent_at, if_checked, asked, answered, found_in, unless, merkleize_tip, merkleize_writes, merkleize_in, resolve_in, apply_in, if_readable, if_staged, stage_in, expand_in, read_in, read, if_ordered, neighbour_in, neighbour_of, info_in, root_in, proof_in, pruned, prune_in}
 use Rattle.qm_model.specs.Schemes.{Scheme, Grafts, takes, chunks_of, chunks_after, kind_of, engine_of, layout_of, HasBounds}
 use Rattle.qm_model.specs.Held.{pins_lacked, proof_lacked}
 use Rattle.qm_machine.specs.Sound.{IsSoundSlot, IsSteady, IsSound}
@@ -47,7 +47,7 @@ slot-more : (had : List (List Operation)) (new : List Operation) (slot : Slot) �
 slot-more had new gone is = tt
 slot-more had new (writing chain parent ws) is = (IsAmong-more had new chain is.0, is.1)
 slot-more had new (staged chain parent ws keys) is = (IsAmong-more had new chain is.0, is.1)
-slot-more had new (merkleized chain tip) is = (IsAmong-more had new chain is.0, is.1, Contains-more had new tip is.2, is.3)
+slot-more had new (merkleized chain tip evicted) is = (IsAmong-more had new chain is.0, is.1, Contains-more had new tip is.2, is.3)
 
 set-each : (P : Slot → Type 0) (table : List Slot) (i : ℕ) (slot : Slot) → P gone → P slot → ((h : ℕ) → P (get_or table h gone)) → (h : ℕ) → P (get_or (set table i slot) h gone)
 set-each P [] i slot none is each h = none
@@ -374,7 +374,7 @@ module _ (m : Scheme) {P : Type 0} (rules : Rules P) where
       }
 
   child_sound : (s : State) (h : ℕ) (keep : Option ℕ) (slot : Slot) → IsSoundSlot s.had slot → IsSound m rules s → Sound (start_child s h keep slot)
-  child_sound s h keep (merkleized chain tip) one is = started_sound s _ (child-among s.had keep chain tip one.0 one.2, child-rising keep chain tip one.1 one.3) is
+  child_sound s h keep (merkleized chain tip evicted) one is = started_sound s _ (child-among s.had keep chain tip one.0 one.2, child-rising keep chain tip one.1 one.3) is
   child_sound s h keep gone one is = (λ apart formed. is)
   child_sound s h keep (staged chain parent ws keys) one is = (λ apart formed. is)
   child_sound s h keep (writing chain parent ws) one is = (λ apart formed. is)
@@ -383,13 +383,19 @@ module _ (m : Scheme) {P : Type 0} (rules : Rules P) where
   put_sound s h w (writing chain parent ws) one is = λ apart formed. slotted_sound s h _ one is
   put_sound s h w gone one is = (λ apart formed. is)
   put_sound s h w (staged chain parent ws keys) one is = (λ apart formed. is)
-  put_sound s h w (merkleized chain tip) one is = (λ apart formed. is)
+  put_sound s h w (merkleized chain tip evicted) one is = (λ apart formed. is)
 
   listed_sound : (s : State) (h : ℕ) (slot : Slot) → IsSound m rules s → Sound (list_operations s h slot)
-  listed_sound s h (merkleized chain tip) is = (λ apart formed. is)
+  listed_sound s h (merkleized chain tip evicted) is = (λ apart formed. is)
   listed_sound s h gone is = (λ apart formed. is)
   listed_sound s h (staged chain parent ws keys) is = (λ apart formed. is)
   listed_sound s h (writing chain parent ws) is = (λ apart formed. is)
+
+  evicted_sound : (s : State) (h : ℕ) (slot : Slot) → IsSound m rules s → Sound (list_evicted s h slot)
+  evicted_sound s h (merkleized chain tip evicted) is = (λ apart formed. is)
+  evicted_sound s h gone is = (λ apart formed. is)
+  evicted_sound s h (staged chain parent ws keys) is = (λ apart formed. is)
+  evicted_sound s h (writing chain parent ws) is = (λ apart formed. is)
 
   readable_sound : (s : State) (list : List Operation) (chain : Chain) (tip : List Operation) (answer : Answer) → IsSound m rules s → Sound (if_readable m s list chain tip answer)
   readable_sound s list chain tip answer is = either (readable m.root (commitment m.root list) chain tip) _ _ (λ yes. same s answer is) (λ not. (λ apart formed. is))
@@ -402,17 +408,17 @@ module _ (m : Scheme) {P : Type 0} (rules : Rules P) where
   stage_sound s h keys list (writing chain parent ws) one is = staged_sound s h list chain parent _ _ one is
   stage_sound s h keys list gone one is = (λ apart formed. is)
   stage_sound s h keys list (staged chain parent ws ks) one is = (λ apart formed. is)
-  stage_sound s h keys list (merkleized chain tip) one is = (λ apart formed. is)
+  stage_sound s h keys list (merkleized chain tip evicted) one is = (λ apart formed. is)
 
   expand_sound : (s : State) (h : ℕ) (keys : List Bytes) (list : List Operation) (slot : Slot) → IsSoundSlot s.had slot → IsSound m rules s → Sound (expand_in m s h keys list slot)
   expand_sound s h keys list (staged chain parent ws ks) one is = staged_sound s h list chain parent _ _ one is
   expand_sound s h keys list gone one is = (λ apart formed. is)
   expand_sound s h keys list (writing chain parent ws) one is = (λ apart formed. is)
-  expand_sound s h keys list (merkleized chain tip) one is = (λ apart formed. is)
+  expand_sound s h keys list (merkleized chain tip evicted) one is = (λ apart formed. is)
 
   read_in_sound : (s : State) (h : ℕ) (keys : List Bytes) (list : List Operation) (slot : Slot) → IsSound m rules s → Sound (read_in m s h keys list slot)
   read_in_sound s h keys list (writing chain parent ws) is = readable_sound s list parent chain.base _ is
-  read_in_sound s h keys list (merkleized chain tip) is = readable_sound s list chain tip _ is
+  read_in_sound s h keys list (merkleized chain tip evicted) is = readable_sound s list chain tip _ is
   read_in_sound s h keys list gone is = (λ apart formed. is)
   read_in_sound s h keys list (staged chain parent ws ks) is = (λ apart formed. is)
 
@@ -421,7 +427,7 @@ module _ (m : Scheme) {P : Type 0} (rules : Rules P) where
   read_sound s keys (Some h) is = with_list s s.database _ is (λ list e. read_in_sound s h keys list (slot_at s.table h) is)
 
   neighbour_in_sound : (s : State) (h : ℕ) (beside : List Bytes → Option Bytes) (list : List Operation) (slot : Slot) → IsSound m rules s → Sound (neighbour_in m s h beside list slot)
-  neighbour_in_sound s h beside list (merkleized chain tip) is = readable_sound s list chain tip _ is
+  neighbour_in_sound s h beside list (merkleized chain tip evicted) is = readable_sound s list chain tip _ is
   neighbour_in_sound s h beside list gone is = (λ apart formed. is)
   neighbour_in_sound s h beside list (writing chain parent ws) is = (λ apart formed. is)
   neighbour_in_sound s h beside list (staged chain parent ws ks) is = (λ apart formed. is)
@@ -431,19 +437,19 @@ module _ (m : Scheme) {P : Type 0} (rules : Rules P) where
   neighbour_sound s beside (Some h) is = with_list s s.database _ is (λ list e. neighbour_in_sound s h beside list (slot_at s.table h) is)
 
   info_sound : (s : State) (h : ℕ) (slot : Slot) → IsSound m rules s → Sound (info_in m s h slot)
-  info_sound s h (merkleized chain tip) is = (λ apart formed. is)
+  info_sound s h (merkleized chain tip evicted) is = (λ apart formed. is)
   info_sound s h gone is = (λ apart formed. is)
   info_sound s h (staged chain parent ws keys) is = (λ apart formed. is)
   info_sound s h (writing chain parent ws) is = (λ apart formed. is)
 
   root_sound : (s : State) (h : ℕ) (slot : Slot) → IsSound m rules s → Sound (root_in m s h slot)
-  root_sound s h (merkleized chain tip) is = (λ apart formed. is)
+  root_sound s h (merkleized chain tip evicted) is = (λ apart formed. is)
   root_sound s h gone is = (λ apart formed. is)
   root_sound s h (staged chain parent ws keys) is = (λ apart formed. is)
   root_sound s h (writing chain parent ws) is = (λ apart formed. is)
 
   proof_sound : (s : State) (h : ℕ) (list : List Operation) (slot : Slot) → IsSound m rules s → Sound (proof_in m s h list slot)
-  proof_sound s h list (merkleized chain tip) is =
+  proof_sound s h list (merkleized chain tip evicted) is =
       either (readable m.root (commitment m.root list) chain tip) _ _ (λ yes. unless_due s (proof_lacked m.shape s.log.start list chain tip) _ is) (λ not. (λ apart formed. is))
   proof_sound s h list gone is = (λ apart formed. is)
   proof_sound s h list (staged chain parent ws keys) is = (λ apart formed. is)
@@ -453,7 +459,7 @@ module _ (m : Scheme) {P : Type 0} (rules : Rules P) where
   apply_sound s h list gone e one is = (λ apart formed. is)
   apply_sound s h list (staged chain parent ws keys) e one is = (λ apart formed. is)
   apply_sound s h list (writing chain parent ws) e one is = (λ apart formed. is)
-  apply_sound s h list (merkleized chain tip) e one is = either (fits m.root (commitment m.root list) chain) _ _ taken (λ not. (λ apart formed. is))
+  apply_sound s h list (merkleized chain tip evicted) e one is = either (fits m.root (commitment m.root list) chain) _ _ taken (λ not. (λ apart formed. is))
     where
       taken : fits m.root (commitment m.root list) chain ≡ true → Sound (lines.Applied (length tip), record s { database = Some tip; log = record s.log { list = tip } })
       taken fit apart formed =
@@ -467,34 +473,34 @@ module _ (m : Scheme) {P : Type 0} (rules : Rules P) where
             slots = is.slots;
           }
 
-  tip_sound : (s : State) (h : ℕ) (chain : Chain) (tip : List Operation) (due : Option Refused) → IsAmong s.had chain → IsRising chain → Begins chain.base tip → (due ≡ None → Made (kind_of m) rules tip) → IsSound m rules s → Sound (merkleize_tip s h chain tip due)
-  tip_sound s h chain tip (Some r) among rising begins made is = λ apart formed. slotted_sound s h gone tt is
-  tip_sound s h chain tip None among rising begins made is = λ apart formed. record {
+  tip_sound : (s : State) (h : ℕ) (chain : Chain) (tip : List Operation) (evicted : List (Bytes × Bytes)) (due : Option Refused) → IsAmong s.had chain → IsRising chain → Begins chain.base tip → (due ≡ None → Made (kind_of m) rules tip) → IsSound m rules s → Sound (merkleize_tip s h chain tip evicted due)
+  tip_sound s h chain tip evicted (Some r) among rising begins made is = λ apart formed. slotted_sound s h gone tt is
+  tip_sound s h chain tip evicted None among rising begins made is = λ apart formed. record {
     kept = is.kept;
     held = λ list e. ((is.held list e).0, Contains-more s.had tip list (is.held list e).1);
     made = made_more s.had tip (made refl) is.made;
-    slots = set-each (IsSoundSlot (tip ∷ s.had)) s.table h (merkleized chain tip) tt (IsAmong-more s.had tip chain among, rising, Contains-first tip s.had, begins) (λ k. slot-more s.had tip (slot_at s.table k) (is.slots k));
+    slots = set-each (IsSoundSlot (tip ∷ s.had)) s.table h (merkleized chain tip evicted) tt (IsAmong-more s.had tip chain among, rising, Contains-first tip s.had, begins) (λ k. slot-more s.had tip (slot_at s.table k) (is.slots k));
   }
 
   writes_sound : (s : State) (h : ℕ) (policy : P) (meta : Option Bytes) (list : List Operation) (chain : Chain) (ws : List Write) → IsAmong s.had chain → IsRising chain → IsSound m rules s → Sound (merkleize_writes m rules s h policy meta list chain ws)
   writes_sound s h policy meta list chain ws among rising is =
       let tip = step (kind_of m) rules chain.base ws policy meta in
       either (takes m.grafts s.opened chain.instance && fits m.root (commitment m.root list) chain) _ _
-      (λ fit. tip_sound s h chain tip (tip_refusal m.form chain tip) among rising (step-begins (kind_of m) rules chain.base ws policy meta) (λ due. next chain.base ws policy meta (is.made chain.base among.base) (short-tip m.form chain tip due)) is)
+      (λ fit. tip_sound s h chain tip (evicted_by (kind_of m) rules chain.base ws policy) (tip_refusal m.form chain tip) among rising (step-begins (kind_of m) rules chain.base ws policy meta) (λ due. next chain.base ws policy meta (is.made chain.base among.base) (short-tip m.form chain tip due)) is)
       (λ unfit apart formed. slotted_sound s h gone tt is)
 
   merkleize_sound : (s : State) (h : ℕ) (policy : P) (meta : Option Bytes) (list : List Operation) (slot : Slot) → IsSoundSlot s.had slot → IsSound m rules s → Sound (merkleize_in m rules s h policy meta list slot)
   merkleize_sound s h policy meta list (writing chain parent ws) one is = writes_sound s h policy meta list chain ws one.0 one.1 is
   merkleize_sound s h policy meta list gone one is = (λ apart formed. is)
   merkleize_sound s h policy meta list (staged chain parent ws keys) one is = (λ apart formed. is)
-  merkleize_sound s h policy meta list (merkleized chain tip) one is = (λ apart formed. is)
+  merkleize_sound s h policy meta list (merkleized chain tip evicted) one is = (λ apart formed. is)
 
   resolve_sound : (s : State) (h : ℕ) (policy : P) (meta : Option Bytes) (given : List slots.Slot) (others : List Write) (list : List Operation) (slot : Slot) → IsSoundSlot s.had slot → IsSound m rules s → Sound (resolve_in m rules s h policy meta given others list slot)
   resolve_sound s h policy meta given others list (staged chain parent ws keys) one is =
       either (length keys == length given) _ _ (λ yes. writes_sound s h policy meta list chain (slotted ws keys given others) one.0 one.1 is) (λ not. (λ apart formed. is))
   resolve_sound s h policy meta given others list gone one is = (λ apart formed. is)
   resolve_sound s h policy meta given others list (writing chain parent ws) one is = (λ apart formed. is)
-  resolve_sound s h policy meta given others list (merkleized chain tip) one is = (λ apart formed. is)
+  resolve_sound s h policy meta given others list (merkleized chain tip evicted) one is = (λ apart formed. is)
 
   commit_sound : (s : State) → IsSound m rules s → Sound (commit s)
   commit_sound s is = with_list s s.database _ is (λ list e apart formed. record { kept = settled-kept s.log is.kept; held = is.held; made = is.made; slots = is.slots })
@@ -527,6 +533,7 @@ module _ (m : Scheme) {P : Type 0} (rules : Rules P) where
   turn-sound bounds s (Resolve h policy meta given others) is = with_list s s.database _ is (λ list e. resolve_sound s h policy meta given others list (slot_at s.table h) (is.slots h) is)
   turn-sound bounds s (Apply h) is = with_list s s.database _ is (λ list e. apply_sound s h list (slot_at s.table h) e (is.slots h) is)
   turn-sound bounds s (Ops h) is = listed_sound s h (slot_at s.table h) is
+  turn-sound bounds s (Evicted h) is = evicted_sound s h (slot_at s.table h) is
   turn-sound bounds s (Get key from) is = read_sound s (key ∷ []) from is
   turn-sound bounds s (Many keys from) is = read_sound s keys from is
   turn-sound bounds s (Next key from) is = ordered_only s _ is (neighbour_sound s (λ keys. key_above keys key) from is)

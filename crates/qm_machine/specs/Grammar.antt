@@ -10,7 +10,7 @@ use Rattle.qm_model.specs.Walk.{Limits}
 use Rattle.qm_model.specs.Slots.{Slot, keep, put, away}
 use Rattle.qm_model.specs.Writes.{Write}
 use Rattle.qm_model.specs.Policies.{Policy, proportional, hold, bounded, rule}
-use Rattle.qm_machine.specs.Lines.{Line, Open, Batch, Child, Tip, Put, Del, Merkleize, Stage, Expand, Resolve, Apply, Ops, Get, Many, Next, Prev, Span, All, Range, Keys, Info, BatchInfo, Root, BatchRoot, BatchProof, Meta, Prove, Pins, Current, Prune, Commit, Sync, Close, Destroy, Crash, Held, Absent, Chunks, Witness}
+use Rattle.qm_machine.specs.Lines.{Line, Open, Batch, Child, Tip, Put, Del, Merkleize, Stage, Expand, Resolve, Apply, Ops, Evicted, Get, Many, Next, Prev, Span, All, Range, Keys, Info, BatchInfo, Root, BatchRoot, BatchProof, Meta, Prove, Pins, Current, Prune, Commit, Sync, Close, Destroy, Crash, Held, Absent, Chunks, Witness}
 
 -- the number with one decimal digit more, below 2 ^ 64
 abbrev pub next_digit : ℕ → ℕ → Option ℕ
@@ -72,14 +72,14 @@ abbrev pub swap_of : Bytes → Option (Bytes × Bytes)
 swap_of word = swap_of_words (slice_split (λ c. c == 62) word)
 
 -- the policy of these numbers and values, if no part is left
-abbrev pub rule_of : ℕ → ℕ → Option Bytes → Option Bytes → Option (Bytes × Bytes) × List Bytes → Option Policy
-rule_of entries skips drops stops (swap, []) = Some (rule entries skips drops stops swap)
-rule_of entries skips drops stops (swap, part ∷ parts) = None
+abbrev pub rule_of : ℕ → ℕ → Option Bytes → Option Bytes → Option (Bytes × Bytes) → Option ℕ × List Bytes → Option Policy
+rule_of entries skips drops stops swap (spare, []) = Some (rule entries skips drops stops swap spare)
+rule_of entries skips drops stops swap (spare, part ∷ parts) = None
 
--- a value to drop, one to stop at, and two to swap, each if it is given, in this order
+-- a value to drop, one to stop at, two to swap, and how many entries to spare, each if it is given, in this order
 abbrev pub rule_with : ℕ → ℕ → List Bytes → Option Policy
 rule_with entries skips parts =
-    option_and_then (λ d. option_and_then (λ s. option_and_then (rule_of entries skips d.0 s.0) (optional (codes "swap=") swap_of s.1)) (optional (codes "stop=") value_of d.1)) (optional (codes "drop=") value_of parts)
+    option_and_then (λ d. option_and_then (λ s. option_and_then (λ w. option_and_then (rule_of entries skips d.0 s.0 w.0) (optional (codes "spare=") number_of w.1)) (optional (codes "swap=") swap_of s.1)) (optional (codes "stop=") value_of d.1)) (optional (codes "drop=") value_of parts)
 
 -- entries and skips
 abbrev pub limits_of : Bytes → Bytes → Option Limits
@@ -337,6 +337,7 @@ staged_forms =
     ∷ (codes "resolve", resolve_of)
     ∷ (codes "apply", numbered Apply)
     ∷ (codes "ops", numbered Ops)
+    ∷ (codes "evicted", numbered Evicted)
     ∷ reading_forms
 
 -- of all of them

@@ -58,6 +58,23 @@ asked line = []
 abbrev lasting : Bytes → Bytes
 lasting input = text_of (answers telling policies (initial no_log (flat_map asked (commands_in input))) (commands_in input))
 
+-- a rule that spares the last entry: what it evicts is told
+abbrev held_start : List Bytes
+held_start = codes "open" ∷ codes "batch" ∷ codes "put 1 61 01" ∷ codes "put 1 62 02" ∷ codes "merkleize 1 hold none" ∷ codes "apply 1" ∷ codes "batch" ∷ codes "batch" ∷ []
+
+abbrev held_started : List Bytes
+held_started = codes "open 1 0 1" ∷ codes "batch 1" ∷ codes "ok" ∷ codes "ok" ∷ codes "merkleized 1 1 4 0" ∷ codes "applied 4" ∷ codes "batch 2" ∷ codes "batch 3" ∷ []
+
+evicted_text : text (lines (held_start ++ codes "merkleize 2 rule:2:9:drop=01:spare=1 none" ∷ codes "ops 2" ∷ codes "evicted 2" ∷ []))
+    ≡ lines (held_started ++ codes "merkleized 2 4 7 3" ∷ codes "ops 4 D:61 U:62=02 C:none@3" ∷ codes "evicted 61=01" ∷ [])
+unfolding digits ones ones_in digits_below decode_pairs encode_with four_bytes eight_bytes
+evicted_text = refl
+
+spared_text : text (lines (held_start ++ codes "merkleize 3 rule:2:9:drop=02:spare=1 none" ∷ codes "ops 3" ∷ codes "evicted 3" ∷ codes "evicted 2" ∷ codes "tip" ∷ codes "evicted 4" ∷ []))
+    ≡ lines (held_started ++ codes "merkleized 3 4 7 3" ∷ codes "ops 4 U:61=01 U:62=02 C:none@3" ∷ codes "evicted" ∷ codes "refused NoSuchHandle 2" ∷ codes "batch 4" ∷ codes "evicted" ∷ [])
+unfolding digits ones ones_in digits_below decode_pairs encode_with four_bytes eight_bytes
+spared_text = refl
+
 -- one put, read back
 one_put_text : text (lines (codes "open" ∷ codes "batch" ∷ codes "put 1 6b 76" ∷ codes "merkleize 1 prop none" ∷ codes "apply 1" ∷ codes "ops 1" ∷ codes "get 6b" ∷ codes "info" ∷ []))
     ≡ lines (codes "open 1 0 1" ∷ codes "batch 1" ∷ codes "ok" ∷ codes "merkleized 1 1 4 2" ∷ codes "applied 4" ∷ codes "ops 1 U:6b=76 U:6b=76 C:none@2" ∷ codes "read 76" ∷ codes "info 0 4 2 2 live" ∷ [])
@@ -343,13 +360,17 @@ bounded_line : merkleize_at (bounded 3 18446744073709551615) (codes "bounded:3:1
 unfolding merkleize_at
 bounded_line = refl
 
-rule_line : merkleize_at (rule 2 9 None None None) (codes "rule:2:9")
+rule_line : merkleize_at (rule 2 9 None None None None) (codes "rule:2:9")
 unfolding merkleize_at
 rule_line = refl
 
-whole_rule_line : merkleize_at (rule 2 9 (Some (2 ∷ [])) (Some []) (Some (1 ∷ [], 0x0a ∷ []))) (codes "rule:2:9:drop=02:stop=-:swap=01>0A")
+whole_rule_line : merkleize_at (rule 2 9 (Some (2 ∷ [])) (Some []) (Some (1 ∷ [], 0x0a ∷ [])) None) (codes "rule:2:9:drop=02:stop=-:swap=01>0A")
 unfolding merkleize_at decode_pairs
 whole_rule_line = refl
+
+spared_rule_line : merkleize_at (rule 2 9 (Some (1 ∷ [])) None None (Some 1)) (codes "rule:2:9:drop=01:spare=1")
+unfolding merkleize_at decode_pairs
+spared_rule_line = refl
 
 -- what is no policy: other words, parts in another order or twice, no value, half a swap
 no_policy : Bytes → Type 0

@@ -35,6 +35,8 @@ pub data Line (P : Type 0) : Type 0 where
   Resolve : ℕ → P → Option Bytes → List Slot → List Write → Line P
   Apply : ℕ → Line P
   Ops : ℕ → Line P
+  -- what a merkleized batch evicted
+  Evicted : ℕ → Line P
   -- keys, through the database or a batch
   Get : Bytes → Option ℕ → Line P
   Many : List Bytes → Option ℕ → Line P
@@ -81,6 +83,8 @@ pub data Answer : Type 0 where
   Applied : ℕ → Answer
   -- the size of the base, and a batch's own operations
   Listed : ℕ → List Operation → Answer
+  -- evicted keys with the values that they had
+  Dropped : List (Bytes × Bytes) → Answer
   Read : List (Option Bytes) → Answer
   -- from which staged key up to which, and what was read of these
   Expanded : ℕ → ℕ → List (Option Bytes) → Answer

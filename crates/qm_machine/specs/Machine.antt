@@ -14,7 +14,7 @@ use Rattle.qm_model.specs.Checks.{Checks}
 use Rattle.qm_model.specs.Opening.{Found, Opening, refuses, opens, opening, opened_list}
 use Rattle.qm_model.specs.Own.{Log, no_log, taken_up}
 use Rattle.qm_model.specs.Batches.{Chain, begun_on, child_of, commitment, fits, readable, own_operations}
-use Rattle.qm_machine.specs.Lines.{Line, Open, Batch, Child, Tip, Put, Del, Merkleize, Stage, Expand, Resolve, Apply, Ops, Get, Many, Next, Prev, Span, All, Range, Keys, Info, BatchInfo, Root, BatchRoot, BatchProof, Meta, Prove, Pins, Question, Held, Absent, Witness, Current, Prune, Commit, Sync, Close, Destroy, Crash, Answer, Opened, Started, Done, Merkleized, Applied, Listed, Read, Expanded, Neighbour, Spanning, Whole, Ranged, Keyed, Told, BatchTold, Rooted, Metadata, Proved, BatchProved, Pinned, HeldAt, AbsentAt, Chunked, Witnessed, Refuses}
+use Rattle.qm_machine.specs.Lines.{Line, Open, Batch, Child, Tip, Put, Del, Merkleize, Stage, Expand, Resolve, Apply, Ops, Evicted, Get, Many, Next, Prev, Span, All, Range, Keys, Info, BatchInfo, Root, BatchRoot, BatchProof, Meta, Prove, Pins, Question, Held, Absent, Witness, Current, Prune, Commit, Sync, Close, Destroy, Crash, Answer, Opened, Started, Done, Merkleized, Applied, Listed, Read, Expanded, Neighbour, Spanning, Whole, Ranged, Keyed, Told, BatchTold, Rooted, Metadata, Proved, BatchProved, Pinned, HeldAt, AbsentAt, Chunked, Witnessed, Dropped, Refuses}
 use Rattle.qm_machine.specs.Lines as lines
 use Rattle.qm_model.specs.Refused.{Refused, NotOffered, NoDatabase, NoSuchHandle, SlotCount, StaleBatch, StaleRead, KeyNotFound, KeyExists, PruneBeyondMinRequired}
 use Rattle.qm_model.specs.Refusals.{tip_refusal, proof_refusal, proof_count, range_refusal}
@@ -22,13 +22,13 @@ use Rattle.qm_model.specs.Held.{pins_lacked, proof_lacked}
 use Rattle.qm_model.specs.Schemes.{Grafts, Scheme, kind_of, layout_of, takes, chunks_after}
 
 -- a batch number: used up; a batch with the chain of its parent, which made its base, and its writes; the same with the
--- keys that were staged; a merkleized batch with its tip list. The parent of a batch that was begun on a database is that as
--- a merkleized batch.
+-- keys that were staged; a merkleized batch with its tip list, and the keys that its step evicted, in the order of the walk, each
+-- with the value that it had. The parent of a batch that was begun on a database is that as a merkleized batch.
 pub data Slot : Type 0 where
   gone : Slot
   writing : Chain → Chain → List Write → Slot
   staged : Chain → Chain → List Write → List Bytes → Slot
-  merkleized : Chain → List Operation → Slot
+  merkleized : Chain → List Operation → List (Bytes × Bytes) → Slot
 
 pub record State : Type 0 where
   -- the open database's list, which is then the store's
@@ -111,7 +111,7 @@ abbrev pub start_batch : State → Answer × State
 start_batch s = with_database s s.database (λ list. started s (writing (begun_on s.opened list) (begun_on s.opened list) []))
 
 abbrev pub start_child : State → ℕ → Option ℕ → Slot → Answer × State
-start_child s h keep (merkleized chain tip) = started s (writing (child_of keep chain tip) chain [])
+start_child s h keep (merkleized chain tip evicted) = started s (writing (child_of keep chain tip) chain [])
 start_child s h keep gone = refuse s (NoSuchHandle h)
 start_child s h keep (staged chain parent ws keys) = refuse s (NoSuchHandle h)
 start_child s h keep (writing chain parent ws) = refuse s (NoSuchHandle h)
@@ -120,13 +120,13 @@ abbrev pub child : State → ℕ → Option ℕ → Answer × State
 child s h keep = start_child s h keep (slot_at s.table h)
 
 abbrev pub start_tip : State → Answer × State
-start_tip s = with_database s s.database (λ list. started s (merkleized (begun_on s.opened list) list))
+start_tip s = with_database s s.database (λ list. started s (merkleized (begun_on s.opened list) list []))
 
 abbrev pub put_in : State → ℕ → Write → Slot → Answer × State
 put_in s h w (writing chain parent ws) = (Done, with_slot s h (writing chain parent (ws ++ w ∷ [])))
 put_in s h w gone = refuse s (NoSuchHandle h)
 put_in s h w (staged chain parent ws keys) = refuse s (NoSuchHandle h)
-put_in s h w (merkleized chain tip) = refuse s (NoSuchHandle h)
+put_in s h w (merkleized chain tip evicted) = refuse s (NoSuchHandle h)
 
 abbrev pub put : State → ℕ → Bytes → Bytes → Answer × State
 put s h key value = put_in s h (record { key = key; value = Some value }) (slot_at s.table h)
@@ -135,7 +135,7 @@ abbrev pub del : State → ℕ → Bytes → Answer × State
 del s h key = put_in s h (record { key = key; value = None }) (slot_at s.table h)
 
 abbrev pub list_operations : State → ℕ → Slot → Answer × State
-list_operations s h (merkleized chain tip) = (Listed (length chain.base) (own_operations chain tip), s)
+list_operations s h (merkleized chain tip evicted) = (Listed (length chain.base) (own_operations chain tip), s)
 list_operations s h gone = refuse s (NoSuchHandle h)
 list_operations s h (staged chain parent ws keys) = refuse s (NoSuchHandle h)
 list_operations s h (writing chain parent ws) = refuse s (NoSuchHandle h)
@@ -143,15 +143,25 @@ list_operations s h (writing chain parent ws) = refuse s (NoSuchHandle h)
 abbrev pub ops : State → ℕ → Answer × State
 ops s h = list_operations s h (slot_at s.table h)
 
+-- the keys that a merkleized batch's step evicted
+abbrev pub list_evicted : State → ℕ → Slot → Answer × State
+list_evicted s h (merkleized chain tip evicted) = (Dropped evicted, s)
+list_evicted s h gone = refuse s (NoSuchHandle h)
+list_evicted s h (staged chain parent ws keys) = refuse s (NoSuchHandle h)
+list_evicted s h (writing chain parent ws) = refuse s (NoSuchHandle h)
+
+abbrev pub evicted : State → ℕ → Answer × State
+evicted s h = list_evicted s h (slot_at s.table h)
+
 -- the metadata of the list's last commit
 abbrev pub meta : State → Answer × State
 meta s = with_database s s.database (λ list. (Metadata (last_metadata list), s))
 
--- the batch gets its tip list, or is used up if that is refused
-abbrev pub merkleize_tip : State → ℕ → Chain → List Operation → Option Refused → Answer × State
-merkleize_tip s h chain tip None =
-    (Merkleized h (length chain.base) (length tip) (floor tip), record (with_slot s h (merkleized chain tip)) { had = tip ∷ s.had })
-merkleize_tip s h chain tip (Some r) = refuse (with_slot s h gone) r
+-- the batch gets its tip list and what was evicted, or is used up if that is refused
+abbrev pub merkleize_tip : State → ℕ → Chain → List Operation → List (Bytes × Bytes) → Option Refused → Answer × State
+merkleize_tip s h chain tip evicted None =
+    (Merkleized h (length chain.base) (length tip) (floor tip), record (with_slot s h (merkleized chain tip evicted)) { had = tip ∷ s.had })
+merkleize_tip s h chain tip evicted (Some r) = refuse (with_slot s h gone) r
 
 -- what only an any database offers, open or not
 abbrev pub if_any : State → Option Grafts → Answer × State → Answer × State
@@ -212,7 +222,7 @@ module _ (m : Scheme) where
 
   -- the database and its store take the tip list
   abbrev pub apply_in : State → ℕ → List Operation → Slot → Answer × State
-  apply_in s h list (merkleized chain tip) =
+  apply_in s h list (merkleized chain tip evicted) =
       if fits m.root (commitment m.root list) chain
       then (Applied (length tip), record s { database = Some tip; log = record s.log { list = tip } })
       else refuse s StaleBatch
@@ -230,7 +240,7 @@ module _ (m : Scheme) where
   -- the values of keys through a batch
   abbrev pub read_in : State → ℕ → List Bytes → List Operation → Slot → Answer × State
   read_in s h keys list (writing chain parent ws) = if_readable s list parent chain.base (Read (map (read_through chain.base ws) keys))
-  read_in s h keys list (merkleized chain tip) = if_readable s list chain tip (Read (map (value_of tip) keys))
+  read_in s h keys list (merkleized chain tip evicted) = if_readable s list chain tip (Read (map (value_of tip) keys))
   read_in s h keys list gone = refuse s (NoSuchHandle h)
   read_in s h keys list (staged chain parent ws ks) = refuse s (NoSuchHandle h)
 
@@ -244,7 +254,7 @@ module _ (m : Scheme) where
   stage_in s h keys list (writing chain parent ws) = if_staged s h list chain parent (Read (map (read_through chain.base ws) keys)) (staged chain parent ws keys)
   stage_in s h keys list gone = refuse s (NoSuchHandle h)
   stage_in s h keys list (staged chain parent ws ks) = refuse s (NoSuchHandle h)
-  stage_in s h keys list (merkleized chain tip) = refuse s (NoSuchHandle h)
+  stage_in s h keys list (merkleized chain tip evicted) = refuse s (NoSuchHandle h)
 
   abbrev pub stage : State → ℕ → List Bytes → Answer × State
   stage s h keys = with_database s s.database (λ list. stage_in s h keys list (slot_at s.table h))
@@ -255,7 +265,7 @@ module _ (m : Scheme) where
       if_staged s h list chain parent (Expanded (length ks) (length ks + length keys) (map (read_through chain.base ws) keys)) (staged chain parent ws (ks ++ keys))
   expand_in s h keys list gone = refuse s (NoSuchHandle h)
   expand_in s h keys list (writing chain parent ws) = refuse s (NoSuchHandle h)
-  expand_in s h keys list (merkleized chain tip) = refuse s (NoSuchHandle h)
+  expand_in s h keys list (merkleized chain tip evicted) = refuse s (NoSuchHandle h)
 
   abbrev pub expand : State → ℕ → List Bytes → Answer × State
   expand s h keys = with_database s s.database (λ list. expand_in s h keys list (slot_at s.table h))
@@ -271,7 +281,7 @@ module _ (m : Scheme) where
 
   -- the neighbour of a key on the list that a merkleized batch makes
   abbrev pub neighbour_in : State → ℕ → (List Bytes → Option Bytes) → List Operation → Slot → Answer × State
-  neighbour_in s h beside list (merkleized chain tip) = if_readable s list chain tip (Neighbour (beside (live_keys tip)))
+  neighbour_in s h beside list (merkleized chain tip evicted) = if_readable s list chain tip (Neighbour (beside (live_keys tip)))
   neighbour_in s h beside list gone = refuse s (NoSuchHandle h)
   neighbour_in s h beside list (writing chain parent ws) = refuse s (NoSuchHandle h)
   neighbour_in s h beside list (staged chain parent ws ks) = refuse s (NoSuchHandle h)
@@ -308,7 +318,7 @@ module _ (m : Scheme) where
 
   -- the numbers of a merkleized batch
   abbrev pub info_in : State → ℕ → Slot → Answer × State
-  info_in s h (merkleized chain tip) = (BatchTold (length chain.base) (length tip) (floor tip) (m.boundary tip), s)
+  info_in s h (merkleized chain tip evicted) = (BatchTold (length chain.base) (length tip) (floor tip) (m.boundary tip), s)
   info_in s h gone = refuse s (NoSuchHandle h)
   info_in s h (staged chain parent ws keys) = refuse s (NoSuchHandle h)
   info_in s h (writing chain parent ws) = refuse s (NoSuchHandle h)
@@ -321,7 +331,7 @@ module _ (m : Scheme) where
   root s = with_database s s.database (λ list. (Rooted (m.canonical list) (m.root list), s))
 
   abbrev pub root_in : State → ℕ → Slot → Answer × State
-  root_in s h (merkleized chain tip) = (Rooted (m.canonical tip) (m.root tip), s)
+  root_in s h (merkleized chain tip evicted) = (Rooted (m.canonical tip) (m.root tip), s)
   root_in s h gone = refuse s (NoSuchHandle h)
   root_in s h (staged chain parent ws keys) = refuse s (NoSuchHandle h)
   root_in s h (writing chain parent ws) = refuse s (NoSuchHandle h)
@@ -331,7 +341,7 @@ module _ (m : Scheme) where
 
   -- the proof of a merkleized batch's own operations in its tip list, and the pins at its base
   abbrev pub proof_in : State → ℕ → List Operation → Slot → Answer × State
-  proof_in s h list (merkleized chain tip) =
+  proof_in s h list (merkleized chain tip evicted) =
       if readable m.root (commitment m.root list) chain tip
       then unless s (proof_lacked m.shape s.log.start list chain tip) (BatchProved (m.proof tip (length chain.base) (length tip)) (m.pins tip (length chain.base)))
       else refuse s StaleRead
@@ -372,15 +382,16 @@ module _ (m : Scheme) {P : Type 0} (rules : Rules P) where
   abbrev pub merkleize_writes : State → ℕ → P → Option Bytes → List Operation → Chain → List Write → Answer × State
   merkleize_writes s h policy meta list chain ws =
       let tip = steps.step (kind_of m) rules chain.base ws policy meta in
+      let evicted = steps.evicted_by (kind_of m) rules chain.base ws policy in
       if takes m.grafts s.opened chain.instance && fits m.root (commitment m.root list) chain
-      then merkleize_tip s h chain tip (tip_refusal m.form chain tip)
+      then merkleize_tip s h chain tip evicted (tip_refusal m.form chain tip)
       else refuse (with_slot s h gone) StaleBatch
 
   abbrev pub merkleize_in : State → ℕ → P → Option Bytes → List Operation → Slot → Answer × State
   merkleize_in s h policy meta list (writing chain parent ws) = merkleize_writes s h policy meta list chain ws
   merkleize_in s h policy meta list gone = refuse s (NoSuchHandle h)
   merkleize_in s h policy meta list (staged chain parent ws keys) = refuse s (NoSuchHandle h)
-  merkleize_in s h policy meta list (merkleized chain tip) = refuse s (NoSuchHandle h)
+  merkleize_in s h policy meta list (merkleized chain tip evicted) = refuse s (NoSuchHandle h)
 
   abbrev pub merkleize : State → ℕ → P → Option Bytes → Answer × State
   merkleize s h policy meta = with_database s s.database (λ list. merkleize_in s h policy meta list (slot_at s.table h))
@@ -393,7 +404,7 @@ module _ (m : Scheme) {P : Type 0} (rules : Rules P) where
       else refuse s (SlotCount (length keys) (length given))
   resolve_in s h policy meta given others list gone = refuse s (NoSuchHandle h)
   resolve_in s h policy meta given others list (writing chain parent ws) = refuse s (NoSuchHandle h)
-  resolve_in s h policy meta given others list (merkleized chain tip) = refuse s (NoSuchHandle h)
+  resolve_in s h policy meta given others list (merkleized chain tip evicted) = refuse s (NoSuchHandle h)
 
   abbrev pub resolve : State → ℕ → P → Option Bytes → List slots.Slot → List Write → Answer × State
   resolve s h policy meta given others = with_database s s.database (λ list. resolve_in s h policy meta given others list (slot_at s.table h))
@@ -412,6 +423,7 @@ module _ (m : Scheme) {P : Type 0} (rules : Rules P) where
   turn s (Resolve h policy meta given others) = resolve s h policy meta given others
   turn s (Apply h) = apply m s h
   turn s (Ops h) = ops s h
+  turn s (Evicted h) = evicted s h
   turn s (Get key from) = read m s (key ∷ []) from
   turn s (Many keys from) = read m s keys from
   turn s (Next key from) = next m s key from

@@ -18,7 +18,7 @@ abbrev pub IsSoundSlot : List (List Operation) → Slot → Type 0
 IsSoundSlot had gone = ⊤
 IsSoundSlot had (writing chain parent ws) = IsAmong had chain × IsRising chain
 IsSoundSlot had (staged chain parent ws keys) = IsAmong had chain × IsRising chain
-IsSoundSlot had (merkleized chain tip) = IsAmong had chain × IsRising chain × Contains had tip × Begins chain.base tip
+IsSoundSlot had (merkleized chain tip evicted) = IsAmong had chain × IsRising chain × Contains had tip × Begins chain.base tip
 
 -- What a command has to know of that, whatever the policies are: the store's operations are of the machine's form, and not too many; what an
 -- opening takes up of them is good, that of an ordered database a ring, and its floor not below the store's start; what metadata counts of

@@ -3,7 +3,7 @@ use Rattle.std.specs.Prelude.{Bool, true, false, List, [], ◌∷◌, ◌++◌, 
 use Rattle.hex.specs.Hex.{encode_lower}
 use Rattle.qm_model.specs.Live.{Live}
 use Rattle.qm_model.specs.Operations.{Bytes, Operation, update, delete, commit}
-use Rattle.qm_machine.specs.Lines.{Answer, Opened, Started, Done, Merkleized, Applied, Listed, Read, Expanded, Neighbour, Spanning, Whole, Ranged, Keyed, Told, BatchTold, Rooted, Metadata, Proved, BatchProved, Pinned, HeldAt, AbsentAt, Chunked, Witnessed, Refuses}
+use Rattle.qm_machine.specs.Lines.{Answer, Opened, Started, Done, Merkleized, Applied, Listed, Read, Expanded, Neighbour, Spanning, Whole, Ranged, Keyed, Told, BatchTold, Rooted, Metadata, Proved, BatchProved, Pinned, HeldAt, AbsentAt, Chunked, Witnessed, Dropped, Refuses}
 use Rattle.qm_model.specs.Refused.{corrupt_text, TreeRefused, RangeOutOfBounds, ElementPruned, MissingNode, LocationOverflow, LogRefused, ItemPruned, ItemTooLarge, Refused, NotOffered, NoDatabase, NoSuchHandle, SlotCount, InvalidInitializationBound, StaleBatch, StaleRead, KeyNotFound, KeyExists, OperationPruned, PruneBeyondMinRequired, HistoricalFloorPruned, DataCorrupted, Merkle, Journal}
 
 -- bytes in hexadecimal, and the empty ones as a dash
@@ -104,6 +104,7 @@ reply_line (Merkleized h base size floor) =
     codes "merkleized " ++ (decimal h ++ (codes " " ++ (decimal base ++ (codes " " ++ (decimal size ++ (codes " " ++ decimal floor))))))
 reply_line (Applied size) = codes "applied " ++ decimal size
 reply_line (Listed base ops) = codes "ops " ++ (decimal base ++ operations_text ops)
+reply_line (Dropped pairs) = codes "evicted" ++ pairs_text pairs
 reply_line (Read values) = codes "read" ++ values_text values
 reply_line (Expanded a b values) = codes "read " ++ (decimal a ++ (codes " " ++ (decimal b ++ values_text values)))
 reply_line (Neighbour key) = neighbour_text key

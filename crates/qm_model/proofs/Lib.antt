@@ -15,6 +15,7 @@ pub mod OrderedWrites
 pub mod OrderedMoves
 pub mod Keeping
 pub mod Decisions
+pub mod Evictions
 pub mod OrderedSteps
 pub mod KeySorts
 pub mod LiveCounts

@@ -11,8 +11,8 @@ ghost use Rattle.qm_model.specs.Live.{live, live_keys, floor, value_of, touched}
 ghost use Rattle.qm_model.specs.Keys.{key_lt, successor, predecessor, contains_key, without, once, by_key, between, IsNext, IsPrevious};
 ghost use Rattle.qm_model.specs.Writes.{Write, last_writes, write_of, overwritten, unordered_writes, made_inactive};
 ghost use Rattle.qm_model.specs.Walk.{Rules, Limits, walk};
-ghost use Rattle.qm_model.specs.Ordered.{ordered_writes, deleted_keys, updated_keys, created_keys, relinked_keys, IsRing};
-ghost use Rattle.qm_model.specs.Step.{unordered, ordered, step, Made, IsGood, IsOrderedGood, Kind};
+ghost use Rattle.qm_model.specs.Ordered.{ordered_writes, evicted_keys, deleted_keys, updated_keys, created_keys, relinked_keys, IsRing};
+ghost use Rattle.qm_model.specs.Step.{unordered, ordered, step, evicted_of, Made, IsGood, IsOrderedGood, Kind};
 ghost use Rattle.qm_model.specs.Batches.{Begins};
 ghost use Rattle.qm_model.specs.Policies.{OnlyKeeps, NeverMoves};
 ghost use Rattle.qm_model.specs.Proofs.{item_leaves, proof_of, verdict};
@@ -112,6 +112,16 @@ pub fn walks_decide_live_keys_once<P: Ruled>()
     ensures live { (ops : List Operation) (f : ℕ) (limits : Limits) (policy : P)
         → All (λ d. contains_key (live_keys ops) d.key ≡ true)
         (walk P.rules ops f limits policy).decisions }
+{}
+
+/// A walk tells the keys that it evicts as it decides them, each with the value that it had.
+pub fn walks_tell_what_they_evict<P: Ruled>()
+    ensures keys { (ops : List Operation) (f : ℕ) (limits : Limits) (policy : P)
+        → let ds = (walk P.rules ops f limits policy).decisions in
+        map (λ x. x.0) (evicted_of ops ds) ≡ evicted_keys ds }
+    ensures values { (ops : List Operation) (f : ℕ) (limits : Limits) (policy : P)
+        → All (λ x. value_of ops x.0 ≡ Some x.1)
+        (evicted_of ops (walk P.rules ops f limits policy).decisions) }
 {}
 
 /// The map after a step is the map before with the last writes, and then what the walk decided.

@@ -7,7 +7,7 @@ use Rattle.qm_model.specs.Opening.{Chunks, found, opening_refusal}
 use Rattle.qm_model.specs.Walk.{Rules}
 use Rattle.qm_model.specs.StoreModel.{Stored, destroyed, except_items, DestroyLeaves, Becomes, Turns}
 use Rattle.qm_model.specs.Writes.{Write}
-use Rattle.qm_model.specs.Step.{step}
+use Rattle.qm_model.specs.Step.{step, evicted_by}
 use Rattle.qm_model.specs.Held.{proof_lacked}
 use Rattle.qm_model.specs.Checks.{Checks}
 use Rattle.qm_model.specs.Schemes.{Grafts, Scheme, kind_of, layout_of, takes}
@@ -27,6 +27,10 @@ use Rattle.qm_offer.specs.declared.meaning.Meaning as meaning
 -- the list that writes make of a chain's base list, under a policy
 abbrev pub tip_of : {P : Type 0} → Scheme → Rules P → Chain → List Write → P → Option Bytes → List Operation
 tip_of m rules chain ws policy meta = step (kind_of m) rules chain.base ws policy meta
+
+-- the keys that this evicts, each with the value that it had
+abbrev pub evictions_of : {P : Type 0} → Scheme → Rules P → Chain → List Write → P → List (Bytes × Bytes)
+evictions_of m rules chain ws policy = evicted_by (kind_of m) rules chain.base ws policy
 
 -- of the chunks of a current database's bits, and of the checks of its proofs of keys and ranges, if it offers these
 abbrev pub AtChecks : Scheme → (Chunks → Checks → Type 0) → Type 0
@@ -78,12 +82,12 @@ module _ {X C B S M : Type 0} (means : meaning.Ghosts X C B S M) where
   abbrev pub Takes : X → Chain → Type 0
   Takes db chain = (n : ℕ) → means.numbered db n → takes means.scheme.grafts n chain.instance ≡ true
 
-  -- What comes of making this tip list of a batch of this chain, over this list. It is refused as stale if the batch's chain began
+  -- What comes of making this tip list of a batch of this chain, over this list, with these keys evicted. It is refused as stale if the batch's chain began
   -- on another instance, then if the list is not on the chain; any other refusal is that of the tip list.
-  pub record Makes (members : store.Ghosts C) (old : X) (list : List Operation) (chain : Chain) (tip : List Operation) (result : Result M Error) : Type 0 where
+  pub record Makes (members : store.Ghosts C) (old : X) (list : List Operation) (chain : Chain) (tip : List Operation) (evicted : List (Bytes × Bytes)) (result : Result M Error) : Type 0 where
     pub instance : IfOk result (λ _. Takes old chain)
     pub fit : IfOk result (λ _. Fits list chain)
-    pub made : IfOk result (λ b. IsOnChain list chain → (tip_refusal means.scheme.form chain tip ≡ None) × means.is_merkleized b chain tip)
+    pub made : IfOk result (λ b. IsOnChain list chain → (tip_refusal means.scheme.form chain tip ≡ None) × means.is_merkleized b chain tip × (means.evictions b ≡ evicted))
     pub stale : IfErr result (λ e. e ≡ StaleBatch → (n : ℕ) → means.numbered old n → takes means.scheme.grafts n chain.instance ≡ true → ¬ IsOnChain list chain)
     pub refused : IfErr result (λ e. e ≢ StaleBatch → IfSome (refusal_of e) (λ r.
         Takes old chain × Fits list chain × (IsOnChain list chain → tip_refusal means.scheme.form chain tip ≡ Some r)))

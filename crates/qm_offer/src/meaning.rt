@@ -43,6 +43,9 @@ pub trait Meaning<C: Store> {
     /// A merkleized batch of this chain with this tip list.
     ghost is_merkleized: { Self.Merkleized → Chain → List Operation → Type 0 };
 
+    /// The keys that its step evicted, in the order of the walk, each with the value that it had.
+    ghost evictions: { Self.Merkleized → List (Bytes × Bytes) };
+
     /// What its machine stands on: how operations are spelled and hashed, the operations root of a list, which tells a batch
     /// whether it fits, and its root, up to where a list may be pruned, its proofs and pins, and what is grafted onto its trees.
     ghost scheme: { Scheme };

@@ -72,6 +72,8 @@ impl<
 
     ghost is_merkleized = { λ b chain tip. IsMade (sha256_hashing trees.mmr U.form) b.value chain tip };
 
+    ghost evictions = { λ b. b.value.evicted };
+
     ghost scheme = { scheme_of 32 (sha256_hashing trees.mmr U.form) };
 
     ghost bounds = { record { low = λ list. le_refl (floor list); chunks = tt; prompt = tt; over = tt } };

@@ -74,6 +74,8 @@ impl<
 
     ghost is_merkleized = { λ b chain tip. IsMade (sha256_hashing trees.mmr U.form) offered_chunk b.value chain tip };
 
+    ghost evictions = { λ b. b.value.any.evicted };
+
     ghost scheme = { scheme_of 32 (sha256_layout trees.mmr offered_chunk U.form I.index_key) offered_name };
 
     ghost bounds = { let b = mountains-bounds sha256 32 length-sha256 offered_chunk U.form offered_name (Prim.omega arith) in record { low = b.low; chunks = b.chunks; prompt = b.prompt; over = b.over } };

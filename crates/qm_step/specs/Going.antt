@@ -3,6 +3,7 @@ use Rattle.std.specs.Prelude.{◌≡◌, ℕ, ◌+◌, ◌<◌, ◌≤◌, min, 
 use Rattle.qm_model.specs.Operations.{Bytes, Operation}
 use Rattle.qm_model.specs.Live.{live, live_of, floor}
 use Rattle.qm_model.specs.Writes.{Write, operation_of}
+use Rattle.qm_model.specs.Step.{evicted_of}
 use Rattle.qm_model.specs.Walk.{Action, Rules, Walked, walk_from, write, stop, evict}
 use Rattle.qm_chain.specs.declared.walk.Walk.{Walk}
 use Rattle.qm_step.specs.Changes.{place_in}
@@ -37,6 +38,12 @@ value_for evict = Some None
 abbrev pub decided_for : Bytes → Option Bytes → Option ℕ → Action → Option Decided
 decided_for key next before action = option_map (λ value. record { key = key; value = value; next = next; before = before }) (value_for action)
 
+-- what is told of an answer: a key with the value that it had, if the key goes
+abbrev pub told_of : Action → Option (Bytes × Bytes) → Option (Bytes × Bytes)
+told_of (write value) had = None
+told_of stop had = None
+told_of evict had = had
+
 -- no live update stands from this location up to, and without, that one
 abbrev pub AreDead : List Operation → ℕ → ℕ → Type 0
 AreDead list from to = (i : ℕ) → from ≤ i → i < to → live_update_at list i ≡ None
@@ -56,15 +63,17 @@ module _ {P : Type 0} where
   abbrev pub resumed : List Write → Walked P → Walked P
   resumed before walked = record walked { decisions = before ++ walked.decisions }
 
-  -- these were decided over a base list, each with where its key stands there, on a walk to a list after it that has come
-  -- here; what is left of it makes this whole
-  pub record IsGoing {F : Type 0} (rules : Rules P) (base list : List Operation) (decided : List Decided) (walk : Walk F) (policy : P) (whole : Walked P) : Type 0 where
+  -- these were decided over a base list, each with where its key stands there, and these keys evicted, each with the value that
+  -- it had, on a walk to a list after it that has come here; what is left of it makes this whole
+  pub record IsGoing {F : Type 0} (rules : Rules P) (base list : List Operation) (decided : List Decided) (evicted : List (Bytes × Bytes)) (walk : Walk F) (policy : P) (whole : Walked P) : Type 0 where
     pub from : All (IsDecided base list) decided
+    pub told : evicted ≡ evicted_of list (map write_for decided)
     pub above : floor base ≤ walk.floor
     pub end : walk.end ≡ min (max (floor base) (length list)) (walk.floor + walk.entries + walk.skips)
     pub rest : resumed (map write_for decided) (walk_from rules (drop walk.floor list) walk.floor walk.entries walk.skips policy) ≡ whole
 
-  -- these are the decisions of this whole, with its end and the policy that it left
-  pub record AreDecided (base list : List Operation) (decided : List Decided) (end : ℕ) (policy : P) (whole : Walked P) : Type 0 where
+  -- these are the decisions of this whole, and the keys that it evicts, with its end and the policy that it left
+  pub record AreDecided (base list : List Operation) (decided : List Decided) (evicted : List (Bytes × Bytes)) (end : ℕ) (policy : P) (whole : Walked P) : Type 0 where
     pub from : All (IsDecided base list) decided
+    pub told : evicted ≡ evicted_of list (map write_for decided)
     pub makes : record { floor = end; decisions = map write_for decided; policy = policy } ≡ whole

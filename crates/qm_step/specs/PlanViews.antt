@@ -7,6 +7,7 @@ use denote.Ref.{Bor}
 use Rattle.qm_model.specs.Operations.{Bytes, Operation, update}
 use Rattle.qm_model.specs.Forms.{Form}
 use Rattle.qm_model.specs.Writes.{Write}
+use Rattle.qm_base.specs.Views.{pair_view}
 use Rattle.qm_operations.specs.Views.{operation_view}
 use Rattle.qm_operations.specs.declared.operation.Operation as operation
 use Rattle.qm_operations.specs.declared.update.Unordered.{Unordered}
@@ -64,6 +65,10 @@ module _ {K V : Type 0} (key : K → Bytes) (value : V → Bytes) where
 
   abbrev pub decided_views : List (decided.Decided K V) → List Decided
   decided_views ds = map decided_view ds
+
+  -- keys with values
+  abbrev pub pair_views : List (K × V) → List (Bytes × Bytes)
+  pair_views pairs = map (pair_view key value) pairs
 
 module _ {U K V : Type 0} (update_view : U → Operation) (key : K → Bytes) (value : V → Bytes) where
   -- an operation of a step

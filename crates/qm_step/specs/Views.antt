@@ -6,7 +6,7 @@ use Rattle.qm_model.specs.Writes.{Write}
 use Rattle.qm_model.specs.Slots.{slotted}
 use Rattle.qm_model.specs.Walk.{Rules}
 use Rattle.qm_model.specs.Forms.{Form}
-use Rattle.qm_model.specs.Step.{step, policy_after}
+use Rattle.qm_model.specs.Step.{step, policy_after, evicted_by}
 use Rattle.qm_step.specs.Kinds.{kind_of}
 use Rattle.qm_chain.specs.declared.diff.DiffEntry.{DiffEntry}
 use Rattle.qm_chain.specs.declared.diff.DiffEntry.TheVariants.{Active, Deleted}
@@ -52,24 +52,30 @@ abbrev pub wanted_view : {F U K V : Type 0} → (K → Bytes) → (V → Bytes) 
 wanted_view key value w =
     slotted (map (write_view key value) w.writes.now) (keys_of key w.reads.now) (slot_views value w.slots.now) (map (write_view key value) w.others.now)
 
--- what a batch makes of its base list: the operations that it appends to it, what these do to keys, and floor and
--- count of live keys afterwards
+-- what a batch makes of its base list: the operations that it appends to it, what these do to keys, floor and count of live
+-- keys afterwards, and the keys that the walk evicted, each with the value that it had
 pub record Plan : Type 0 where
   pub operations : List Operation
   pub changes : Changes
   pub floor : ℕ
   pub live : ℕ
+  pub evicted : List (Bytes × Bytes)
 
--- the plan is that of the step from the base list to the tip list
-pub record IsPlan (plan : Plan) (base tip : List Operation) : Type 0 where
+-- the plan is that of the step from the base list to the tip list, which evicts these keys
+pub record IsPlan (plan : Plan) (base tip : List Operation) (evicted : List (Bytes × Bytes)) : Type 0 where
   pub operations : plan.operations ≡ drop (length base) tip
   pub changes : AreChanges plan.changes base tip
   pub floor : plan.floor ≡ floor tip
   pub live : plan.live ≡ length (live tip)
+  pub told : plan.evicted ≡ evicted
 
 -- the list that writes and metadata make of a base list of a database of this form, under a policy
 abbrev pub stepped : {P : Type 0} → Form → Rules P → List Operation → List Write → P → Option Bytes → List Operation
 stepped form rules base ws policy meta = step (kind_of form) rules base ws policy meta
+
+-- the keys that this evicts, each with the value that it had
+abbrev pub evicted_after : {P : Type 0} → Form → Rules P → List Operation → List Write → P → List (Bytes × Bytes)
+evicted_after form rules base ws policy = evicted_by (kind_of form) rules base ws policy
 
 -- the policy that this leaves
 abbrev pub left_after : {P : Type 0} → Form → Rules P → List Operation → List Write → P → P

@@ -18,12 +18,12 @@ pub(crate) struct Expiry {
 impl<F, K: ByteString, V: ByteString> Policy<F, K, V> for Expiry {
     ghost rules = { record {
       limits = λ p n. record { entries = 2 ^ 64 - 1; skips = 2 ^ 64 - 1 };
-      decide = λ p location key value. (if nat_lt (slice_index_or value 0 0) p.block then walk.evict else walk.write value, p);
+      decide = λ p location remaining key value. (if nat_lt (slice_index_or value 0 0) p.block then walk.evict else walk.write value, p);
     } };
 
     ghost may_evict = { λ _. true };
 
-    ghost keeps = { λ p location key value never. cc };
+    ghost keeps = { λ p location remaining key value never. cc };
 
     fn evicts(&self) -> bool {
         true

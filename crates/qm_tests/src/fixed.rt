@@ -1,6 +1,7 @@
 //! A database whose keys and values have one size: its text, and a root that was computed by another program.
 
 use crate::bed::{Bed, Database, again};
+use crate::countdown::falls_by_one;
 use crate::expiry::is_kept;
 use qm_base::{Digest, Error, FixedBytes, Location, Sha256};
 use qm_index::FourCap;
@@ -42,14 +43,15 @@ impl Bed for Fixed {
 // The first bytes of the root of a database with one write and an entry of metadata.
 const BEGIN: [u8; 8] = [0x30, 0x7d, 0x67, 0x34, 0x8f, 0x10, 0x75, 0x9f];
 
-// The text of a database, and whether its root is that one, an operation is proved, and its key is there in a batch of the last block
-// up to which its value is valid, and in none of the next.
+// The text of a database, and whether its root is that one, an operation is proved, its key is there in a batch of the last block up
+// to which its value is valid, and in none of the next, and policies see the entries that are left.
 fn text_of<B: Bed>(alloc: Global, db: &mut Database<B>) -> Result<String, Error> {
     let proved = db.proof(alloc, Location::new(1), NonZeroU64::MIN)?.1.len();
     let is_right = proved == 1
         && db.root().bytes().starts_with(&BEGIN)
         && is_kept::<B>(alloc, db, 10)?
-        && !is_kept::<B>(alloc, db, 11)?;
+        && !is_kept::<B>(alloc, db, 11)?
+        && falls_by_one::<B>(alloc, db)?;
     Ok(format!(in alloc; "{db:?} {is_right}")?)
 }
 

@@ -8,6 +8,8 @@ mod bed;
 #[cfg(test)]
 mod caches;
 #[cfg(test)]
+mod countdown;
+#[cfg(test)]
 mod diffs;
 #[cfg(test)]
 mod expiry;

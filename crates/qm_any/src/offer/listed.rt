@@ -21,6 +21,22 @@ pub fn twin_keys<K: ByteString>(alloc: Global, keys: &[K]) -> Result<Vec<K>, All
     Ok(copies)
 }
 
+/// Copies of keys with values.
+pub fn twin_pairs<K: ByteString, V: ByteString>(
+    alloc: Global,
+    pairs: &[(K, V)],
+) -> Result<Vec<(K, V)>, AllocError>
+    ensures { IfOk result (λ copies. copies.items ≡ pairs.now) }
+{
+    let mut copies = Vec::new(alloc);
+    for (key, value) in pairs {
+        let key = key.twin(alloc)?;
+        let value = value.twin(alloc)?;
+        copies.push((key, value))?;
+    }
+    Ok(copies)
+}
+
 // An update as a reply lists it.
 fn listed_update<U: Update>(
     alloc: Global,

@@ -12,12 +12,13 @@ ghost use Rattle.qm_model.specs.Operations.{update};
 ghost use Rattle.qm_model.specs.Walk as walks;
 ghost use Rattle.qm_step.specs.Bases.{base_view};
 ghost use Rattle.qm_step.specs.Changes.{said_by, stands_at, update_at};
-ghost use Rattle.qm_step.specs.Going.{decided_for, value_for, AreDead, AreDeadBetween, AreDecided, IsGoing, IsSpaced};
+ghost use Rattle.qm_step.specs.Going.{decided_for, told_of, value_for, AreDead, AreDeadBetween, AreDecided, IsGoing, IsSpaced};
 ghost use Rattle.qm_step.specs.Layers.{LeadOver};
 ghost use Rattle.qm_index.specs.Indexed.{IsIndexed};
 ghost use Rattle.qm_base.specs.Reads.{ReadsItems};
+ghost use Rattle.qm_base.specs.Views.{pair_view};
 ghost use Rattle.qm_step.specs.Lent.{IsLent};
-ghost use Rattle.qm_step.specs.PlanViews.{decided_views, touch_views};
+ghost use Rattle.qm_step.specs.PlanViews.{decided_views, pair_views, touch_views};
 ghost use Rattle.qm_batch.specs.PlanPaths.{found_view, path_view, AreBehind, IsPath};
 ghost use Rattle.qm_step.specs.Touches.{is_there, moved_touch, operations_of, AreReplaced, IsFrom, IsKeyed, IsMoveAt, Once, Touch as Made};
 ghost use Rattle.qm_step.specs.Views.{change_view};
@@ -31,7 +32,7 @@ use qm_step::decided::Decided;
 use qm_step::found::update_in;
 use qm_step::touch::{Touch, replaced_by};
 use qm_step::{Base, Layer};
-use std::alloc::Global;
+use std::alloc::{AllocError, Global};
 use std::collections::BTreeSet;
 use std::rc::Rc;
 
@@ -48,18 +49,20 @@ struct Path<'i, 'b, F, I, U: Update> {
     replaced: BTreeSet<u64>,
 }
 
-/// What a walk decided, and where it ended.
+/// What a walk decided, the keys that it evicted with the values that they had, and where it ended.
 #[derive(Drop)]
 pub(crate) struct Walked<K, V> {
     pub(crate) decided: Vec<Decided<K, V>>,
+    pub(crate) evicted: Vec<(K, V)>,
     pub(crate) floor: u64,
 }
 
-/// A walk on its way: its course, and what it decided so far.
+/// A walk on its way: its course, and what it decided and evicted so far.
 #[derive(Drop)]
 struct Going<F, K, V> {
     walk: Walk<F>,
     decided: Vec<Decided<K, V>>,
+    evicted: Vec<(K, V)>,
 }
 
 /// A live update, and where its key's live update stands in the base list.
@@ -299,6 +302,7 @@ fn note<F, K: ByteString, V: ByteString>(
         ≡ (if goes then record going.old.walk
         { floor = going.old.walk.floor + 1; entries = going.old.walk.entries - 1 } else
         going.old.walk)) }
+    ensures evicted { IfOk result (λ _. going.new.evicted.items ≡ going.old.evicted.items) }
     ensures memory { IfErr result (λ e. e ≡ Error.Memory) }
 {
     let Some(value) = value_of(action) else {
@@ -314,6 +318,51 @@ fn note<F, K: ByteString, V: ByteString>(
     Ok(true)
 }
 
+// A key and its value, to be told if the key goes; none of a policy that evicts no key. The policy gets the value itself.
+fn kept_pair<K: ByteString, V: ByteString>(
+    alloc: Global,
+    evicts: bool,
+    key: &K,
+    value: &V,
+) -> Result<Option<(K, V)>, AllocError>
+    ensures { IfOk result (λ pair. pair ≡ (if evicts then Some (key.now, value.now) else None)) }
+{
+    if !evicts {
+        return Ok(None);
+    }
+    let key = key.twin(alloc)?;
+    let value = value.twin(alloc)?;
+    Ok(Some((key, value)))
+}
+
+// What is told of an action: the key that goes, with the value that it had.
+fn pair_told<K: ByteString, V: ByteString>(
+    action: &Action<V>,
+    had: Option<(K, V)>,
+) -> Option<(K, V)>
+    ensures { option_map (pair_view K.bytes V.bytes) result
+        ≡ told_of (action_view V.bytes action.now) (option_map (pair_view K.bytes V.bytes) had) }
+{
+    match action {
+        Action::Evict => had,
+        Action::Stop | Action::Write(_) => None,
+    }
+}
+
+// Tells a pair, if there is one.
+fn tell<K: ByteString, V: ByteString>(
+    evicted: &mut Vec<(K, V)>,
+    pair: Option<(K, V)>,
+) -> Result<(), AllocError>
+    ensures { OnOk result (evicted.new.items ≡ evicted.old.items ++ option_to_list pair) }
+{
+    let Some(pair) = pair else {
+        return Ok(());
+    };
+    evicted.push(pair)?;
+    Ok(())
+}
+
 // Has the policy decide the live update at the floor, notes that, and tells whether the walk goes on.
 fn decide<F, U: Update, P: Policy<F, U::Key, U::Value>>(
     alloc: Global,
@@ -326,12 +375,14 @@ fn decide<F, U: Update, P: Policy<F, U::Key, U::Value>>(
     ensures value { IfOk result (λ goes. (base list : List model.Operation) (all : walks.Walked P)
         → IsMoveAt (Some (found_view U.view found)) base list going.old.walk.floor
         → IsGoing P.rules base list
-        (decided_views U.Key.bytes U.Value.bytes going.old.decided.items) going.old.walk policy.old
-        all
+        (decided_views U.Key.bytes U.Value.bytes going.old.decided.items)
+        (pair_views U.Key.bytes U.Value.bytes going.old.evicted.items) going.old.walk policy.old all
         → MatchBool goes (IsGoing P.rules base list
-        (decided_views U.Key.bytes U.Value.bytes going.new.decided.items) going.new.walk policy.new
+        (decided_views U.Key.bytes U.Value.bytes going.new.decided.items)
+        (pair_views U.Key.bytes U.Value.bytes going.new.evicted.items) going.new.walk policy.new
         all) (AreDecided base list (decided_views U.Key.bytes U.Value.bytes going.new.decided.items)
-        going.new.walk.floor policy.new all)) }
+        (pair_views U.Key.bytes U.Value.bytes going.new.evicted.items) going.new.walk.floor
+        policy.new all)) }
     ensures low { IfOk result (λ _. going.old.walk.floor ≤ going.new.walk.floor) }
     ensures high { IfOk result (λ _. going.new.walk.floor ≤ going.old.walk.floor + 1) }
     ensures passed { IfOk result (λ goes.
@@ -342,8 +393,11 @@ fn decide<F, U: Update, P: Policy<F, U::Key, U::Value>>(
     let Found { update, before } = found;
     let (key, value, next) = update.into_parts();
     let at = Location::new(going.walk.floor.get());
-    let decision = policy.decide(alloc, Entry::new(at, &key, value))?;
+    let remaining = going.walk.entries as usize;
+    let had = kept_pair(alloc, policy.evicts(), &key, &value)?;
+    let decision = policy.decide(alloc, Entry::new(at, &key, value, remaining))?;
     let action = decision.into_action();
+    tell(&mut going.evicted, pair_told(&action, had))?;
     note(going, key, next, before, action)
 }
 
@@ -387,14 +441,16 @@ fn visit<
         → IsPath (path_view U.view U.Key.bytes U.Value.bytes path.now) lent base list
         → AreDead list going.old.walk.floor at
         → IsGoing P.rules base list
-        (decided_views U.Key.bytes U.Value.bytes going.old.decided.items) going.old.walk policy.old
-        all
+        (decided_views U.Key.bytes U.Value.bytes going.old.decided.items)
+        (pair_views U.Key.bytes U.Value.bytes going.old.evicted.items) going.old.walk policy.old all
         → IfSome (L.reads.told log.old) (λ _.
         IfOk result (λ goes. MatchBool goes (AreDead list going.new.walk.floor (at + 1)
         × IsGoing P.rules base list
-        (decided_views U.Key.bytes U.Value.bytes going.new.decided.items) going.new.walk policy.new
+        (decided_views U.Key.bytes U.Value.bytes going.new.decided.items)
+        (pair_views U.Key.bytes U.Value.bytes going.new.evicted.items) going.new.walk policy.new
         all) (AreDecided base list (decided_views U.Key.bytes U.Value.bytes going.new.decided.items)
-        going.new.walk.floor policy.new all))) }
+        (pair_views U.Key.bytes U.Value.bytes going.new.evicted.items) going.new.walk.floor
+        policy.new all))) }
     ensures low { IfOk result (λ _. going.old.walk.floor ≤ going.new.walk.floor) }
     ensures high { IfOk result (λ _. going.new.walk.floor ≤ at + 1) }
     ensures end { IfOk result (λ _. going.new.walk.end ≡ going.old.walk.end) }
@@ -432,13 +488,15 @@ fn visit_all<
         → IsPath (path_view U.view U.Key.bytes U.Value.bytes path.now) lent base list
         → AreDeadBetween list going.old.walk.floor round.now next
         → IsGoing P.rules base list
-        (decided_views U.Key.bytes U.Value.bytes going.old.decided.items) going.old.walk policy.old
-        all
+        (decided_views U.Key.bytes U.Value.bytes going.old.decided.items)
+        (pair_views U.Key.bytes U.Value.bytes going.old.evicted.items) going.old.walk policy.old all
         → IfSome (L.reads.told log.old) (λ _. IfOk result (λ next. MatchOption next
         (AreDecided base list (decided_views U.Key.bytes U.Value.bytes going.new.decided.items)
-        going.new.walk.floor policy.new all) (λ next. AreDead list going.new.walk.floor next
+        (pair_views U.Key.bytes U.Value.bytes going.new.evicted.items) going.new.walk.floor
+        policy.new all) (λ next. AreDead list going.new.walk.floor next
         × IsGoing P.rules base list
-        (decided_views U.Key.bytes U.Value.bytes going.new.decided.items) going.new.walk policy.new
+        (decided_views U.Key.bytes U.Value.bytes going.new.decided.items)
+        (pair_views U.Key.bytes U.Value.bytes going.new.evicted.items) going.new.walk policy.new
         all))) }
     ensures next { IfOk result (λ found. IfSome found (λ n. n ≡ next)) }
     ensures low { IfOk result (λ _. going.old.walk.floor ≤ going.new.walk.floor) }
@@ -489,13 +547,15 @@ fn walk_round<
         → IsPath (path_view U.view U.Key.bytes U.Value.bytes path.now) lent base list
         → AreDead list going.old.walk.floor from
         → IsGoing P.rules base list
-        (decided_views U.Key.bytes U.Value.bytes going.old.decided.items) going.old.walk policy.old
-        all
+        (decided_views U.Key.bytes U.Value.bytes going.old.decided.items)
+        (pair_views U.Key.bytes U.Value.bytes going.old.evicted.items) going.old.walk policy.old all
         → IfSome (L.reads.told log.old) (λ _. IfOk result (λ next. MatchOption next
         (AreDecided base list (decided_views U.Key.bytes U.Value.bytes going.new.decided.items)
-        going.new.walk.floor policy.new all) (λ next. AreDead list going.new.walk.floor next
+        (pair_views U.Key.bytes U.Value.bytes going.new.evicted.items) going.new.walk.floor
+        policy.new all) (λ next. AreDead list going.new.walk.floor next
         × IsGoing P.rules base list
-        (decided_views U.Key.bytes U.Value.bytes going.new.decided.items) going.new.walk policy.new
+        (decided_views U.Key.bytes U.Value.bytes going.new.decided.items)
+        (pair_views U.Key.bytes U.Value.bytes going.new.evicted.items) going.new.walk policy.new
         all))) }
     ensures low { IfOk result (λ _. going.old.walk.floor ≤ going.new.walk.floor) }
     ensures next { IfOk result (λ next. IfSome next (λ next.
@@ -545,10 +605,11 @@ fn walk_on<
         → B.activity activity.now ≡ bits lent
         → IsPath (path_view U.view U.Key.bytes U.Value.bytes path.now) lent base list
         → IsGoing P.rules base list
-        (decided_views U.Key.bytes U.Value.bytes going.old.decided.items) going.old.walk policy.old
-        all
+        (decided_views U.Key.bytes U.Value.bytes going.old.decided.items)
+        (pair_views U.Key.bytes U.Value.bytes going.old.evicted.items) going.old.walk policy.old all
         → IfSome (L.reads.told log.old) (λ _. OnOk result (AreDecided base list
-        (decided_views U.Key.bytes U.Value.bytes going.new.decided.items) going.new.walk.floor
+        (decided_views U.Key.bytes U.Value.bytes going.new.decided.items)
+        (pair_views U.Key.bytes U.Value.bytes going.new.evicted.items) going.new.walk.floor
         policy.new all)) }
     ensures reads { ReadsItems L.reads log.old log.new result
         (L.reads.start log.old ≤ going.old.walk.floor) }
@@ -601,7 +662,8 @@ pub(crate) fn walk_from<
         lent front list
         → IfSome (L.reads.told log.old) (λ _. IfOk result (λ walked.
         AreDecided front list (decided_views U.Key.bytes U.Value.bytes walked.decided.items)
-        walked.floor policy.new (walks.walk P.rules list (floor front)
+        (pair_views U.Key.bytes U.Value.bytes walked.evicted.items) walked.floor policy.new
+        (walks.walk P.rules list (floor front)
         (record { entries = limits.entries; skips = limits.skips }) policy.old))) }
     ensures reads { ReadsItems L.reads log.old log.new result
         (L.reads.start log.old ≤ base.now.floor) }
@@ -624,10 +686,12 @@ pub(crate) fn walk_from<
     let mut going = Going {
         walk,
         decided: Vec::new(alloc),
+        evicted: Vec::new(alloc),
     };
     walk_on(alloc, activity, &path, log, policy, &mut going)?;
     Ok(Walked {
         decided: going.decided,
+        evicted: going.evicted,
         floor: going.walk.floor.get(),
     })
 }

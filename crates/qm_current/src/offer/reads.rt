@@ -1,7 +1,7 @@
 //! Reads of a database, and of its batches.
 
 use crate::db::Db;
-use qm_any::listed;
+use qm_any::{listed, twin_pairs};
 use qm_base::{Error, Listed, Location, Sha256, Sha256Digest};
 use qm_bits::Chunk32;
 use qm_merkle::mmr;
@@ -29,6 +29,13 @@ impl<
         let (base, own) = batch.operations();
         let own = listed(alloc, own)?;
         Ok((base.get(), own))
+    }
+
+    fn evicted(
+        alloc: Global,
+        batch: &Self::Merkleized,
+    ) -> Result<Vec<(U::Key, U::Value)>, AllocError> {
+        twin_pairs(alloc, batch.evicted())
     }
 
     fn get(&mut self, alloc: Global, keys: &[U::Key]) -> Result<Vec<Option<U::Value>>, Error> {

@@ -1,12 +1,12 @@
 // Commands that make, fill and apply batches.
 ghost use Rattle.std.specs.Prelude.{◌≡◌, ◌++◌, ◌∷◌, [], ◌≢◌, List, Some, None, option_map, Contains, IfOk, IsErrOf, ℕ};
-ghost use Rattle.qm_model.specs.Operations.{Operation};
+ghost use Rattle.qm_model.specs.Operations.{Bytes, Operation};
 ghost use Rattle.qm_model.specs.Writes.{Write};
 ghost use Rattle.qm_model.specs.Batches.{Chain, IsAmong};
 ghost use Rattle.qm_machine.specs.Machine.{State};
 ghost use Rattle.qm_machine.specs.Machine as machine;
 ghost use Rattle.qm_store.specs.Given.{store_given, IsUnchanged};
-ghost use Rattle.qm_offer.specs.Words.{AtBatch, Makes, ReadsOnly, tip_of};
+ghost use Rattle.qm_offer.specs.Words.{AtBatch, Makes, ReadsOnly, evictions_of, tip_of};
 ghost use Rattle.qm_engine.specs.Making.{IsMaking, made_into};
 ghost use Rattle.qm_engine.specs.Session.{SlotIs, Stands, Follows, Obeys, ObeysSteady, ObeysHeldSteady, LeavesHeldSteady, Uses};
 
@@ -157,7 +157,7 @@ fn merkleize_batch<X: Making<C>, C: Store, P: Policy<X::Family, X::Key, X::Value
     ensures made { AtBatch X.Meaning database.old batch (λ list chain above ws.
         Makes X.Meaning C.Store database.old list chain
         (tip_of X.scheme P.rules chain ws policy.now (option_map X.Value.bytes metadata.now))
-        result) }
+        (evictions_of X.scheme P.rules chain ws policy.now) result) }
     ensures reads { ReadsOnly X.Meaning C.Store database.old database.new result }
 {
     let mut policy = policy.twin(alloc)?;
@@ -171,11 +171,12 @@ pub fn put_made<X: Common<C>, C: Store>(
     made: Result<X::Merkleized, Error>,
 ) -> Turn<X::Key, X::Value, X::Digest>
     ensures machine { (s : State) (list : List Operation) (chain : Chain) (tip : List Operation)
+        (evicted : List (Bytes × Bytes))
         → Stands C.Store X.Meaning session.old (machine.with_slot s number machine.gone)
         → Contains s.had list → IsAmong s.had chain
-        → IsMaking X.Meaning s.opened list chain tip made
+        → IsMaking X.Meaning s.opened list chain tip evicted made
         → Follows C.Store X.Meaning X.Key.bytes X.Value.bytes X.Digest.bytes session.new result
-        (made_into X.scheme s number list chain tip) }
+        (made_into X.scheme s number list chain tip evicted) }
     ensures rest { session.new ≡ record session.old { table = session.new.table } }
     ensures fault { result ≡ Turn.StoreFault → IsErrOf made (Error.Journal JournalError.Store) }
 {

@@ -126,6 +126,25 @@ pub fn ops<X: Reading<C>, C: Store>(
     }
 }
 
+/// The keys that a merkleized batch's step evicted, with the values that they had.
+pub fn evicted<X: Reading<C>, C: Store>(
+    alloc: Global,
+    session: &SessionOf<X, C>,
+    number: u64,
+) -> Turn<X::Key, X::Value, X::Digest>
+    ensures machine { Tells C.Store X.Meaning X.Key.bytes X.Value.bytes X.Digest.bytes session.now
+        result (λ s. machine.evicted s number) }
+    ensures never { result ≢ Turn.StoreFault }
+{
+    let Some(batch) = merkleized_at(&session.table, number) else {
+        return no_such_handle(number);
+    };
+    match X::evicted(alloc, batch) {
+        Err(_) => Turn::Memory,
+        Ok(pairs) => Turn::Reply(Reply::Evicted(pairs)),
+    }
+}
+
 /// The numbers of the database.
 pub fn info<X: Common<C>, C: Store>(session: &SessionOf<X, C>) -> Turn<X::Key, X::Value, X::Digest>
     ensures machine { Tells C.Store X.Meaning X.Key.bytes X.Value.bytes X.Digest.bytes session.now

@@ -5,7 +5,7 @@ ghost use Rattle.qm_model.specs.Slots.{slotted};
 ghost use Rattle.qm_machine.specs.Machine as machine;
 ghost use Rattle.qm_store.specs.Given.{store_given, IsUnchanged};
 ghost use Rattle.qm_engine.specs.Table.{staged_of};
-ghost use Rattle.qm_offer.specs.Words.{AtStaged, Makes, ReadsOnly, tip_of};
+ghost use Rattle.qm_offer.specs.Words.{AtStaged, Makes, ReadsOnly, evictions_of, tip_of};
 ghost use Rattle.qm_engine.specs.Session.{Obeys, ObeysSteady, Uses};
 
 use super::batches::put_made;
@@ -119,7 +119,7 @@ fn resolve_batch<X: Staging<C>, C: Store, P: Policy<X::Family, X::Key, X::Value>
         let writes = slotted ws keys (slot_views X.Value.bytes resolution.now.slots.items) (write_views X.Key.bytes X.Value.bytes resolution.now.others.items) in
         Makes X.Meaning C.Store database.old list chain
         (tip_of X.scheme P.rules chain writes policy.now (option_map X.Value.bytes metadata.now))
-        result) }
+        (evictions_of X.scheme P.rules chain writes policy.now) result) }
     ensures reads { ReadsOnly X.Meaning C.Store database.old database.new result }
 {
     let mut policy = policy.twin(alloc)?;

@@ -311,6 +311,8 @@ fn staged(alloc: Global, name: &[u8], words: &[&[u8]]) -> Result<ByteCommand, Un
         Ok(Command::Making(MakingCommand::Apply(only_number(words)?)))
     } else if is(name, b"ops") {
         Ok(Command::Info(InfoCommand::Ops(only_number(words)?)))
+    } else if is(name, b"evicted") {
+        Ok(Command::Info(InfoCommand::Evicted(only_number(words)?)))
     } else {
         reading(alloc, name, words)
     }

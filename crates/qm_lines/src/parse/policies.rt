@@ -81,6 +81,21 @@ fn optional_swap<'a>(
     Ok(Said { said, rest })
 }
 
+// A number after this name, which may be left out.
+fn optional_number<'a>(name: &[u8], parts: &'a [&'a [u8]]) -> Result<Said<'a, u64>, Unread>
+    ensures { Reads (λ s. (s.said, lent s.rest.now)) result
+        (grammar.optional name.now grammar.number_of (lent parts.now)) }
+{
+    let Some((word, rest)) = first_named(name, parts) else {
+        return Ok(Said {
+            said: None,
+            rest: parts,
+        });
+    };
+    let said = Some(number(word)?);
+    Ok(Said { said, rest })
+}
+
 // Entries and skips.
 fn limits(entries: &[u8], skips: &[u8]) -> Result<Limits, Unread>
     ensures { Reads limits_view result (grammar.limits_of entries.now skips.now) }
@@ -105,22 +120,24 @@ fn rule_of(
     limits: Limits,
     drop: Option<ByteValue>,
     stop: Option<ByteValue>,
-    swap: Said<'_, (ByteValue, ByteValue)>,
+    swap: Option<(ByteValue, ByteValue)>,
+    spare: Said<'_, u64>,
 ) -> Result<AnyPolicy, Unread>
-    ensures { Reads policy_view result (grammar.rule_of limits.entries limits.skips drop stop
-        (swap.entry.said, lent swap.entry.rest.now)) }
+    ensures { Reads policy_view result (grammar.rule_of limits.entries limits.skips drop stop swap
+        (spare.entry.said, lent spare.entry.rest.now)) }
 {
     let policy = AnyPolicy::Rule(Rule {
         entries: limits.entries,
         skips: limits.skips,
         drop,
         stop,
-        swap: swap.said,
+        swap,
+        spare: spare.said,
     });
-    only(swap.rest, policy)
+    only(spare.rest, policy)
 }
 
-// A rule within these limits, of what is to be dropped, to be stopped at and to be swapped.
+// A rule within these limits, of what is to be dropped, to be stopped at and to be swapped, and of how many entries are spared.
 fn rule_with(alloc: Global, limits: Limits, parts: &[&[u8]]) -> Result<AnyPolicy, Unread>
     ensures { Reads policy_view result
         (grammar.rule_with limits.entries limits.skips (lent parts.now)) }
@@ -128,7 +145,8 @@ fn rule_with(alloc: Global, limits: Limits, parts: &[&[u8]]) -> Result<AnyPolicy
     let drop = optional_value(alloc, b"drop=", parts)?;
     let stop = optional_value(alloc, b"stop=", drop.rest)?;
     let swap = optional_swap(alloc, b"swap=", stop.rest)?;
-    rule_of(limits, drop.said, stop.said, swap)
+    let spare = optional_number(b"spare=", swap.rest)?;
+    rule_of(limits, drop.said, stop.said, swap.said, spare)
 }
 
 fn rule(alloc: Global, parts: &[&[u8]]) -> Result<AnyPolicy, Unread>

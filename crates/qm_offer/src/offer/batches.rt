@@ -1,6 +1,6 @@
 //! Batches: begun and written.
 
-ghost use Rattle.std.specs.Prelude.{◌++◌, ◌∷◌, ℕ, [], List, Some, None, IfOk};
+ghost use Rattle.std.specs.Prelude.{◌≡◌, ◌++◌, ◌∷◌, ℕ, [], List, Some, None, IfOk};
 ghost use Rattle.qm_model.specs.Operations.{Operation};
 ghost use Rattle.qm_model.specs.Writes.{Write};
 ghost use Rattle.qm_model.specs.Batches.{Chain, begun_on, child_of};
@@ -27,11 +27,11 @@ pub trait Batching<C: Store>: Common<C> {
             (chain : Chain) (tip : List Operation) → Self.is_merkleized batch.now chain tip
             → Self.is_batch b (child_of keep chain tip) chain []) };
 
-    /// The database as a merkleized batch, which does nothing.
+    /// The database as a merkleized batch, which does nothing and evicted nothing.
     fn tip(&self, alloc: Global) -> Result<Self::Merkleized, AllocError>
         ensures { IfOk result (λ b.
             (n : ℕ) (list : List Operation) → Self.numbered self.now n → Self.stands self.now list
-            → Self.is_merkleized b (begun_on n list) list) };
+            → Self.is_merkleized b (begun_on n list) list × (Self.evictions b ≡ [])) };
 
     /// Writes a value for a key.
     fn put(

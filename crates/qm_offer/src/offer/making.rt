@@ -1,7 +1,7 @@
 //! The lists of batches: made, and applied.
 
 ghost use Rattle.std.specs.Prelude.{option_map};
-ghost use Rattle.qm_offer.specs.Words.{AtBatch, Applies, Makes, ReadsOnly, tip_of};
+ghost use Rattle.qm_offer.specs.Words.{AtBatch, Applies, Makes, ReadsOnly, evictions_of, tip_of};
 
 use crate::offer::Common;
 use qm_base::Error;
@@ -24,7 +24,8 @@ pub trait Making<C: Store>: Common<C> {
     ) -> Result<Self::Merkleized, Error>
         ensures makes { AtBatch Self.Meaning self.old batch (λ list chain above ws.
             Makes Self.Meaning C.Store self.old list chain (tip_of Self.scheme P.rules chain ws
-            policy.old (option_map Self.Value.bytes metadata.now)) result) }
+            policy.old (option_map Self.Value.bytes metadata.now))
+            (evictions_of Self.scheme P.rules chain ws policy.old) result) }
         ensures reads { ReadsOnly Self.Meaning C.Store self.old self.new result };
 
     /// Takes the batch's tip list, and appends to the store what it lacks of it.

@@ -6,6 +6,7 @@ ghost use Rattle.qm_model.specs.Live.{value_of, last_metadata};
 ghost use Rattle.qm_model.specs.Writes.{read_through};
 ghost use Rattle.qm_model.specs.Batches.{Chain, IsKnown, own_operations};
 ghost use Rattle.qm_base.specs.Listed.{listed_view};
+ghost use Rattle.qm_base.specs.Views.{pair_view};
 ghost use Rattle.qm_store.specs.Refusals.{refusal_of};
 ghost use Rattle.qm_offer.specs.Roots.{AreRoots};
 ghost use Rattle.qm_offer.specs.Words.{AtBatch, AtTip, CanRead, IsReadFailure, ReadsOnly};
@@ -32,6 +33,15 @@ pub trait Reading<C: Store>: Common<C> {
             → (r.0 ≡ length chain.base)
             × (map (listed_view Self.Key.bytes Self.Value.bytes) r.1.items
             ≡ own_operations chain tip)) };
+
+    /// The keys that a merkleized batch's step evicted, in the order of the walk, each with the value that it had: copies.
+    fn evicted(
+        alloc: Global,
+        batch: &Self::Merkleized,
+    ) -> Result<Vec<(Self::Key, Self::Value)>, AllocError>
+        ensures { IfOk result (λ pairs.
+            map (pair_view Self.Key.bytes Self.Value.bytes) pairs.items
+            ≡ Self.evictions batch.now) };
 
     /// Reads the values of keys, in their order.
     fn get(&mut self, alloc: Global, keys: &[Self::Key]) -> Result<Vec<Option<Self::Value>>, Error>

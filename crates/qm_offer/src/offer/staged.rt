@@ -5,7 +5,7 @@ ghost use Rattle.qm_model.specs.Writes.{read_through};
 ghost use Rattle.qm_model.specs.Batches.{IsKnown};
 ghost use Rattle.qm_model.specs.Slots.{slotted};
 ghost use Rattle.qm_base.specs.Slots.{slot_views, write_views};
-ghost use Rattle.qm_offer.specs.Words.{AtBatch, AtStaged, CanRead, IsReadFailure, Makes, ReadsOnly, tip_of};
+ghost use Rattle.qm_offer.specs.Words.{AtBatch, AtStaged, CanRead, IsReadFailure, Makes, ReadsOnly, evictions_of, tip_of};
 
 use crate::offer::Common;
 use qm_base::{Error, Resolution};
@@ -75,6 +75,7 @@ pub trait Staging<C: Store>: Common<C> {
         ensures makes { AtStaged Self.Meaning self.old batch (λ list chain above ws keys.
             let writes = slotted ws keys (slot_views Self.Value.bytes resolution.now.slots.items) (write_views Self.Key.bytes Self.Value.bytes resolution.now.others.items) in
             Makes Self.Meaning C.Store self.old list chain (tip_of Self.scheme P.rules chain writes
-            policy.old (option_map Self.Value.bytes metadata.now)) result) }
+            policy.old (option_map Self.Value.bytes metadata.now))
+            (evictions_of Self.scheme P.rules chain writes policy.old) result) }
         ensures reads { ReadsOnly Self.Meaning C.Store self.old self.new result };
 }

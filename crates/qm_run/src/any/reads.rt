@@ -25,6 +25,13 @@ impl<
         <Inside<C, I, U> as Reading<C>>::ops(alloc, batch)
     }
 
+    fn evicted(
+        alloc: Global,
+        batch: &Self::Merkleized,
+    ) -> Result<Vec<(ByteKey, ByteValue)>, AllocError> {
+        <Inside<C, I, U> as Reading<C>>::evicted(alloc, batch)
+    }
+
     fn get(&mut self, alloc: Global, keys: &[ByteKey]) -> Result<Vec<Option<ByteValue>>, Error> {
         <Inside<C, I, U> as Reading<C>>::get(&mut self.db, alloc, keys)
     }

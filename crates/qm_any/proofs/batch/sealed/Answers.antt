@@ -23,8 +23,8 @@ invariant_of-new g c =
     let base : view (c.parent-inside.inside.0.0).tip ≡ parent.bounds.tip = ap (λ i. i.bounds.tip) c.parent-inside.view_is ∙ ap (λ m. m.bounds.tip) c.parent.view_is in
     let own = ap (λ n. record { base = n; operations = operation_views g.U.Update.view key value c.plan.inside.operations.items; changes = changes_view key value c.plan.inside.diff }) (ap (λ k. k.size) base)
     ∙ ap (λ p. record { base = parent.bounds.tip.size; operations = p.operations; changes = p.changes }) c.plan.view_is in (
-      subst AreAgreed (sealed-child root meta parent c.args.keep plan tree _ _ _ _ _ _ _ _ base (c.requires.placed).0 c.leaves.ensures (c.requires.placed).1 (ap (λ p. p.floor) c.plan.view_is)
-          (c.in_ok-steps.ensures.steps ∙ ap (λ (l : Layer). l ∷ take c.args.keep parent.layers) own) refl (ap (λ p. p.live) c.plan.view_is))
+      subst AreAgreed (sealed-child root meta parent c.args.keep plan tree _ _ _ _ _ _ _ _ _ base (c.requires.placed).0 c.leaves.ensures (c.requires.placed).1 (ap (λ p. p.floor) c.plan.view_is)
+          (c.in_ok-steps.ensures.steps ∙ ap (λ (l : Layer). l ∷ take c.args.keep parent.layers) own) refl (ap (λ p. p.live) c.plan.view_is) (ap (λ p. p.evicted) c.plan.view_is))
           (child-agreed parent c.args.keep c.requires.keep agreed plan tree root meta count (c.requires.after).spelled.few c.requires.live (c.requires.after).through),
       c.in_ok-steps.ensures.diffs,
     )

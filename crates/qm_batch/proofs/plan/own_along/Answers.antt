@@ -1,16 +1,18 @@
 use Rattle.std.proofs.Common.{◌≡◌, ◌∙◌, ◌++◌, ◌+◌, ◌-◌, ap, ap₂, sym, arith, length, map, count_by, subst, List, ℕ}
-use Rattle.std.specs.Prelude.{is_none, is_some}
+use Rattle.std.specs.Prelude.{is_none, is_some, IfOk}
 use Rattle.std.proofs.lemmas.List.{length-map}
 use Rattle.qm_model.proofs.Results.{ok-four, told-one, told-then, told-err}
 use Rattle.qm_operations.specs.Parts.{is_update}
+use Rattle.qm_model.specs.Operations.{Bytes}
 use Rattle.qm_model.specs.Live.{floor}
 use Rattle.qm_model.specs.Walk.{walk}
 use Rattle.qm_model.specs.Writes.{made_inactive}
 use Rattle.qm_step.specs.Bases.{base_view}
 use Rattle.qm_step.specs.Kinds.{kind_of}
-use Rattle.qm_step.specs.Going.{Decided, AreDecided}
-use Rattle.qm_step.specs.PlanViews.{decided_views, touch_view}
+use Rattle.qm_step.specs.Going.{Decided, write_for, AreDecided}
+use Rattle.qm_step.specs.PlanViews.{decided_views, pair_views, touch_view}
 use Rattle.qm_batch.specs.PlanPaths.{AreBehind, AreOwn}
+use Rattle.qm_step.specs.Rings.{touch_in}
 use Rattle.qm_step.specs.Touches.{Touch}
 use Rattle.qm_batch.proofs.PlanOwns.{are-inactive, are-own, count-shown, decided-apart, evicted-shown, written-behind}
 use Rattle.qm_step.proofs.Reading.{lent-then, told, whole-then}
@@ -32,6 +34,8 @@ returns g c = record {
       let policy = c.args.policy.now in
       let next = c.walk_from.new.policy in
       let ds = decided_views key value c.in_ok-walked.walked.decided.items in
+      let told_pairs = pair_views key value in
+      let es = told_pairs c.in_ok-walked.walked.evicted.items in
       let end = c.in_ok-walked.walked.floor in
       let list = base ++ kind.writes base ws in
       let on = subst (λ ts. AreBehind (base_view c.args.base.now) (map view ts) lent base list) (sym c.deref-3.ensures.value)
@@ -50,15 +54,18 @@ returns g c = record {
       told-then _ _ (g.L.Items.reads.told c.args.log.now) (c.in_ok-walked.ensures.value lent base list is active on) (λ are.
       let limits = ap₂ (λ e s. walk rules list (floor base) (record { entries = e; skips = s }) policy)
       (c.limits-limits.ensures.entries ∙ ap (λ n. (rules.limits policy n).entries) inactive) (c.limits-limits.ensures.skips ∙ ap (λ n. (rules.limits policy n).skips) inactive) in
-      let apart = decided-apart rules base list (floor base) _ policy next ds end are in
+      let apart = decided-apart rules base list (floor base) _ policy next ds es end are in
       told-one _ _ (g.L.Items.reads.told c.args.log.now) (told _ _ _ read.told (c.own_of.ensures.touches lent base ws mid known written lent_ring ring are.from apart)) (λ found.
-      ok-four c.own_of.result found c.own_of.ensures.moves c.own_of.ensures.live c.own_of.ensures.floor (λ own same moves left floors.
+      let ends : IfOk c.own_of.result (λ own. (own.floor ≡ end) × (own.evicted ≡ c.in_ok-walked.walked.evicted)) =
+      ok-four c.own_of.result c.own_of.ensures.floor c.own_of.ensures.evicted c.own_of.ensures.floor c.own_of.ensures.floor (λ own at pairs _ _. (at, pairs)) in
+      ok-four c.own_of.result found c.own_of.ensures.moves c.own_of.ensures.live ends (λ own same moves left ends.
       let all_own =
-      are-own kind rules policy next base ws (map view touches) written.operations written.from written.keyed written.once live behind known.live count ds end (subst (λ all. AreDecided base list ds end next all) limits are) moves in
+      are-own kind rules policy next base ws (map view touches) written.operations written.from written.keyed written.once live behind known.live count ds es end (subst (λ all. AreDecided base list ds es end next all) limits are) moves in
       let keys = left ∙ ap (λ n. behind - n) (sym (evicted-shown key value c.in_ok-walked.walked.decided.items)) in
-      subst (λ (n : ℕ). AreOwn kind rules policy next (map view own.touches.items) own.live n base ws) (sym floors)
-      (subst (λ (n : ℕ). AreOwn kind rules policy next (map view own.touches.items) n end base ws) (sym keys)
-      (subst (λ (ts : List Touch). AreOwn kind rules policy next ts (behind - count_by (λ (d : Decided). is_none d.value) ds) end base ws) (sym same) all_own)))));
+      subst (λ (n : ℕ). AreOwn kind rules policy next (map view own.touches.items) (told_pairs own.evicted.items) own.live n base ws) (sym ends.0)
+      (subst (λ (n : ℕ). AreOwn kind rules policy next (map view own.touches.items) (told_pairs own.evicted.items) n end base ws) (sym keys)
+      (subst (λ (ts : List Touch). AreOwn kind rules policy next ts (told_pairs own.evicted.items) (behind - count_by (λ (d : Decided). is_none d.value) ds) end base ws) (sym same)
+      (subst (λ (ps : List (Bytes × Bytes)). AreOwn kind rules policy next (map view touches ++ map (touch_in base) (kind.moves list (map write_for ds))) ps (behind - count_by (λ (d : Decided). is_none d.value) ds) end base ws) (sym (ap (λ p. told_pairs p.items) ends.1)) all_own))))));
   count =
       ok-four c.own_of.result c.own_of.ensures.live c.own_of.ensures.count c.own_of.ensures.live c.own_of.ensures.count (λ own live more _ _.
       let same = ap length c.deref.ensures.value in

@@ -37,6 +37,7 @@ returns g c = record {
   moves = c.moved.ensures.live;
   live = c.saturating_sub-live.ensures ∙ ap (λ n. c.args.behind - n) (c.evicted.ensures.count ∙ ap (count_by (λ (d : Decided _ _). is_none d.value)) c.deref.ensures.value);
   floor = refl;
+  evicted = refl;
   count = c.in_ok-touches.ensures.count;
   reads = reads-short g.L.Items.reads _ c.befores_of.ensures.reads.left tt;
 }
@@ -49,6 +50,7 @@ returns-in_err-found g c =
       moves = rw exit.1 tt;
       live = rw exit.1 tt;
       floor = rw exit.1 tt;
+      evicted = rw exit.1 tt;
       count = rw exit.1 tt;
       reads = reads-on g.L.Items.reads c.from_residual.result c.in_err-found.ensures.reads exit.1 exit.2;
     }
@@ -61,6 +63,7 @@ returns-in_err-touches g c =
       moves = rw exit.1 tt;
       live = rw exit.1 tt;
       floor = rw exit.1 tt;
+      evicted = rw exit.1 tt;
       count = rw exit.1 tt;
       reads = reads-short g.L.Items.reads c.from_residual-in_err-touches.result c.befores_of.ensures.reads.left (rw (exit.1, exit.2) refl);
     }

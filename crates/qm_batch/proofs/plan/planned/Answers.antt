@@ -4,7 +4,7 @@ use Rattle.std.specs.Prelude.{option_map, ◌==◌, if◌then◌else◌}
 use Rattle.qm_operations.specs.Views.{operation_view}
 use Rattle.qm_model.specs.Operations.{Operation, commit}
 use Rattle.qm_model.specs.Step.{committed}
-use Rattle.qm_step.specs.PlanViews.{touch_view, touch_views}
+use Rattle.qm_step.specs.PlanViews.{pair_views, touch_view, touch_views}
 use Rattle.qm_step.specs.Touches.{operations_of}
 use Rattle.qm_step.specs.Views.{IsPlan, changes_view}
 use Rattle.qm_batch.proofs.PlanOwns.{operations-push, own-length}
@@ -26,6 +26,7 @@ returns g c = record {
       let value = g.U.Value.ByteString.bytes in
       let view = touch_view g.U.Update.view key value in
       let touches = c.args.own.touches.items in
+      let pairs = pair_views key value c.args.own.evicted.items in
       let own = operations_of (touch_views g.U.Update.view key value touches) in
       let meta = option_map value c.args.metadata in
       let place = c.commit_floor-floor.result in
@@ -36,9 +37,9 @@ returns g c = record {
       let operations : map (operation_view g.U.Update.view key value) c.push_reserved.new.self.items ≡ own ++ commit meta place ∷ [] =
       operations-push (operation_view g.U.Update.view key value) view (λ t. t.operation) (λ t. refl) touches c.in_ok-operations.operations.items c.push_reserved.new.self.items _ (commit meta place) c.in_ok-operations.ensures.operations c.push_reserved.ensures.items (ap (commit meta) c.new.ensures) in
       let are = rw c.deref.ensures.value at (c.in_ok-diff.ensures base size) in
-      subst (λ (n : ℕ). IsPlan (record { operations = map (operation_view g.U.Update.view key value) c.push_reserved.new.self.items; changes = changes; floor = n; live = c.args.own.live }) base (committed (base ++ own) c.args.own.floor meta)) (sym c.new-2.ensures)
-      (subst (λ (ops : List Operation). IsPlan (record { operations = ops; changes = changes; floor = place; live = c.args.own.live }) base (committed (base ++ own) c.args.own.floor meta)) (sym operations)
-      (own-plan base own changes c.args.own.live place c.args.own.floor meta count at (are from)));
+      subst (λ (n : ℕ). IsPlan (record { operations = map (operation_view g.U.Update.view key value) c.push_reserved.new.self.items; changes = changes; floor = n; live = c.args.own.live; evicted = pairs }) base (committed (base ++ own) c.args.own.floor meta) pairs) (sym c.new-2.ensures)
+      (subst (λ (ops : List Operation). IsPlan (record { operations = ops; changes = changes; floor = place; live = c.args.own.live; evicted = pairs }) base (committed (base ++ own) c.args.own.floor meta) pairs) (sym operations)
+      (own-plan base own changes pairs c.args.own.live place c.args.own.floor meta count at (are from)));
   memory = tt;
 }
 

@@ -5,6 +5,9 @@ use Rattle.qm_engine.proofs.turns.info_turn.Goals as goal
 pub returns-in-Ops : goal.returns-in-Ops
 returns-in-Ops g c = rw c.in-Ops.is (performs-telling (λ rest. refl) c.ops.ensures.machine c.ops.ensures.never)
 
+pub returns-in-Evicted : goal.returns-in-Evicted
+returns-in-Evicted g c = rw c.in-Evicted.is (performs-telling (λ rest. refl) c.evicted.ensures.machine c.evicted.ensures.never)
+
 pub returns-in-Info : goal.returns-in-Info
 returns-in-Info g c = rw c.in-Info.is (performs-telling (λ rest. refl) c.info.ensures.machine c.info.ensures.never)
 

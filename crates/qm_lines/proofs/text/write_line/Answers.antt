@@ -9,6 +9,9 @@ returns-in-Applied g c = rw c.in-Applied.is c.write_number-in-Applied.ensures
 pub returns-in-Ops : goal.returns-in-Ops
 returns-in-Ops g c = rw c.in-Ops.is (rw c.deref.ensures.value at c.write_listed.ensures)
 
+pub returns-in-Evicted : goal.returns-in-Evicted
+returns-in-Evicted g c = rw c.in-Evicted.is (rw c.deref-in-Evicted.ensures.value at c.write_pairs.ensures)
+
 pub returns-in-Read : goal.returns-in-Read
 returns-in-Read g c = rw c.in-Read.is (rw c.deref-in-Read.ensures.value at c.write_read.ensures)
 
@@ -25,7 +28,7 @@ pub returns-in-All : goal.returns-in-All
 returns-in-All g c = rw c.in-All.is c.write_whole.ensures
 
 pub returns-in-Range : goal.returns-in-Range
-returns-in-Range g c = rw c.in-Range.is (rw c.deref-in-Range.ensures.value at c.write_range.ensures)
+returns-in-Range g c = rw c.in-Range.is (rw c.deref-in-Range.ensures.value at c.write_pairs-in-Range.ensures)
 
 pub returns-in-Keys : goal.returns-in-Keys
 returns-in-Keys g c = rw c.in-Keys.is (rw c.deref-in-Keys.ensures.value at c.write_keys.ensures)

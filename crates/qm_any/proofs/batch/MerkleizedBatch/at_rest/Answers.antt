@@ -7,7 +7,7 @@ pub invariant_of-new : goal.invariant_of-new
 invariant_of-new g c =
     let value = g.U.Value.ByteString.bytes in
     let stands = commitment_view g.D.Digest.bytes c.args.commitment in (
-      rest-agreed stands c.args.floor c.args.live (option_map (λ m. value m.value) c.args.metadata) _ _ c.at_rest-tree.result
+      rest-agreed stands c.args.floor c.args.live (option_map (λ m. value m.value) c.args.metadata) _ _ _ c.at_rest-tree.result
           (ap (map (commitment_view g.D.Digest.bytes)) c.new.ensures.items)
           c.in_ok-steps.ensures
           c.at_rest-tree.ensures c.requires.few c.requires.live,

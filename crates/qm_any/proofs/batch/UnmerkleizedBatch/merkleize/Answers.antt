@@ -1,6 +1,6 @@
 use Rattle.std.proofs.Common.{◌∙◌, option_map, subst}
 use Rattle.qm_any.specs.Layouts.{hashing_with}
-use Rattle.qm_any.specs.Databases.{IsMade}
+use Rattle.qm_any.specs.Databases.{IsMadeWith}
 use Rattle.qm_any.specs.Making.{IsMaking, making_of}
 use Rattle.qm_any.proofs.Staging.{slotted-staged, staged-none}
 use Rattle.qm_any.proofs.batch.UnmerkleizedBatch.merkleize.Goals as goal
@@ -16,7 +16,7 @@ returns g c =
     record {
       fits = c.merkleize.ensures.fits;
       makes = λ list chain above is begun on.
-          subst (λ ws. IsMaking g.C.Store form (making_of g.P.Policy.rules c.args.policy.now ws meta) chain c.merkleize.new.policy c.args.db.now.log c.merkleize.new.db.log c.merkleize.result (λ b. IsMade hashing b.value chain)) writes
+          subst (λ ws. IsMaking g.C.Store form (making_of g.P.Policy.rules c.args.policy.now ws meta) chain c.merkleize.new.policy c.args.db.now.log c.merkleize.new.db.log c.merkleize.result (λ b. IsMadeWith hashing b.value chain)) writes
           (c.merkleize.ensures.makes list chain above is (record { begun = begun; reads = staged-none g.U.Update.view key chain.base _ c.new.ensures.items }) on);
       child = c.merkleize.ensures.child;
       unmade = c.merkleize.ensures.unmade;

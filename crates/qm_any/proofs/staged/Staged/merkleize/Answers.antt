@@ -13,7 +13,7 @@ use Rattle.qm_base.specs.declared.error.Error.TheVariants as errors
 use Rattle.qm_chain.specs.Bounds.{commitment_view}
 use Rattle.qm_operations.specs.Views.{operation_view, operation_views}
 use Rattle.qm_store.specs.KeptTrees.{KeptTree, IsKeptTree}
-use Rattle.qm_step.specs.Views.{IsPlan, left_after, stepped}
+use Rattle.qm_step.specs.Views.{IsPlan, evicted_after, left_after, stepped}
 use Rattle.qm_any.specs.Layouts.{hashing_with, list_root, spellings}
 use Rattle.qm_any.specs.Databases.{IsLeft, IsMade, IsTree, bases_of, is_on, kept_by}
 use Rattle.qm_any.specs.Tips.{IsSpelled, IsTooLong, IsTreeAfter}
@@ -105,7 +105,7 @@ returns-in_err-tree g c =
             let meta = option_map value c.args.metadata in
             let writes = slotted-reads view key value _ c.args.self.batch.writes c.deref.result.now c.self.inside.reads.items c.args.self.reads c.args.slots.now c.args.others.now (c.parts-keep.ensures.writes ∙ ap (λ b. b.writes) batch) c.deref.ensures.value reads in
             let found = child-found c.args.self.batch c.parts-keep.result.0.now _ list chain above c.base.ensures.value parent staged.begun on in
-            let plan = subst (λ ws. IsPlan c.in_ok-plan.plan chain.base (stepped form g.P.Policy.rules chain.base ws c.args.policy.now meta)) writes
+            let plan = subst (λ ws. IsPlan c.in_ok-plan.plan chain.base (stepped form g.P.Policy.rules chain.base ws c.args.policy.now meta) (evicted_after form g.P.Policy.rules chain.base ws c.args.policy.now)) writes
             (c.in_ok-plan.ensures.plan list chain.base is found ((staged.begun).parent).ring (staged-reads view key chain.base c.deref.result.now c.self.inside.reads.items c.args.self.reads c.deref.ensures.value reads staged.reads)).0 in
             let count : size ≡ length chain.base + length c.in_ok-plan.plan.operations =
             ap₂ (λ a b. a + b) (ap (λ t. t.leaves) (c.tree.ensures.value ∙ ap (λ m. m.tree) parent) ∙ made-leaves c.args.self.batch.parent above chain.base (staged.begun).parent)
@@ -174,7 +174,7 @@ returns g c =
           let writes = slotted-reads view key value _ c.args.self.batch.writes c.deref.result.now c.self.inside.reads.items c.args.self.reads c.args.slots.now c.args.others.now (c.parts-keep.ensures.writes ∙ ap (λ b. b.writes) batch) c.deref.ensures.value reads in
           let found = child-found c.args.self.batch c.parts-keep.result.0.now _ list chain above c.base.ensures.value parent staged.begun on in
           let planned = c.in_ok-plan.ensures.plan list chain.base is found ((staged.begun).parent).ring (staged-reads view key chain.base c.deref.result.now c.self.inside.reads.items c.args.self.reads c.deref.ensures.value reads staged.reads) in
-          let plan = subst (λ ws. IsPlan c.in_ok-plan.plan chain.base (stepped form g.P.Policy.rules chain.base ws c.args.policy.now meta)) writes planned.0 in
+          let plan = subst (λ ws. IsPlan c.in_ok-plan.plan chain.base (stepped form g.P.Policy.rules chain.base ws c.args.policy.now meta) (evicted_after form g.P.Policy.rules chain.base ws c.args.policy.now)) writes planned.0 in
           let given = ap (operation_views view key value) c.deref-2.ensures.value ∙ ap (λ p. p.operations) c.plan-2.view_is in
           let spelt = subst (λ ops. IsSpelled form ops c.in_ok-tree.tree.leaves) given (c.in_ok-tree.ensures.after).spelled in
           record {
@@ -192,11 +192,14 @@ returns g c =
                 let both = c.in_ok-tree.ensures.tree list base (bases_of above) stands before among in
                 let tree = subst (λ ops. IsKeptTree bytes hash shape c.in_ok-tree.tree (spellings hashing (base ++ ops)) (lists_since c.in_ok-child.child.boundary.size (map (spellings hashing) (base ∷ bases_of above)))) given both.tree in
                 let low = c.get-floor.ensures ∙ ap (λ p. p.floor) c.plan-2.view_is in
-                ok-then c.sealed.result c.sealed.ensures.value (λ b made. subst (λ m. IsMade hashing m chain (stepped form g.P.Policy.rules base (slotted c.args.self.batch.writes (map (λ r. r.0) c.args.self.reads) (slot_views value c.args.slots.now) (write_views key value c.args.others.now)) c.args.policy.now meta)) (sym made)
-                (child-stepped c.parts-keep.result.0.now c.parts-keep.result.1 chain above c.parts-keep.ensures.few begun kept g.P.Policy.rules c.args.policy.now _ meta c.in_ok-plan.plan c.in_ok-tree.tree (bytes c.in_ok-tree.root) c.in_ok-child.child.boundary.size _ plan spelt tree
-                (ap (λ k. k.size) (c.in_ok-child.ensures.placed).boundary)
-                (λ lowest. both.root (low ∙ lowest ∙ ap (λ ops. floor (base ++ ops)) (sym given)) ∙ ap (λ ops. list_root hashing (base ++ ops)) given)
-                c.in_ok-child.ensures.metadata));
+                ok-then c.sealed.result c.sealed.ensures.value (λ b made. (
+                  subst (λ m. IsMade hashing m chain (stepped form g.P.Policy.rules base (slotted c.args.self.batch.writes (map (λ r. r.0) c.args.self.reads) (slot_views value c.args.slots.now) (write_views key value c.args.others.now)) c.args.policy.now meta)) (sym made)
+                      (child-stepped c.parts-keep.result.0.now c.parts-keep.result.1 chain above c.parts-keep.ensures.few begun kept g.P.Policy.rules c.args.policy.now _ meta c.in_ok-plan.plan c.in_ok-tree.tree (bytes c.in_ok-tree.root) c.in_ok-child.child.boundary.size _ plan spelt tree
+                      (ap (λ k. k.size) (c.in_ok-child.ensures.placed).boundary)
+                      (λ lowest. both.root (low ∙ lowest ∙ ap (λ ops. floor (base ++ ops)) (sym given)) ∙ ap (λ ops. list_root hashing (base ++ ops)) given)
+                      c.in_ok-child.ensures.metadata),
+                  ap (λ m. m.evicted) made ∙ plan.told,
+                ));
             taken =
                 let count : c.in_ok-tree.tree.leaves ≡ length chain.base + length c.in_ok-plan.plan.operations =
                 (c.in_ok-tree.ensures.after).leaves ∙ ap₂ (λ a b. a + b) (ap (λ t. t.leaves) (c.tree.ensures.value ∙ ap (λ m. m.tree) parent) ∙ made-leaves c.args.self.batch.parent above chain.base (staged.begun).parent) (ap length given) in

@@ -24,6 +24,7 @@ returns-in_err-push g c =
       goes = rw exit.1 tt;
       decided = rw exit.1 tt;
       walk = rw exit.1 tt;
+      evicted = rw exit.1 tt;
       memory = rw exit.1 exit.2;
     }
 
@@ -34,6 +35,7 @@ returns-in_default g c = record {
       let ds = decided_views g.K.ByteString.bytes g.V.ByteString.bytes c.args.going.now.decided.items in
       sym (append-nil ds) ∙ ap (λ o. ds ++ option_to_list o) (sym (none-decided (g.K.ByteString.bytes c.args.key) (option_map g.K.ByteString.bytes c.args.next) c.args.before (action_view g.V.ByteString.bytes c.args.action) (c.in_default.ensures g.V.ByteString.bytes)));
   walk = refl;
+  evicted = refl;
   memory = tt;
 }
 
@@ -46,5 +48,6 @@ returns g c = record {
       ap (map view) c.in_ok-push.ensures.items ∙ map-append view items (_ ∷ [])
       ∙ ap (λ o. map view items ++ option_to_list o) (sym (some-decided (g.K.ByteString.bytes c.args.key) (option_map g.K.ByteString.bytes c.args.next) c.args.before (action_view g.V.ByteString.bytes c.args.action) _ (c.in-Some.ensures g.V.ByteString.bytes)));
   walk = c.decide.ensures;
+  evicted = refl;
   memory = tt;
 }

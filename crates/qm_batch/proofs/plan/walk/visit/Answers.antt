@@ -5,7 +5,7 @@ use Rattle.std.proofs.lemmas.Result.{err_from_is_err_and}
 use Rattle.qm_chain.specs.declared.walk.Walk.{Walk}
 use Rattle.qm_model.proofs.Results.{ok-four, ok-then, told-any, told-err, told-one}
 use Rattle.qm_step.specs.Going.{AreDead, AreDecided}
-use Rattle.qm_step.specs.PlanViews.{decided_views}
+use Rattle.qm_step.specs.PlanViews.{decided_views, pair_views}
 use Rattle.qm_batch.specs.PlanPaths.{found_view}
 use Rattle.qm_step.specs.Touches.{IsMoveAt}
 use Rattle.qm_batch.proofs.PlanGoing.{chosen, dead-here, dead-none, going-reached, going-short, going-spent, reached-at}
@@ -22,13 +22,14 @@ returns-then-not-comes_to g c = record {
       let w = c.args.going.now.walk in
       let next = c.comes_to.new.walk in
       let ds = decided_views g.U.Key.ByteString.bytes g.U.Value.ByteString.bytes c.args.going.now.decided.items in
+      let es = pair_views g.U.Key.ByteString.bytes g.U.Value.ByteString.bytes c.args.going.now.evicted.items in
       told-any _ (g.L.Items.reads.told c.args.log.now)
       (⊎_elim
-      (λ some. going-short g.P.Policy.rules base list ds w c.args.policy.now all going some c.args.at next c.requires.low c.requires.high dead (c.comes_to.ensures.floor some) (c.comes_to.ensures.rest some)
+      (λ some. going-short g.P.Policy.rules base list ds es w c.args.policy.now all going some c.args.at next c.requires.low c.requires.high dead (c.comes_to.ensures.floor some) (c.comes_to.ensures.rest some)
       (sym (c.comes_to.ensures.reached some) ∙ c.if-not-comes_to.true))
       (λ none.
       let zero : w.entries ≡ 0 = omega (arith, none) in
-      subst (λ (x : Walk _). AreDecided base list ds x.floor c.args.policy.now all) (sym (c.comes_to.ensures.spent zero).1) (going-spent g.P.Policy.rules base list ds w c.args.policy.now all going zero))
+      subst (λ (x : Walk _). AreDecided base list ds es x.floor c.args.policy.now all) (sym (c.comes_to.ensures.spent zero).1) (going-spent g.P.Policy.rules base list ds es w c.args.policy.now all going zero))
       (cases_lt 0 w.entries));
   low = c.comes_to.ensures.low;
   high = let high = c.comes_to.ensures.high in omega (arith, high);
@@ -68,7 +69,8 @@ returns-in-Some g c = record {
       let fits : nat_le (c.args.at - w.floor) w.skips ≡ true = sym (c.comes_to.ensures.reached some) ∙ c.if-not-comes_to.false in
       let here : next.floor ≡ c.args.at = reached-at c.args.at w.floor w.skips next.floor c.requires.low place fits in
       let come =
-      going-reached g.P.Policy.rules base list (decided_views g.U.Key.ByteString.bytes g.U.Value.ByteString.bytes c.args.going.now.decided.items) w c.args.policy.now all going some c.args.at next c.requires.low c.requires.high dead place
+      going-reached g.P.Policy.rules base list (decided_views g.U.Key.ByteString.bytes g.U.Value.ByteString.bytes c.args.going.now.decided.items)
+      (pair_views g.U.Key.ByteString.bytes g.U.Value.ByteString.bytes c.args.going.now.evicted.items) w c.args.policy.now all going some c.args.at next c.requires.low c.requires.high dead place
       (c.comes_to.ensures.rest some) fits in
       told-one _ _ (g.L.Items.reads.told c.args.log.now) (c.in_ok-found.ensures.value lent base list is on) (λ move.
       let there = subst (λ n. IsMoveAt (Some (found_view g.U.Update.view c.in-Some.found)) base list n) (sym here) (subst (λ found. IsMoveAt (option_map (found_view g.U.Update.view) found) base list c.args.at) c.in-Some.is move) in
@@ -93,7 +95,8 @@ returns-in-None g c = record {
       let fits : nat_le (c.args.at - w.floor) w.skips ≡ true = sym (c.comes_to.ensures.reached some) ∙ c.if-not-comes_to.false in
       let here : next.floor ≡ c.args.at = reached-at c.args.at w.floor w.skips next.floor c.requires.low place fits in
       let come =
-      going-reached g.P.Policy.rules base list (decided_views g.U.Key.ByteString.bytes g.U.Value.ByteString.bytes c.args.going.now.decided.items) w c.args.policy.now all going some c.args.at next c.requires.low c.requires.high dead place
+      going-reached g.P.Policy.rules base list (decided_views g.U.Key.ByteString.bytes g.U.Value.ByteString.bytes c.args.going.now.decided.items)
+      (pair_views g.U.Key.ByteString.bytes g.U.Value.ByteString.bytes c.args.going.now.evicted.items) w c.args.policy.now all going some c.args.at next c.requires.low c.requires.high dead place
       (c.comes_to.ensures.rest some) fits in
       told-one _ _ (g.L.Items.reads.told c.args.log.now) (c.in_ok-found.ensures.value lent base list is on) (λ move.
       let there = subst (λ found. IsMoveAt (option_map (found_view g.U.Update.view) found) base list c.args.at) c.in-None.is move in

@@ -3,7 +3,8 @@ use Rattle.qm_model.proofs.Results.{told-one, told-err}
 use Rattle.qm_model.specs.Live.{floor}
 use Rattle.qm_model.specs.Walk.{walk}
 use Rattle.qm_step.specs.Going.{AreDecided}
-use Rattle.qm_step.specs.PlanViews.{decided_view, decided_views, touch_view}
+use Rattle.qm_step.specs.PlanViews.{decided_view, decided_views, pair_views, touch_view}
+use Rattle.qm_base.specs.Views.{pair_view}
 use Rattle.qm_batch.proofs.PlanGoing.{going-begins}
 use Rattle.qm_batch.proofs.PlanMoves.{made-long}
 use Rattle.std.proofs.lemmas.Result.{err_from_is_err_and}
@@ -27,8 +28,8 @@ returns g c = record {
       let begun : c.new-walk.result ≡ record { floor = floor base; end = min c.new-2.result (floor base + c.args.limits.entries + c.args.limits.skips); entries = c.args.limits.entries; skips = c.args.limits.skips } =
       c.new-walk.ensures ∙ ap (λ n. record { floor = n; end = min c.new-2.result (n + c.args.limits.entries + c.args.limits.skips); entries = c.args.limits.entries; skips = c.args.limits.skips }) at in
       told-one _ _ (g.L.Items.reads.told c.args.log.now) (c.in_ok-walk_on.ensures.value lent base list _ is active on
-      (going-begins g.P.Policy.rules base list _ c.new-walk.result c.args.policy.now c.new-2.result c.args.limits.entries c.args.limits.skips (ap (map (decided_view key value)) c.new-3.ensures.items) top begun)) (λ decided.
-      subst (λ (n : ℕ). AreDecided base list (decided_views key value c.walk_on.new.going.decided.items) n c.walk_on.new.policy (walk g.P.Policy.rules list (floor base) (record { entries = c.args.limits.entries; skips = c.args.limits.skips }) c.args.policy.now)) (sym c.get.ensures) decided);
+      (going-begins g.P.Policy.rules base list _ _ c.new-walk.result c.args.policy.now c.new-2.result c.args.limits.entries c.args.limits.skips (ap (map (decided_view key value)) c.new-3.ensures.items) (ap (map (pair_view key value)) c.new-4.ensures.items) top begun)) (λ decided.
+      subst (λ (n : ℕ). AreDecided base list (decided_views key value c.walk_on.new.going.decided.items) (pair_views key value c.walk_on.new.going.evicted.items) n c.walk_on.new.policy (walk g.P.Policy.rules list (floor base) (record { entries = c.args.limits.entries; skips = c.args.limits.skips }) c.args.policy.now)) (sym c.get.ensures) decided);
   reads = reads-short g.L.Items.reads _ c.walk_on.ensures.reads.left tt;
 }
 

@@ -3,7 +3,7 @@ use Rattle.std.specs.Prelude.{IfSome}
 use Rattle.std.proofs.lemmas.Result.{err_from_is_err_and}
 use Rattle.qm_model.proofs.Results.{told-any, told-err, told-one, told-then}
 use Rattle.qm_step.specs.Going.{AreDead}
-use Rattle.qm_step.specs.PlanViews.{decided_views}
+use Rattle.qm_step.specs.PlanViews.{decided_views, pair_views}
 use Rattle.qm_batch.proofs.PlanFinds.{match-none, match-some}
 use Rattle.qm_batch.proofs.PlanGoing.{dead-none, going-finished}
 use Rattle.qm_step.proofs.Reading.{lent-then, told}
@@ -100,7 +100,8 @@ returns g c = record {
       let end = c.loop-from.invariant.end in
       let last : c.loop-from.from ≡ w.end = omega (arith, within, end, c.loop-from-test.false, c.get-end.ensures) in
       told-one _ _ (g.L.Items.reads.told c.args.log.now) (c.loop-from.invariant.value lent base list all is active on going) (λ so_far.
-      going-finished g.P.Policy.rules base list (decided_views g.U.Key.ByteString.bytes g.U.Value.ByteString.bytes c.loop-from.going.decided.items) w c.loop-from.policy all so_far.1 c.finish.new.walk (omega (arith, here, within))
+      going-finished g.P.Policy.rules base list (decided_views g.U.Key.ByteString.bytes g.U.Value.ByteString.bytes c.loop-from.going.decided.items)
+      (pair_views g.U.Key.ByteString.bytes g.U.Value.ByteString.bytes c.loop-from.going.evicted.items) w c.loop-from.policy all so_far.1 c.finish.new.walk (omega (arith, here, within))
       (subst (λ n. AreDead list w.floor n) last so_far.0) c.finish.ensures.none c.finish.ensures.some);
   reads = reads-short g.L.Items.reads _ c.loop-from.invariant.read tt;
 }

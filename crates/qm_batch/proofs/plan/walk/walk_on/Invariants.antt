@@ -6,7 +6,7 @@ use Rattle.qm_model.specs.Walk.{Walked}
 use Rattle.qm_step.specs.Going.{AreDead, IsGoing}
 use Rattle.qm_base.specs.Reads.{KeepsItems}
 use Rattle.qm_step.specs.Lent.{IsLent}
-use Rattle.qm_step.specs.PlanViews.{decided_views}
+use Rattle.qm_step.specs.PlanViews.{decided_views, pair_views}
 use Rattle.qm_batch.specs.PlanPaths.{path_view, IsPath}
 use Rattle.qm_batch.proofs.plan.walk.walk_on.Given as goal
 
@@ -22,9 +22,9 @@ invariant-loop-from g l =
       end : l.going.walk.end ≡ l.initial.going.walk.end;
       value : (lent base list : List Operation) (all : Walked g.row.P.Denot) → IsLent g.L.Items.reads g.U.Update.form g.I.Unordered.index_key (g.I.Unordered.entries l.path.index.now) l.initial.log lent →
           g.B.Candidates.activity l.activity ≡ bits lent → IsPath (path_view g.U.Update.view key value l.path) lent base list →
-          IsGoing g.P.Policy.rules base list (decided_views key value l.initial.going.decided.items) l.initial.going.walk l.initial.policy all →
+          IsGoing g.P.Policy.rules base list (decided_views key value l.initial.going.decided.items) (pair_views key value l.initial.going.evicted.items) l.initial.going.walk l.initial.policy all →
           IfSome (g.L.Items.reads.told l.initial.log) (λ _. AreDead list l.going.walk.floor l.from ×
-          IsGoing g.P.Policy.rules base list (decided_views key value l.going.decided.items) l.going.walk l.policy all);
+          IsGoing g.P.Policy.rules base list (decided_views key value l.going.decided.items) (pair_views key value l.going.evicted.items) l.going.walk l.policy all);
     }
 
 abbrev pub decreases-loop-from : goal.decreases-loop-from

@@ -82,7 +82,7 @@ returns-in-Ok g c =
           let old = subst (λ d. anys.IsDatabase members layout d list) (sym db_any) stands.any in
           let from = subst (λ b. anys.IsStaged hashing b chain above) (sym self_any) begun.any in
           let m = three (λ (b : anys.Staged g.row.D.Denot) (d : anys.Database g.row.C.Denot g.row.D.Denot) (n : anys.Database g.row.C.Denot g.row.D.Denot).
-          IsMaking members form (making_of g.P.Policy.rules c.args.policy.now (writes b) meta) chain c.merkleize.new.policy d.log n.log (Ok c.in-Ok.any) (λ x. anys.IsMade hashing x.value chain))
+          IsMaking members form (making_of g.P.Policy.rules c.args.policy.now (writes b) meta) chain c.merkleize.new.policy d.log n.log (Ok c.in-Ok.any) (λ x. anys.IsMadeWith hashing x.value chain))
           self_any db_any (sym kept_db) (c.in-Ok.ensures.makes list chain above old from on) in
           let tip = list_made form (making_of g.P.Policy.rules c.args.policy.now (writes c.args.self.any) meta) chain.base in
           let after : anys.IsDatabase members layout c.merkleize.new.db list = left-database members layout c.db.inside.any c.merkleize.new.db list c.in-Ok.ensures.left old in
@@ -90,13 +90,16 @@ returns-in-Ok g c =
           let parent = subst (λ b. anys.IsMade hashing b above chain.base) (c.self.invariant.0 ∙ sym (ap (λ (b : Made g.row.D.Denot). b.any) c.deref-in-Ok.ensures)) from.begun.parent in
           let held = subst (λ k. IsKept bytes hash shape size form k chain.base (anys.bases_of above)) (sym self_parent ∙ sym (ap (λ (b : Made g.row.D.Denot). b.kept) c.deref-in-Ok.ensures)) begun.parent in
           let by_keep = from.begun.kept ∙ ap (λ k. anys.kept_by k above chain.base) c.self.invariant.1 in
-          let kept = c.finished.ensures.made list tip chain above (record { any = after; canonical = own }) parent held by_keep on m.made in
+          let kept = c.finished.ensures.made list tip chain above (record { any = after; canonical = own }) parent held by_keep on m.made.0 in
           record {
-            made = ok-four r c.finished.ensures.value kept c.finished.ensures.value kept (λ b value has _ _. record {
-              any = subst (λ x. anys.IsMade hashing x chain tip) (sym value.0) m.made;
-              kept = has;
-              numbered = value.1 ∙ parent_instance ∙ begun.numbered;
-            });
+            made = ok-four r c.finished.ensures.value kept c.finished.ensures.value kept (λ b value has _ _. (
+              record {
+                any = subst (λ x. anys.IsMade hashing x chain tip) (sym value.0) m.made.0;
+                kept = has;
+                numbered = value.1 ∙ parent_instance ∙ begun.numbered;
+              },
+              ap (λ x. x.evicted) value.0 ∙ m.made.1,
+            ));
             taken = on-ok r m.taken;
             next = on-ok r m.next;
             refused = err-then r c.finished.ensures.memory (λ e memory. inl (inl memory));

@@ -16,7 +16,7 @@ returns g c =
           (reads.same, reads.store, reads.numbered)
           c.merkleize_batch-made.ensures.made
           (sym c.in-Some.ensures.value)
-          (λ list chain tip taken in_had among making. c.put_made.ensures.machine s list chain tip (rw c.in-Some.ensures.table taken) in_had among making);
+          (λ list chain tip evicted taken in_had among making. c.put_made.ensures.machine s list chain tip evicted (rw c.in-Some.ensures.table taken) in_had among making);
       store = made_keeps g.C.Store g.X.Meaning g.X.Key.ByteString.bytes g.X.Value.ByteString.bytes g.X.Digest.Digest.bytes c.args.session.now c.in-Database.is reads {held = c.put_made.new.session.held} (rest-held {new = c.put_made.new.session} c.put_made.ensures.rest);
       uses = made_uses g.C.Store g.X.Meaning g.X.Key.ByteString.bytes g.X.Value.ByteString.bytes g.X.Digest.Digest.bytes c.args.session.now c.in-Database.is reads {held = c.put_made.new.session.held} (rest-held {new = c.put_made.new.session} c.put_made.ensures.rest) c.put_made.ensures.fault;
       opened = rest-opened {new = c.put_made.new.session} c.put_made.ensures.rest;
@@ -32,4 +32,4 @@ returns-in_default-take_writing g c =
     let meta = option_map g.X.Value.ByteString.bytes c.args.metadata.now in
     steady g.C.Store g.X.Meaning g.X.Key.ByteString.bytes g.X.Value.ByteString.bytes g.X.Digest.Digest.bytes c.args.session.now _ _ _ _
     (none_named g.C.Store g.X.Meaning g.X.Key.ByteString.bytes g.X.Value.ByteString.bytes g.X.Digest.Digest.bytes c.args.session.now (λ s list. merkleize_in g.X.Meaning.scheme g.P.Policy.rules s c.args.number c.args.policy.now meta list) c.args.number c.in-Database.is c.in_default-take_writing.ensures.table c.no_such_handle.ensures
-    (λ s list slot. not_writing g.C.Store g.X.Meaning (merkleize_in g.X.Meaning.scheme g.P.Policy.rules s c.args.number c.args.policy.now meta list) refl (λ chain tip. refl) (λ chain above ws staged. refl) s.had _ _ slot c.in_default-take_writing.ensures.value))
+    (λ s list slot. not_writing g.C.Store g.X.Meaning (merkleize_in g.X.Meaning.scheme g.P.Policy.rules s c.args.number c.args.policy.now meta list) refl (λ chain tip evicted. refl) (λ chain above ws staged. refl) s.had _ _ slot c.in_default-take_writing.ensures.value))

@@ -31,7 +31,7 @@ returns-in-Ok g c =
           (length-map c.args.resolution.now.slots.items (slot_view g.X.Value.ByteString.bytes) ∙ sym (c.len.ensures ∙ c.args.resolution.now.slots.ok.0) ∙ taken.1)
           c.resolve_batch-made.ensures.made
           taken.0
-          (λ list chain tip used in_had among making. c.put_made.ensures.machine s list chain tip (rw taken.2 used) in_had among making);
+          (λ list chain tip evicted used in_had among making. c.put_made.ensures.machine s list chain tip evicted (rw taken.2 used) in_had among making);
       store = made_keeps g.C.Store g.X.Meaning g.X.Key.ByteString.bytes g.X.Value.ByteString.bytes g.X.Digest.Digest.bytes c.args.session.now c.in-Database.is reads {held = c.put_made.new.session.held} (rest-held {new = c.put_made.new.session} c.put_made.ensures.rest);
       uses = made_uses g.C.Store g.X.Meaning g.X.Key.ByteString.bytes g.X.Value.ByteString.bytes g.X.Digest.Digest.bytes c.args.session.now c.in-Database.is reads {held = c.put_made.new.session.held} (rest-held {new = c.put_made.new.session} c.put_made.ensures.rest) c.put_made.ensures.fault;
       opened = rest-opened {new = c.put_made.new.session} c.put_made.ensures.rest;

@@ -34,4 +34,4 @@ pub returns-in_default-take_writing : goal.returns-in_default-take_writing
 returns-in_default-take_writing g c =
     let keys = map g.X.Key.ByteString.bytes c.args.keys.now in
     none_named g.C.Store g.X.Meaning g.X.Key.ByteString.bytes g.X.Value.ByteString.bytes g.X.Digest.Digest.bytes c.args.session.now (λ s list. stage_in g.X.Meaning.scheme s c.args.number keys list) c.args.number c.in-Database.is c.in_default-take_writing.ensures.table c.no_such_handle.ensures
-    (λ s list slot. not_writing g.C.Store g.X.Meaning (stage_in g.X.Meaning.scheme s c.args.number keys list) refl (λ chain tip. refl) (λ chain above ws staged. refl) s.had _ _ slot c.in_default-take_writing.ensures.value)
+    (λ s list slot. not_writing g.C.Store g.X.Meaning (stage_in g.X.Meaning.scheme s c.args.number keys list) refl (λ chain tip evicted. refl) (λ chain above ws staged. refl) s.had _ _ slot c.in_default-take_writing.ensures.value)

@@ -1,7 +1,7 @@
 use Rattle.std.proofs.Common.{◌∙◌, ◌≤◌, suc, length, ap, ap₂, refl, subst, IfOk, IfErr, option_map, ◌⊎◌}
 use Rattle.std.proofs.lemmas.Result.{IfOk-from_err, err_from_is_err_and}
 use Rattle.qm_model.proofs.Results.{err-then}
-use Rattle.qm_step.specs.Views.{stepped}
+use Rattle.qm_step.specs.Views.{evicted_after, stepped}
 use Rattle.qm_base.specs.declared.error.Error.TheVariants.{Journal}
 use Rattle.qm_base.specs.declared.error.JournalError.TheVariants.{Store}
 use Rattle.qm_any.specs.Databases.{Begun}
@@ -37,8 +37,9 @@ returns g c =
     record {
       makes = λ list chain above ws is batch.
           let meta = ap (option_map g.U.Value.ByteString.bytes) c.in_ok-metadata.ensures in
-          makes _ g.C.Store old old.log new.log list chain _ _ r _ refl
+          makes _ g.C.Store old old.log new.log list chain _ _ _ _ r _ refl
           (ap₂ (λ w m. stepped g.U.Update.form g.P.Policy.rules chain.base w c.args.policy.now m) batch.1 meta)
+          (ap (λ w. evicted_after g.U.Update.form g.P.Policy.rules chain.base w c.args.policy.now) batch.1)
           (on-begun hashing list chain above old.commitment begun (subst (λ (b : Begun _). b.keep ≤ suc (length b.parent.bounds.ancestors)) c.batch.view_is c.batch.invariant) is.commitment batch.0)
           said.fits
           (λ here. (said.makes list chain above is batch.0 here).made)

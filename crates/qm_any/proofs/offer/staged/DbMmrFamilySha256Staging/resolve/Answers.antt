@@ -3,7 +3,7 @@ use Rattle.std.proofs.lemmas.Result.{IfOk-from_err, err_from_is_err_and}
 use Rattle.qm_model.proofs.Results.{err-then}
 use Rattle.qm_model.specs.Slots.{slotted}
 use Rattle.qm_base.specs.Slots.{slot_views, write_views}
-use Rattle.qm_step.specs.Views.{stepped}
+use Rattle.qm_step.specs.Views.{evicted_after, stepped}
 use Rattle.qm_base.specs.declared.error.Error.TheVariants.{Journal}
 use Rattle.qm_base.specs.declared.error.JournalError.TheVariants.{Store}
 use Rattle.qm_any.specs.Databases.{Staged}
@@ -39,10 +39,12 @@ returns g c =
     record {
       makes = λ list chain above ws keys is batch.
           let meta = ap (option_map g.U.Value.ByteString.bytes) c.in_ok-metadata.ensures in
-          makes _ g.C.Store old old.log new.log list chain _ _ r _ refl
-          (ap₂ (λ w m. stepped g.U.Update.form g.P.Policy.rules chain.base w c.args.policy.now m)
-          (ap₂ (λ w k. slotted w k (slot_views g.U.Value.ByteString.bytes c.deref.result.now) (write_views g.U.Key.ByteString.bytes g.U.Value.ByteString.bytes c.deref-2.result.now)) batch.1 batch.2
-          ∙ ap₂ (λ s o. slotted ws keys (slot_views g.U.Value.ByteString.bytes s) (write_views g.U.Key.ByteString.bytes g.U.Value.ByteString.bytes o)) c.deref.ensures.value c.deref-2.ensures.value) meta)
+          let wrote =
+          ap₂ (λ w k. slotted w k (slot_views g.U.Value.ByteString.bytes c.deref.result.now) (write_views g.U.Key.ByteString.bytes g.U.Value.ByteString.bytes c.deref-2.result.now)) batch.1 batch.2
+          ∙ ap₂ (λ s o. slotted ws keys (slot_views g.U.Value.ByteString.bytes s) (write_views g.U.Key.ByteString.bytes g.U.Value.ByteString.bytes o)) c.deref.ensures.value c.deref-2.ensures.value in
+          makes _ g.C.Store old old.log new.log list chain _ _ _ _ r _ refl
+          (ap₂ (λ w m. stepped g.U.Update.form g.P.Policy.rules chain.base w c.args.policy.now m) wrote meta)
+          (ap (λ w. evicted_after g.U.Update.form g.P.Policy.rules chain.base w c.args.policy.now) wrote)
           (on-begun hashing list chain above old.commitment begun (subst (λ (b : Staged _). b.batch.keep ≤ suc (length b.batch.parent.bounds.ancestors)) c.batch.view_is c.batch.invariant) is.commitment batch.0.begun)
           said.fits
           (λ here. (said.makes list chain above is batch.0 here).made)

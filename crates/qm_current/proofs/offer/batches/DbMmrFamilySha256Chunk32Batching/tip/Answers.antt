@@ -1,5 +1,5 @@
-use Rattle.std.proofs.Common.{subst}
-use Rattle.qm_model.proofs.Results.{ok-each, ok-then}
+use Rattle.std.proofs.Common.{ap, subst}
+use Rattle.qm_model.proofs.Results.{ok-each, ok-four}
 use Rattle.qm_model.specs.Batches.{begun_on}
 use Rattle.qm_model.specs.Mmr.{mmr}
 use Rattle.qm_any.specs.Offered.{sha256_hashing, sha256_layout}
@@ -14,5 +14,5 @@ returns g c =
     let layout = sha256_layout mmr size g.U.Update.form g.I.Unordered.index_key in
     let db = c.args.self.now in
     let r = c.to_batch.result in
-    ok-then r (ok-each (IsDatabase g.C.Store layout db) (λ list b. IsMade hashing size b.value (begun_on db.instance list) list) r c.to_batch.ensures.made) (λ b made n list number is.
-    subst (λ k. IsMade hashing size b.value (begun_on k list) list) number (made list is.at))
+    ok-four r (ok-each (IsDatabase g.C.Store layout db) (λ list b. IsMade hashing size b.value (begun_on db.instance list) list) r c.to_batch.ensures.made) c.to_batch.ensures.value c.to_batch.ensures.value c.to_batch.ensures.value (λ b made value _ _ n list number is.
+    (subst (λ k. IsMade hashing size b.value (begun_on k list) list) number (made list is.at), ap (λ x. x.evicted) value.0))

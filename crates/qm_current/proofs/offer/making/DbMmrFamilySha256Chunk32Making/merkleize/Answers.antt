@@ -2,7 +2,7 @@ use Rattle.std.proofs.Common.{◌≤◌, ◌∙◌, ap, ap₂, refl, subst, sym,
 use Rattle.std.proofs.lemmas.Result.{IfOk-from_err, err_from_is_err_and}
 use Rattle.qm_model.proofs.Results.{err-then}
 use Rattle.qm_model.specs.Mmr.{mmr}
-use Rattle.qm_step.specs.Views.{stepped}
+use Rattle.qm_step.specs.Views.{evicted_after, stepped}
 use Rattle.qm_base.specs.declared.error.Error.TheVariants.{Journal}
 use Rattle.qm_base.specs.declared.error.JournalError.TheVariants.{Store}
 use Rattle.qm_any.specs.Offered.{sha256_hashing, sha256_layout}
@@ -43,8 +43,9 @@ returns g c =
       makes = λ list chain above ws is batch.
           let meta = ap (option_map g.U.Value.ByteString.bytes) c.in_ok-metadata.ensures in
           makes _ _ refl old old.instance (λ n number. sym number) list chain (can_make old begun) (decides hashing offered_chunk old begun list chain above few is.at.any.commitment batch.0)
-          members old.any.log new.any.log _ _ r
+          members old.any.log new.any.log _ _ _ _ r
           (ap₂ (λ w m. stepped g.U.Update.form g.P.Policy.rules chain.base w c.args.policy.now m) batch.1 meta)
+          (ap (λ w. evicted_after g.U.Update.form g.P.Policy.rules chain.base w c.args.policy.now) batch.1)
           said.fits
           (λ own here. (said.makes list chain above is.at batch.0 own here).made)
           (λ own here. (said.makes list chain above is.at batch.0 own here).taken)

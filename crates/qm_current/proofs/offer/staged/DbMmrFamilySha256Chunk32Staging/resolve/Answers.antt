@@ -4,7 +4,7 @@ use Rattle.qm_model.proofs.Results.{err-then}
 use Rattle.qm_model.specs.Mmr.{mmr}
 use Rattle.qm_model.specs.Slots.{slotted}
 use Rattle.qm_base.specs.Slots.{slot_views, write_views}
-use Rattle.qm_step.specs.Views.{stepped}
+use Rattle.qm_step.specs.Views.{evicted_after, stepped}
 use Rattle.qm_base.specs.declared.error.Error.TheVariants.{Journal}
 use Rattle.qm_base.specs.declared.error.JournalError.TheVariants.{Store}
 use Rattle.qm_any.specs.Offered.{sha256_hashing, sha256_layout}
@@ -45,12 +45,14 @@ returns g c =
     record {
       makes = λ list chain above ws keys is batch.
           let meta = ap (option_map g.U.Value.ByteString.bytes) c.in_ok-metadata.ensures in
+          let wrote =
+          ap₂ (λ w k. slotted w k (slot_views g.U.Value.ByteString.bytes c.deref.result.now) (write_views g.U.Key.ByteString.bytes g.U.Value.ByteString.bytes c.deref-2.result.now)) batch.1 batch.2
+          ∙ ap₂ (λ s o. slotted ws keys (slot_views g.U.Value.ByteString.bytes s) (write_views g.U.Key.ByteString.bytes g.U.Value.ByteString.bytes o)) c.deref.ensures.value c.deref-2.ensures.value in
           makes _ _ refl old old.instance (λ n number. sym number) list chain (can_make old begun)
           (decides hashing offered_chunk old begun list chain above few is.at.any.commitment (staged-begun hashing offered_chunk staged chain above batch.0))
-          members old.any.log new.any.log _ _ r
-          (ap₂ (λ w m. stepped g.U.Update.form g.P.Policy.rules chain.base w c.args.policy.now m)
-          (ap₂ (λ w k. slotted w k (slot_views g.U.Value.ByteString.bytes c.deref.result.now) (write_views g.U.Key.ByteString.bytes g.U.Value.ByteString.bytes c.deref-2.result.now)) batch.1 batch.2
-          ∙ ap₂ (λ s o. slotted ws keys (slot_views g.U.Value.ByteString.bytes s) (write_views g.U.Key.ByteString.bytes g.U.Value.ByteString.bytes o)) c.deref.ensures.value c.deref-2.ensures.value) meta)
+          members old.any.log new.any.log _ _ _ _ r
+          (ap₂ (λ w m. stepped g.U.Update.form g.P.Policy.rules chain.base w c.args.policy.now m) wrote meta)
+          (ap (λ w. evicted_after g.U.Update.form g.P.Policy.rules chain.base w c.args.policy.now) wrote)
           said.fits
           (λ own here. (said.makes list chain above is.at batch.0 own here).made)
           (λ own here. (said.makes list chain above is.at batch.0 own here).taken)
