@@ -1,8 +1,7 @@
 -- Commands and replies over byte strings.
-use Rattle.std.specs.Prelude.{Option, Some, map, option_map}
+use Rattle.std.specs.Prelude.{map, option_map}
 use Rattle.std.specs.Int.NonZero.{non_zero_u64_get}
-use Rattle.qm_model.specs.Live.{Live}
-use Rattle.qm_model.specs.Operations.{Bytes, Operation, update, delete, commit}
+use Rattle.qm_model.specs.Operations.{Bytes}
 use Rattle.qm_machine.specs.Lines as lines
 use Rattle.qm_model.specs.Refused as refusals
 use Rattle.qm_base.specs.Views.{corrupt_view, tree_view, limit_of, pair_view}

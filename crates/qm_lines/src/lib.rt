@@ -17,7 +17,7 @@ pub use command::{
     StoreCommand,
 };
 pub use memory::{MemSink, MemSource};
-pub use parse::{ByteCommand, next_line, parse_line};
+pub use parse::{ByteCommand, next_line, parse_line, plain_number};
 pub use policy::AnyPolicy;
 pub use ports::{Failed, Sink, SinkError, Source};
 pub use reply::{LogRefused, Refused, Reply};

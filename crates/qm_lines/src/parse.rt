@@ -17,6 +17,7 @@ mod unread;
 use crate::command::Command;
 use crate::policy::AnyPolicy;
 use commands::of_words;
+pub use numbers::plain_number;
 use pieces::pieces;
 use qm_base::{ByteKey, ByteValue};
 use std::alloc::{AllocError, Global};

@@ -27,8 +27,8 @@ fn digits(word: &[u8]) -> Option<u64>
     Some(number)
 }
 
-// A number without leading zeros.
-fn plain_number(word: &[u8]) -> Option<u64>
+/// The number that a word of decimal digits is, without leading zeros and below 2^64; of any other word, none.
+pub fn plain_number(word: &[u8]) -> Option<u64>
     ensures { result ≡ grammar.number_of word.now }
 {
     if word.is_empty() || (word.len() > 1 && word[0] == b'0') {
