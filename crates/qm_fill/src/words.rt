@@ -2,8 +2,9 @@
 
 ghost use Rattle.std.specs.Prelude.{◌≡◌, map, option_map};
 ghost use Rattle.std.specs.String.{string_bytes};
-ghost use Rattle.qm_machine.specs.Grammar as grammar;
 ghost use Rattle.qm_fill.specs.Words.{number_within, fill_of, fill_named, fill_of_words};
+
+use qm_lines::plain_number;
 
 /// A large run: the seed of its draws, and how many rounds it has.
 #[derive(Clone, Copy, Debug, PartialEq, Eq)]
@@ -12,41 +13,11 @@ pub struct Fill {
     pub rounds: u32,
 }
 
-// The number with one decimal digit more.
-fn next_digit(number: u64, digit: u8) -> Option<u64>
-    ensures { result ≡ grammar.next_digit number digit }
-{
-    if !digit.is_ascii_digit() {
-        return None;
-    }
-    number.checked_mul(10)?.checked_add(u64::from(digit - b'0'))
-}
-
-fn digits(word: &[u8]) -> Option<u64>
-    ensures { result ≡ grammar.digits_from 0 word.now }
-{
-    let mut number = 0;
-    for digit in word {
-        number = next_digit(number, *digit)?;
-    }
-    Some(number)
-}
-
-// A number without leading zeros.
-fn number(word: &[u8]) -> Option<u64>
-    ensures { result ≡ grammar.number_of word.now }
-{
-    if word.is_empty() || (word.len() > 1 && word[0] == b'0') {
-        return None;
-    }
-    digits(word)
-}
-
-// One within these bounds.
+// A number within these bounds.
 fn number_within(low: u32, high: u32, word: &[u8]) -> Option<u32>
     ensures { result ≡ number_within low high word.now }
 {
-    let number = number(word)?;
+    let number = plain_number(word)?;
     if u64::from(low) <= number && number <= u64::from(high) {
         Some(number as u32)
     } else {
