@@ -15,7 +15,7 @@ use Rattle.qm_model.specs.Walk.{Rules}
 use Rattle.qm_model.specs.Writes.{Write}
 use Rattle.qm_model.specs.Slots.{slotted}
 use Rattle.qm_model.specs.Slots as slots
-use Rattle.qm_model.specs.Step.{Made, step, ordered, unordered}
+use Rattle.qm_model.specs.Step.{Made, step, evicted_by, ordered, unordered}
 use Rattle.qm_model.specs.Batches.{Chain, Apart, Begins, commitment, fits, readable}
 use Rattle.qm_model.specs.Own.{Log, taken_up, ArePrompt, ArePruned, IsPartMade, IsKept, Takes, OpensParts, ended_part}
 use Rattle.qm_model.specs.Opening.{Chunks, Opening, refuses, opens, opening, opened_list}
@@ -355,14 +355,15 @@ module _ (m : Scheme) {P : Type 0} (rules : Rules P) where
   proof_stays s h list (staged chain parent ws keys) = refl
   proof_stays s h list (writing chain parent ws) = refl
 
-  tip_stays : (s : State) (h : ℕ) (chain : Chain) (tip : List Operation) (due : Option Refused) → Stays s (merkleize_tip s h chain tip due)
-  tip_stays s h chain tip None = refl
-  tip_stays s h chain tip (Some r) = refl
+  tip_stays : (s : State) (h : ℕ) (chain : Chain) (tip : List Operation) (evicted : List (Bytes × Bytes)) (due : Option Refused) → Stays s (merkleize_tip s h chain tip evicted due)
+  tip_stays s h chain tip evicted None = refl
+  tip_stays s h chain tip evicted (Some r) = refl
 
   writes_stay : (s : State) (h : ℕ) (policy : P) (meta : Option Bytes) (list : List Operation) (chain : Chain) (ws : List Write) → Stays s (merkleize_writes m rules s h policy meta list chain ws)
   writes_stay s h policy meta list chain ws =
       let tip = step (kind_of m) rules chain.base ws policy meta in
-      either_stays s (takes m.grafts s.opened chain.instance && fits m.root (commitment m.root list) chain) _ _ (tip_stays s h chain tip (tip_refusal m.form chain tip)) refl
+      let evicted = evicted_by (kind_of m) rules chain.base ws policy in
+      either_stays s (takes m.grafts s.opened chain.instance && fits m.root (commitment m.root list) chain) _ _ (tip_stays s h chain tip evicted (tip_refusal m.form chain tip)) refl
 
   merkleize_stays : (s : State) (h : ℕ) (policy : P) (meta : Option Bytes) (list : List Operation) (slot : Slot) → Stays s (merkleize_in m rules s h policy meta list slot)
   merkleize_stays s h policy meta list (writing chain parent ws) = writes_stay s h policy meta list chain ws
