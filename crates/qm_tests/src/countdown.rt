@@ -57,16 +57,17 @@ impl<F, K: ByteString, V: ByteString> Policy<F, K, V> for Countdown {
     }
 }
 
-// Whether the entries fall by one, from five on, over the two live keys of a batch that writes one beside that of a database.
+// Whether the entries fall by one over the two live keys of a batch that writes one beside that of a database, from more entries on
+// than a walk reads at once.
 pub(crate) fn falls_by_one<B: Bed>(alloc: Global, db: &mut Database<B>) -> Result<bool, Error> {
     let key: Key<B> = of_bytes(alloc, &[5, 6, 7, 8])?;
     let value: Value<B> = of_bytes(alloc, &[20; 8])?;
     let mut countdown = Countdown {
-        left: 5,
+        left: 5_000,
         falls: true,
     };
     db.new_batch(alloc)?
         .write(key, Some(value))?
         .merkleize(alloc, db, None, &mut countdown)?;
-    Ok(countdown.falls && countdown.left == 3)
+    Ok(countdown.falls && countdown.left == 4_998)
 }
