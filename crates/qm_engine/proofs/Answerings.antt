@@ -39,12 +39,14 @@ use Rattle.qm_store.specs.declared.Store as stores
 use Rattle.qm_machine.specs.Sound.{IsSteady}
 use Rattle.qm_offer.specs.declared.meaning.Meaning as meaning
 use Rattle.qm_engine.specs.declared.answers.Ending.TheVariants as endings
+use Rattle.qm_engine.specs.declared.runs.End.{End}
 use Rattle.qm_engine.specs.declared.runs.End.TheVariants as ends
 use Rattle.qm_engine.specs.declared.session.Session.{Session}
 use Rattle.qm_engine.specs.Session.{Stands, IsChosen}
 use Rattle.qm_engine.specs.Runs.{after, IsOwnStore, IsOwnLeft}
 use Rattle.qm_engine.specs.Answered.{after_line, IsAnswered}
-use Rattle.qm_engine.proofs.Loops.{Between, loop_step, left_in, after_all, goes-between, own-left}
+use Rattle.qm_engine.specs.Parts.{Between}
+use Rattle.qm_engine.proofs.Loops.{loop_step, left_in, after_all, goes-between, own-left}
 use Rattle.qm_engine.proofs.Owned.{own-of, none-left, owned}
 
 abbrev with_line : Bytes → Answer → Bytes
@@ -147,7 +149,7 @@ module _ (input rest line behind : Bytes) (k : ℕ) (at : IsAt input rest k) (fo
         → Apart m.root (after m policies log choices (commands_in input) (k + 1)).had → (new ≡ text_of (answers m policies (initial log choices) (take (k + 1) (commands_in input)))) × After (after m policies log choices (commands_in input) (k + 1))
     line_step None e some old new Before After so_far one = absurd (cc some)
     line_step (Some c) e some old new Before After so_far one =
-        loop_step m policies log choices (commands_in input) text_of with_line text_of-push k c old new Before After
+        loop_step m policies (initial log choices) (commands_in input) text_of with_line text_of-push k c old new Before After
         (at_within input rest line behind k at found c e) (at_command input rest line behind k at found c e) so_far one
 
     -- what is left if the loop ended at it
@@ -157,9 +159,9 @@ module _ (input rest line behind : Bytes) (k : ℕ) (at : IsAt input rest k) (fo
         → Apart m.root (after m policies log choices (commands_in input) k).had → IsOwnLeft m policies left (after m policies log choices (commands_in input) k).log (after m policies log choices (commands_in input) (suc k)).log
     line_left None e left Before so_far leaves = λ apart.
         let s : State = after m policies log choices (commands_in input) k in
-        subst (IsOwnLeft m policies left s.log) (sym (after_all m policies log choices (commands_in input) k (omega (arith, (at_bad input rest line behind k at found e).0)))) (leaves s (so_far apart) apart)
+        subst (IsOwnLeft m policies left s.log) (sym (after_all m policies (initial log choices) (commands_in input) k (omega (arith, (at_bad input rest line behind k at found e).0)))) (leaves s (so_far apart) apart)
     line_left (Some c) e left Before so_far leaves =
-        left_in m policies log choices (commands_in input) k c left Before (at_within input rest line behind k at found c e) (at_command input rest line behind k at found c e) so_far leaves
+        left_in m policies (initial log choices) (commands_in input) k c left Before (at_within input rest line behind k at found c e) (at_command input rest line behind k at found c e) so_far leaves
 
     -- what is left if all commands were answered before it
     line_whole : (o : Option (Line Policy)) → line_of line ≡ o → (left : Option Stored) (Before : State → Type 0)
@@ -247,6 +249,12 @@ end-memory_not_done e = cc
 
 pub end-fault_not_done : ends.StoreFault ≢ ends.Done
 end-fault_not_done e = cc
+
+-- a run whose end is none of the others is done
+pub is-done : (e : End) → (e ≢ ends.Done → ⊥) → e ≡ ends.Done
+is-done ends.Done not_other = refl
+is-done ends.Memory not_other = absurd (not_other end-memory_not_done)
+is-done ends.StoreFault not_other = absurd (not_other end-fault_not_done)
 
 pub end-memory_no_fault : Some ends.Memory ≢ Some ends.StoreFault
 end-memory_no_fault e = cc

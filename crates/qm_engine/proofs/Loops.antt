@@ -14,11 +14,12 @@ use Rattle.qm_machine.specs.Machine.{State, initial, slot_at, turn, answers, sta
 use Rattle.qm_model.specs.Schemes.{Scheme, chunks_of, engine_of}
 use Rattle.qm_machine.proofs.Runs.{state_after-push, answers-push, Apart-before}
 use Rattle.qm_engine.specs.Stores.{HasLog, IsLeft}
-use Rattle.qm_engine.specs.Runs.{IsRun, IsOwnStore, IsOwnLeft, after}
+use Rattle.qm_engine.specs.Runs.{IsRun, IsOwnStore, IsOwnLeft}
+use Rattle.qm_engine.specs.Parts.{IsBounded, IsPart, Between}
 use Rattle.qm_model.specs.Operations.{Bytes, Operation}
 use Rattle.qm_model.specs.Forms.{IsOf}
 use Rattle.qm_machine.specs.Machine.{choices_after}
-use Rattle.qm_machine.specs.Sound.{IsSteady, IsSound}
+use Rattle.qm_machine.specs.Sound.{IsSteady}
 use Rattle.qm_machine.proofs.Runs.{turn-choices}
 use Rattle.qm_machine.proofs.Sounds.{IsFormed, turn-sound, sound-steady, initial-sound}
 use Rattle.qm_store.specs.declared.Store as stores
@@ -62,7 +63,14 @@ Rose-wider a b c d p q r = omega arith
 pub log-of : (m : Scheme) {P : Type 0} (rules : Rules P) (told : Option Stored) (stored : Stored) (log : Log) → told ≡ Some stored → IsOwn (engine_of m rules) log stored → HasLog m told log
 log-of m rules told stored log is own = let has = own.stored in record { stored = stored; is = is; has = record { start = has.start; items = has.items; head = has.head; metadata = counted-alike m rules policies (chunks_of m) log stored has.metadata; stable = has.stable } }
 
-module _ (m : Scheme) {P : Type 0} (rules : Rules P) (log : Log) (choices : List ℕ) (lines : List (Line P)) where
+module _ (m : Scheme) {P : Type 0} (rules : Rules P) (start : State) (lines : List (Line P)) where
+  -- the state after the first commands, so many
+  abbrev so_far_state : ℕ → State
+  so_far_state i = state_after m rules start (take i lines)
+
+  abbrev so_far_answers : ℕ → List Answer
+  so_far_answers i = answers m rules start (take i lines)
+
   -- the state after one command more
   after_more : (i : ℕ) (line : Line P) → i < length lines → line ≡ get_or lines i line → take (i + 1) lines ≡ take i lines ++ line ∷ []
   after_more i line h here = take_more lines i line h ∙ ap (λ x. take i lines ++ x ∷ []) (sym here)
@@ -70,66 +78,80 @@ module _ (m : Scheme) {P : Type 0} (rules : Rules P) (log : Log) (choices : List
   -- What is told of the answers grows by one.
   pub loop_step : {T : Type 0} (told : List Answer → T) (more : T → Answer → T) → ((given : List Answer) (a : Answer) → told (given ++ a ∷ []) ≡ more (told given) a)
       → (i : ℕ) (line : Line P) (old new : T) (Before After : State → Type 0) → i < length lines → line ≡ get_or lines i line
-      → (Apart m.root (after m rules log choices lines i).had → (old ≡ told (answers m rules (initial log choices) (take i lines))) × Before (after m rules log choices lines i))
+      → (Apart m.root (state_after m rules start (take i lines)).had → (old ≡ told (answers m rules start (take i lines))) × Before (state_after m rules start (take i lines)))
       → ((s : State) → Before s → Apart m.root ((turn m rules s line).1).had → (new ≡ more old (turn m rules s line).0) × After (turn m rules s line).1)
-      → Apart m.root (after m rules log choices lines (i + 1)).had → (new ≡ told (answers m rules (initial log choices) (take (i + 1) lines))) × After (after m rules log choices lines (i + 1))
+      → Apart m.root (state_after m rules start (take (i + 1) lines)).had → (new ≡ told (answers m rules start (take (i + 1) lines))) × After (state_after m rules start (take (i + 1) lines))
   loop_step told more push i line old new Before After h here so_far one =
-      let Goal : List (Line P) → Type 0 = λ t. Apart m.root (state_after m rules (initial log choices) t).had → (new ≡ told (answers m rules (initial log choices) t)) × After (state_after m rules (initial log choices) t) in
-      let s : State = after m rules log choices lines i in
-      subst Goal (sym (after_more i line h here)) (rw (state_after-push m rules (initial log choices) (take i lines) line, answers-push m rules (initial log choices) (take i lines) line) (λ apart.
+      let Goal : List (Line P) → Type 0 = λ t. Apart m.root (state_after m rules start t).had → (new ≡ told (answers m rules start t)) × After (state_after m rules start t) in
+      let s : State = so_far_state i in
+      subst Goal (sym (after_more i line h here)) (rw (state_after-push m rules start (take i lines) line, answers-push m rules start (take i lines) line) (λ apart.
       let before = so_far (Apart-before m rules s line apart) in
       let now = one s before.1 apart in
-      (now.0 ∙ ap (λ r. more r (turn m rules s line).0) before.0 ∙ sym (push (answers m rules (initial log choices) (take i lines)) (turn m rules s line).0), now.1)))
+      (now.0 ∙ ap (λ r. more r (turn m rules s line).0) before.0 ∙ sym (push (so_far_answers i) (turn m rules s line).0), now.1)))
 
   -- what is left if the next command ended the run
   pub left_in : (i : ℕ) (line : Line P) (left : Option Stored) (Before : State → Type 0) → i < length lines → line ≡ get_or lines i line
-      → (Apart m.root (after m rules log choices lines i).had → Before (after m rules log choices lines i))
+      → (Apart m.root (state_after m rules start (take i lines)).had → Before (state_after m rules start (take i lines)))
       → ((s : State) → Before s → Apart m.root s.had → IsOwnLeft m rules left s.log ((turn m rules s line).1).log)
-      → Apart m.root (after m rules log choices lines i).had → IsOwnLeft m rules left (after m rules log choices lines i).log (after m rules log choices lines (suc i)).log
+      → Apart m.root (state_after m rules start (take i lines)).had → IsOwnLeft m rules left (state_after m rules start (take i lines)).log (state_after m rules start (take (suc i) lines)).log
   left_in i line left Before h here so_far leaves apart =
-      let s : State = after m rules log choices lines i in
-      let next : (after m rules log choices lines (suc i)).log ≡ ((turn m rules s line).1).log =
-      ap (λ n. (after m rules log choices lines n).log) (sym (add-one i)) ∙ ap (λ t. (state_after m rules (initial log choices) t).log) (after_more i line h here) ∙ ap (λ (x : State). x.log) (state_after-push m rules (initial log choices) (take i lines) line) in
+      let s : State = so_far_state i in
+      let next : (so_far_state (suc i)).log ≡ ((turn m rules s line).1).log =
+      ap (λ n. (so_far_state n).log) (sym (add-one i)) ∙ ap (λ t. (state_after m rules start t).log) (after_more i line h here) ∙ ap (λ (x : State). x.log) (state_after-push m rules start (take i lines) line) in
       subst (IsOwnLeft m rules left s.log) (sym next) (leaves s (so_far apart) apart)
 
   -- after the last command the state stays
-  pub after_all : (i : ℕ) → length lines ≤ i → (after m rules log choices lines (suc i)).log ≡ (after m rules log choices lines i).log
-  after_all i h = ap (λ (t : List (Line P)). (state_after m rules (initial log choices) t).log) (take_all (suc i) lines (omega arith) ∙ sym (take_all i lines h))
+  pub after_all : (i : ℕ) → length lines ≤ i → (state_after m rules start (take (suc i) lines)).log ≡ (state_after m rules start (take i lines)).log
+  after_all i h = ap (λ (t : List (Line P)). (state_after m rules start t).log) (take_all (suc i) lines (omega arith) ∙ sym (take_all i lines h))
 
-  -- the run ended in a command
+  -- the part ended in a command
   pub ended_in : (i : ℕ) (line : Line P) (given : List Answer) (left : Option Stored) (Before : State → Type 0) → i < length lines → line ≡ get_or lines i line → length given ≡ i
-      → (Apart m.root (after m rules log choices lines i).had → (given ≡ answers m rules (initial log choices) (take i lines)) × Before (after m rules log choices lines i))
-      → ((s : State) → Before s → Apart m.root s.had → IsOwnLeft m rules left s.log ((turn m rules s line).1).log)
-      → IsRun m rules log choices lines given left
+      → (Apart m.root (state_after m rules start (take i lines)).had → (given ≡ answers m rules start (take i lines)) × Before (state_after m rules start (take i lines)))
+      → (IsBounded left → (s : State) → Before s → Apart m.root s.had → IsOwnLeft m rules left s.log ((turn m rules s line).1).log)
+      → IsPart m rules start lines given left
   ended_in i line given left Before h here e so_far leaves = record {
     few = omega (arith, e);
-    same = subst (λ n. Apart m.root (after m rules log choices lines n).had → given ≡ answers m rules (initial log choices) (take n lines)) (sym e) (λ apart. (so_far apart).0);
-    whole = λ all. absurd (omega (arith, e, all, h));
-    left = subst (λ n. Apart m.root (after m rules log choices lines n).had → IsOwnLeft m rules left (after m rules log choices lines n).log (after m rules log choices lines (suc n)).log) (sym e)
-        (left_in i line left Before h here (λ apart. (so_far apart).1) leaves);
+    same = subst (λ n. Apart m.root (so_far_state n).had → given ≡ so_far_answers n) (sym e) (λ apart. (so_far apart).0);
+    left = λ bounded. subst (λ n. Apart m.root (so_far_state n).had → IsOwnLeft m rules left (so_far_state n).log (so_far_state (suc n)).log) (sym e)
+        (left_in i line left Before h here (λ apart. (so_far apart).1) (leaves bounded));
   }
 
   -- the store is as it was after the commands answered
   pub ended_at : (i : ℕ) (given : List Answer) (left : Option Stored) → i ≤ length lines → length given ≡ i
-      → (Apart m.root (after m rules log choices lines i).had → (given ≡ answers m rules (initial log choices) (take i lines)) × HasLog m left (after m rules log choices lines i).log × IsKept (engine_of m rules) (after m rules log choices lines i).log)
-      → IsRun m rules log choices lines given left
+      → (Apart m.root (state_after m rules start (take i lines)).had → (given ≡ answers m rules start (take i lines)) × HasLog m left (state_after m rules start (take i lines)).log × IsKept (engine_of m rules) (state_after m rules start (take i lines)).log)
+      → IsPart m rules start lines given left
   ended_at i given left h e so_far = record {
     few = omega (arith, e);
-    same = subst (λ n. Apart m.root (after m rules log choices lines n).had → given ≡ answers m rules (initial log choices) (take n lines)) (sym e) (λ apart. (so_far apart).0);
-    whole = λ all. subst (λ n. Apart m.root (after m rules log choices lines n).had → IsOwnStore m rules left (after m rules log choices lines n).log) (sym e) (λ apart. own-of m rules left _ (so_far apart).1 (so_far apart).2);
-    left = subst (λ n. Apart m.root (after m rules log choices lines n).had → IsOwnLeft m rules left (after m rules log choices lines n).log (after m rules log choices lines (suc n)).log) (sym e)
-        (λ apart. none-left m rules left (after m rules log choices lines i).log (after m rules log choices lines (suc i)).log (so_far apart).1 (so_far apart).2);
+    same = subst (λ n. Apart m.root (so_far_state n).had → given ≡ so_far_answers n) (sym e) (λ apart. (so_far apart).0);
+    left = λ bounded. subst (λ n. Apart m.root (so_far_state n).had → IsOwnLeft m rules left (so_far_state n).log (so_far_state (suc n)).log) (sym e)
+        (λ apart. none-left m rules left (so_far_state i).log (so_far_state (suc i)).log (so_far apart).1 (so_far apart).2);
   }
+
+-- a run of one part
+module _ (m : Scheme) {P : Type 0} (rules : Rules P) (log : Log) (choices : List ℕ) (lines : List (Line P)) (given : List Answer) (left : Option Stored) where
+  pub run-of : IsBounded left → IsPart m rules (initial log choices) lines given left
+      → (length given ≡ length lines → Apart m.root (state_after m rules (initial log choices) lines).had → IsOwnStore m rules left (state_after m rules (initial log choices) lines).log)
+      → IsRun m rules log choices lines given left
+  run-of bounded part own = record {
+    few = part.few;
+    same = part.same;
+    whole = λ all. subst (λ (t : List (Line P)). Apart m.root (state_after m rules (initial log choices) t).had → IsOwnStore m rules left (state_after m rules (initial log choices) t).log)
+        (sym (take_all (length given) lines (omega (arith, all)))) (own all);
+    left = part.left bounded;
+  }
+
+  -- one that answers nothing, and leaves the store
+  pub run-none : given ≡ [] → HasLog m left log → IsKept (engine_of m rules) log → IsRun m rules log choices lines given left
+  run-none none has kept = subst (λ gs. IsRun m rules log choices lines gs left) (sym none) (record {
+    few = omega arith;
+    same = λ apart. refl;
+    whole = λ all apart. own-of m rules left log has kept;
+    left = λ apart. none-left m rules left log (state_after m rules (initial log choices) (take 1 lines)).log has kept;
+  })
 
 pub each : {A : Type 0} (o : Option A) {Q : A → Type 0} → ((x : A) → o ≡ Some x → Q x) → IfSome o Q
 each None h = tt
 each (Some x) h = h x refl
-
--- Between two commands of a sound run: what is held stands for the state, which is sound, and these are its choices to come.
-pub record Between {X C B S M P : Type 0} (members : stores.Ghosts C) (means : meaning.Ghosts X C B S M) (rules : Rules P) (session : Session X C B S M) (rest : List ℕ) (s : State) : Type 0 where
-  pub stands : Stands members means session s
-  pub sound : IsSound means.scheme rules s
-  pub choices : s.choices ≡ rest
 
 module _ {X C B S M : Type 0} (members : stores.Ghosts C) (means : meaning.Ghosts X C B S M) {P : Type 0} (rules : Rules P) where
   -- a run begins so

@@ -6,4 +6,5 @@ pub mod Ordered
 pub mod Session
 pub mod Making
 pub mod Runs
+pub mod Parts
 pub mod Answered

@@ -129,7 +129,7 @@ pub trait Answering<C: Store>: Common<C> {
 }
 
 /// The store that a run gives back: the one that is held.
-pub(crate) fn returned<X: Answering<C>, C: Store>(held: Given<X, C>) -> C
+pub fn returned<X: Answering<C>, C: Store>(held: Given<X, C>) -> C
     ensures store { result ≡ store_given X.inside held }
     ensures stable { IfSome (C.told result) (λ s. s.stable ≤ end_of s) }
 {

@@ -1,4 +1,4 @@
-//! A run of a list of commands.
+//! A run of a list of commands, at once or in parts.
 
 ghost use Rattle.std.specs.Prelude.{ℕ, List, ◌≡◌, ◌≢◌, ◌+◌, ◌++◌, ◌∷◌, [], ◌^◌, ◌<◌, ◌≤◌, Option, Some, None, IfNone, IfSome, IfOk, IfErr, OnSome, OnOk, OnErr, Contains, length, map, ⊤};
 ghost use Rattle.qm_model.specs.Causes.{Rose};
@@ -14,6 +14,7 @@ ghost use Rattle.qm_machine.specs.Sound.{IsSteady};
 ghost use Rattle.qm_model.specs.Own.{Log, IsOwn};
 ghost use Rattle.qm_model.specs.StoreModel.{Turns};
 ghost use Rattle.qm_engine.specs.Runs.{IsRun};
+ghost use Rattle.qm_engine.specs.Parts.{Between, Chose, IsPart};
 
 use crate::answering::{Answering, returned};
 use crate::session::{Session, SessionOf, Turn};
@@ -43,6 +44,14 @@ pub struct Outcome<X: Common<C>, C: Store> {
     pub replies: Vec<Reply<X::Key, X::Value, X::Digest>>,
     pub end: End,
     pub store: C,
+}
+
+/// What a part of a run gives: a reply to each of its commands before the end, why it ended, and what it leaves for the next part.
+#[derive(Drop)]
+pub struct Part<X: Common<C>, C: Store> {
+    pub replies: Vec<Reply<X::Key, X::Value, X::Digest>>,
+    pub end: End,
+    pub session: SessionOf<X, C>,
 }
 
 fn push_reply<K: Drop, V: Drop, D: Drop>(
@@ -106,8 +115,8 @@ fn step<X: Answering<C>, C: Store, P: Policy<X::Family, X::Key, X::Value> + Twin
     }
 }
 
-// A session with a closed store, and no batch.
-pub(crate) fn begin<X: Common<C>, C: Store>(alloc: Global, store: C) -> Result<SessionOf<X, C>, C>
+/// Where a run begins: a session with a closed store, and no batch.
+pub fn begin<X: Common<C>, C: Store>(alloc: Global, store: C) -> Result<SessionOf<X, C>, C>
     ensures session { IfOk result (λ session. (log : Log) (choices : List ℕ)
         → HasLog X.scheme (C.told store) log → log.start ≤ log.stable → log.stable ≤ length log.list
         → Stands C.Store X.Meaning session (machine.initial log choices)) }
@@ -123,6 +132,65 @@ pub(crate) fn begin<X: Common<C>, C: Store>(alloc: Global, store: C) -> Result<S
             table,
             opened: 0,
         }),
+    }
+}
+
+/// Runs a part of a run's commands, from where the part before left it, up to their end or to the first for which memory or the store
+/// fails. A run begins by `begin`, and gives its store back by `returned`. Of the parts before, no more is held than the session has.
+pub fn run_part<X: Answering<C>, C: Store, P: Policy<X::Family, X::Key, X::Value> + Twin>(
+    alloc: Global,
+    opening: &X::Opening,
+    session: SessionOf<X, C>,
+    commands: &[Command<X::Key, X::Value, P>],
+) -> Part<X, C>
+    requires { session.opened + length commands.now < 2 ^ 64 }
+    // From each state of the machine for which the session stands, with these choices of restarts in this part, and those to come.
+    ensures machine { (s : machine.State) → (more rest : List ℕ)
+        → Chose C.Store X.Meaning session result.session more
+        → Between C.Store X.Meaning P.rules session (more ++ rest) s
+        → IsPart X.scheme P.rules s
+        (map (line_view X.Key.bytes X.Value.bytes (λ p. p)) commands.now)
+        (map (answer_view X.Key.bytes X.Value.bytes X.Digest.bytes) result.replies.items)
+        (C.told (store_given X.inside result.session.held)) }
+    ensures onward { result.end ≡ End.Done → (s : machine.State) → (more rest : List ℕ)
+        → Chose C.Store X.Meaning session result.session more
+        → Between C.Store X.Meaning P.rules session (more ++ rest) s
+        → Apart X.scheme.root (machine.state_after X.scheme P.rules s
+        (map (line_view X.Key.bytes X.Value.bytes (λ p. p)) commands.now)).had
+        → Between C.Store X.Meaning P.rules result.session rest
+        (machine.state_after X.scheme P.rules s
+        (map (line_view X.Key.bytes X.Value.bytes (λ p. p)) commands.now)) }
+    ensures done { result.end ≡ End.Done → length result.replies.items ≡ length commands.now }
+    ensures short { result.end ≢ End.Done → length result.replies.items < length commands.now }
+    ensures ends { (choices : List ℕ)
+        × Turns (C.told (store_given X.inside session.held))
+        (C.told (store_given X.inside result.session.held)) (HasEnds (chunks_of X.scheme)
+        (Contains (map (line_view X.Key.bytes X.Value.bytes (λ p. p)) commands.now) Destroy)
+        choices) }
+    ensures later { C.faults (store_given X.inside session.held)
+        ≤ C.faults (store_given X.inside result.session.held) }
+    ensures fault { result.end ≡ End.StoreFault
+        → Rose (C.faults (store_given X.inside session.held))
+        (C.faults (store_given X.inside result.session.held)) }
+    ensures opened { result.session.opened ≤ session.opened + length commands.now }
+{
+    let mut replies = Vec::new(alloc);
+    let mut session = session;
+    for command in commands {
+        let (next, ended) = step::<X, C, P>(alloc, opening, session, &mut replies, command);
+        session = next;
+        if let Some(end) = ended {
+            return Part {
+                replies,
+                end,
+                session,
+            };
+        }
+    }
+    Part {
+        replies,
+        end: End::Done,
+        session,
     }
 }
 
@@ -152,31 +220,24 @@ pub fn run<X: Answering<C>, C: Store, P: Policy<X::Family, X::Key, X::Value> + T
     ensures later { C.faults store ≤ C.faults result.store }
     ensures fault { result.end ≡ End.StoreFault → Rose (C.faults store) (C.faults result.store) }
 {
-    let mut replies = Vec::new(alloc);
-    let mut session = match begin::<X, C>(alloc, store) {
+    let session = match begin::<X, C>(alloc, store) {
         Ok(session) => session,
         Err(store) => {
             return Outcome {
-                replies,
+                replies: Vec::new(alloc),
                 end: End::Memory,
                 store,
             };
         }
     };
-    for command in commands {
-        let (next, ended) = step::<X, C, P>(alloc, &opening, session, &mut replies, command);
-        session = next;
-        if let Some(end) = ended {
-            return Outcome {
-                replies,
-                end,
-                store: returned::<X, C>(session.held),
-            };
-        }
-    }
+    let Part {
+        replies,
+        end,
+        session,
+    } = run_part::<X, C, P>(alloc, &opening, session, commands);
     Outcome {
         replies,
-        end: End::Done,
+        end,
         store: returned::<X, C>(session.held),
     }
 }

@@ -13,7 +13,8 @@ use Rattle.qm_engine.specs.Stores.{HasLog}
 use Rattle.qm_engine.specs.Runs.{after}
 use Rattle.qm_engine.specs.Answered.{IsAnswered}
 use Rattle.qm_engine.proofs.LastingStores.{turns-looser, turns-same, turns-through}
-use Rattle.qm_engine.proofs.Loops.{ended-at, none-at, Between, each, log-of, begins-between, none-more, more-parts, Rose-wider}
+use Rattle.qm_engine.specs.Parts.{Between}
+use Rattle.qm_engine.proofs.Loops.{ended-at, none-at, each, log-of, begins-between, none-more, more-parts, Rose-wider}
 use Rattle.qm_engine.proofs.Owned.{own-of}
 use Rattle.qm_engine.proofs.Answerings.{at_next, at_short, at_destroy, line_step, line_goes, line-own, answered_in, answered_at, memory_cause, memory-not_fault, done-not_bad, done-not_fault}
 use Rattle.qm_engine.proofs.answers.answer_lines.Goals as goal

@@ -13,7 +13,7 @@ use Rattle.qm_store.specs.Given.{store_given}
 use Rattle.qm_lines.proofs.Inputs.{IsAt}
 use Rattle.qm_engine.specs.Stores.{HasEnds}
 use Rattle.qm_engine.specs.Runs.{after}
-use Rattle.qm_engine.proofs.Loops.{Between}
+use Rattle.qm_engine.specs.Parts.{Between}
 use Rattle.qm_engine.proofs.answers.answer_lines.Given as goal
 
 abbrev pub invariant-loop-line : goal.invariant-loop-line
