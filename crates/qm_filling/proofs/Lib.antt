@@ -1,0 +1,3 @@
+pub mod Crossed
+pub mod Joined
+pub mod Parted
