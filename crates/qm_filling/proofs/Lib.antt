@@ -1,3 +1,4 @@
 pub mod Crossed
 pub mod Joined
 pub mod Parted
+pub mod Sayings
