@@ -25,7 +25,7 @@ use qm_chain::Policy;
 use qm_lines::{
     BatchCommand, Command, InfoCommand, MakingCommand, ReadCommand, StagedCommand, StoreCommand,
 };
-use qm_offer::{Batching, Durable, Making, Neighbours, Proving, Reading, Staging};
+use qm_offer::{Batching, Durable, Making, Neighbours, Proving, Reading, Staging, Writing};
 use qm_store::{Given, Store};
 use reads::{batch_info, batch_root, evicted, info, meta, ops, read, read_key, root};
 pub use showing::{shown_turn, unshown_turn};
@@ -68,7 +68,11 @@ pub fn turn<X: Answering<C>, C: Store, P: Policy<X::Family, X::Key, X::Value> + 
 }
 
 /// A command that begins or writes a batch, of whatever offers these calls.
-pub fn batch_turn<X: Batching<C>, C: Store, P: Policy<X::Family, X::Key, X::Value> + Twin>(
+pub fn batch_turn<
+    X: Batching<C> + Writing<C>,
+    C: Store,
+    P: Policy<X::Family, X::Key, X::Value> + Twin,
+>(
     alloc: Global,
     session: &mut SessionOf<X, C>,
     command: &BatchCommand<X::Key, X::Value>,

@@ -7,5 +7,5 @@ pub mod offer;
 pub use meaning::Meaning;
 pub use offer::{
     BatchSizes, Batching, Common, Durable, Engine, Making, Neighbours, Numbers, Proving, Reading,
-    Roots, Showing, ShownRange, Staging,
+    Roots, Showing, ShownRange, Staging, Writing,
 };

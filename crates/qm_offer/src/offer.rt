@@ -16,7 +16,7 @@ pub mod showing;
 pub mod staged;
 
 use crate::meaning::Meaning;
-pub use batches::Batching;
+pub use batches::{Batching, Writing};
 pub use durable::Durable;
 pub use making::Making;
 pub use ordered::Neighbours;
@@ -106,6 +106,7 @@ pub trait Common<C: Store>: Meaning<C> + Drop + Sized {
 /// A kind of database: one call for each command of a run.
 pub trait Engine<C: Store>: Durable<C>
     + Batching<C>
+    + Writing<C>
     + Making<C>
     + Staging<C>
     + Reading<C>

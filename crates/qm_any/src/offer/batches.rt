@@ -5,7 +5,7 @@ use crate::db::Db;
 use qm_base::{Location, Sha256};
 use qm_bits::Chunks;
 use qm_merkle::mmr;
-use qm_offer::Batching;
+use qm_offer::{Batching, Writing};
 use qm_step::kind::Steps;
 use qm_store::Store;
 use std::alloc::{AllocError, Global};
@@ -34,7 +34,14 @@ impl<
     fn tip(&self, alloc: Global) -> Result<Self::Merkleized, AllocError> {
         self.to_batch(alloc)
     }
+}
 
+impl<
+    C: Store + Drop,
+    I: qm_index::Unordered<Value = Location<mmr::Family>> + Drop,
+    U: Steps<mmr::Family, I>,
+    N: Chunks,
+> Writing<C> for Db<mmr::Family, C, I, Sha256, U, N> {
     fn put(
         _alloc: Global,
         batch: Self::Batch,

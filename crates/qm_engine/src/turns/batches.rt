@@ -16,7 +16,7 @@ use crate::turns::lasting::without_database;
 use qm_base::{ByteString, Error, JournalError, Twin};
 use qm_chain::Policy;
 use qm_lines::Reply;
-use qm_offer::{Batching, Common, Making};
+use qm_offer::{Batching, Common, Making, Writing};
 use qm_store::{Given, Store};
 use std::alloc::{AllocError, Global};
 
@@ -99,7 +99,7 @@ pub fn tip<X: Batching<C>, C: Store>(
 }
 
 // Writes copies of key and value, or deletes a copy of the key.
-fn write<X: Batching<C>, C: Store>(
+fn write<X: Writing<C>, C: Store>(
     alloc: Global,
     batch: X::Batch,
     key: &X::Key,
@@ -120,7 +120,7 @@ fn write<X: Batching<C>, C: Store>(
 }
 
 /// Writes a value for a key in a batch, or deletes the key if there is none.
-pub fn put<'a, X: Batching<C>, C: Store>(
+pub fn put<'a, X: Writing<C>, C: Store>(
     alloc: Global,
     session: &mut SessionOf<X, C>,
     number: u64,

@@ -1,4 +1,4 @@
-//! Batches: begun and written.
+//! Batches: begun and written, by a trait each.
 
 ghost use Rattle.std.specs.Prelude.{◌≡◌, ◌++◌, ◌∷◌, ℕ, [], List, Some, None, IfOk};
 ghost use Rattle.qm_model.specs.Operations.{Operation};
@@ -9,7 +9,7 @@ use crate::offer::Common;
 use qm_store::Store;
 use std::alloc::{AllocError, Global};
 
-/// The calls that begin and write batches.
+/// The calls that begin batches.
 pub trait Batching<C: Store>: Common<C> {
     /// Begins a batch.
     fn batch(&self, alloc: Global) -> Result<Self::Batch, AllocError>
@@ -32,7 +32,10 @@ pub trait Batching<C: Store>: Common<C> {
         ensures { IfOk result (λ b.
             (n : ℕ) (list : List Operation) → Self.numbered self.now n → Self.stands self.now list
             → Self.is_merkleized b (begun_on n list) list × (Self.evictions b ≡ [])) };
+}
 
+/// The calls that write batches.
+pub trait Writing<C: Store>: Common<C> {
     /// Writes a value for a key.
     fn put(
         alloc: Global,

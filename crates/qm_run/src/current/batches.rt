@@ -5,7 +5,7 @@ use crate::kind::Kind;
 use qm_base::{ByteKey, ByteValue, Location};
 use qm_index::{Factory, FourCap};
 use qm_merkle::mmr;
-use qm_offer::Batching;
+use qm_offer::{Batching, Writing};
 use qm_store::Store;
 use std::alloc::{AllocError, Global};
 
@@ -29,17 +29,23 @@ impl<
     fn tip(&self, alloc: Global) -> Result<Self::Merkleized, AllocError> {
         <Inside<C, I, U> as Batching<C>>::tip(&self.db, alloc)
     }
+}
 
+impl<
+    C: Store + Drop,
+    I: Factory<Value = Location<mmr::Family>, Translator = FourCap> + Drop,
+    U: Kind<I, Key = ByteKey, Value = ByteValue>,
+> Writing<C> for Database<C, I, U> {
     fn put(
         alloc: Global,
         batch: Self::Batch,
         key: ByteKey,
         value: ByteValue,
     ) -> Result<Self::Batch, AllocError> {
-        <Inside<C, I, U> as Batching<C>>::put(alloc, batch, key, value)
+        <Inside<C, I, U> as Writing<C>>::put(alloc, batch, key, value)
     }
 
     fn del(alloc: Global, batch: Self::Batch, key: ByteKey) -> Result<Self::Batch, AllocError> {
-        <Inside<C, I, U> as Batching<C>>::del(alloc, batch, key)
+        <Inside<C, I, U> as Writing<C>>::del(alloc, batch, key)
     }
 }
