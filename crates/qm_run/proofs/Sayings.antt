@@ -1,9 +1,10 @@
 -- What each status says, from what the lines' answering gave.
-use Rattle.std.proofs.Common.{◌≡◌, ◌⊎◌, ◌+◌, ◌<◌, ◌≤◌, ◌==◌, true, false, ℕ, List, [], ◌++◌, length, take, Option, Some, None, arith, refl, sym, ◌∙◌, ap, subst, inl, inr, append-nil, IfSome}
-use Rattle.std.specs.Prelude.{option_map, IsSome, nat_lt}
+use Rattle.std.proofs.Common.{◌≡◌, ◌⊎◌, ◌+◌, ◌<◌, ◌≤◌, ◌==◌, Bool, true, false, cond, ℕ, List, [], ◌++◌, length, take, Option, Some, None, arith, refl, sym, ◌∙◌, ap, subst, inl, inr, append-nil, IfSome}
+use Rattle.std.specs.Prelude.{option_map, IsSome, nat_lt, bytes_eq, codes, ◌∷◌, ◌||◌}
 use Rattle.std.specs.Option.{option_and_then}
 use Rattle.std.proofs.lemmas.Bool.Decides.{nat_tests}
 use Rattle.std.proofs.lemmas.List.{take_all}
+use Rattle.std.proofs.lemmas.Slice.Eq.{bytes_eq-Decides}
 use Rattle.qm_model.specs.Causes.{Grows, GrowsPart}
 use Rattle.qm_model.specs.Operations.{Bytes}
 use Rattle.qm_model.specs.Own.{Log, IsOwn}
@@ -12,7 +13,10 @@ use Rattle.qm_model.specs.Policies.{policies}
 use Rattle.qm_machine.specs.Grammar.{commands_in, bad_in}
 use Rattle.qm_model.specs.Schemes.{Scheme, chunks_of, engine_of}
 use Rattle.qm_engine.specs.Answered.{IsAnswered}
-use Rattle.qm_run.specs.Program.{count, state, model_text, IsApart, IsOwnAt, bad_text, fault_text, IsPartial, SaysOver, Says, machine_of}
+use Rattle.qm_filling.specs.Says.{fault_text}
+use Rattle.qm_run.specs.Program.{count, state, model_text, IsApart, IsOwnAt, bad_text, IsPartial, SaysOver, Says, machine_of, machine_asked, kind_of_four, kind_of_words, kind_of_databases, fill_words}
+use Rattle.qm_fill.specs.declared.words.Fill.{Fill}
+use Rattle.qm_fill.specs.Words.{fill_of, fill_named}
 use Rattle.qm_run.specs.declared.kind.Named.{Named}
 use Rattle.qm_run.specs.Endings.{tail_text, tail_status}
 use Rattle.qm_engine.specs.declared.answers.Ending.{Ending}
@@ -140,8 +144,47 @@ pub at_kind : (kind : Option Named) (named : Named) (Q : Scheme → Type 0) → 
 at_kind kind named Q is given = subst (λ k. IfSome (option_map machine_of k) Q) (sym is) given
 
 -- the chunks of the databases that are named
-pub named-chunks : (kind : Option Named) (named : Named) → kind ≡ Some named → option_and_then chunks_of (option_map machine_of kind) ≡ chunks_of (machine_of named)
-named-chunks kind named is = ap (λ k. option_and_then chunks_of (option_map machine_of k)) is
+pub named-chunks : (kind : Option Named) (fill : Option (Fill × Named)) (named : Named) → kind ≡ Some named → option_and_then chunks_of (machine_asked kind fill) ≡ chunks_of (machine_of named)
+named-chunks kind fill named is = ap (λ k. option_and_then chunks_of (machine_asked k fill)) is
+
+pub filled-chunks : (kind : Option Named) (fill : Option (Fill × Named)) (asked : Fill × Named) → kind ≡ None → fill ≡ Some asked → option_and_then chunks_of (machine_asked kind fill) ≡ chunks_of (machine_of asked.1)
+filled-chunks kind fill asked none is = ap (λ k. option_and_then chunks_of (machine_asked k fill)) none ∙ ap (λ f. option_and_then chunks_of (machine_asked None f)) is
+
+-- what is said of what is not there, or is this one
+pub if_none : {A : Type 0} (o : Option A) (Q : A → Type 0) → o ≡ None → IfSome o Q
+if_none o Q is = subst (λ x. IfSome x Q) (sym is) tt
+
+pub if_some : {A : Type 0} (o : Option A) (x : A) (Q : A → Type 0) → o ≡ Some x → Q x → IfSome o Q
+if_some o x Q is given = subst (λ y. IfSome y Q) (sym is) given
+
+-- words of a fill are none of a run
+no_run : (a b c d : Bytes) → bytes_eq a (codes "fill") ≡ true → kind_of_four a b c d ≡ None
+no_run a b c d is = ap (λ (w : Bytes). kind_of_four w b c d) ((bytes_eq-Decides a (codes "fill")).0 is)
+
+named_fill : (name a b : Bytes) (fill : Fill) → fill_named name a b ≡ Some fill → bytes_eq name (codes "fill") ≡ true
+named_fill name a b fill is = by (bytes_eq name (codes "fill")) refl
+  where
+    none-is : None ≡ Some fill → ⊥
+    none-is e = cc
+
+    by : (t : Bool) → bytes_eq name (codes "fill") ≡ t → t ≡ true
+    by true e = refl
+    by false e = absurd (none-is (sym (ap (λ (t : Bool). cond t (fill_of a b) None) e) ∙ is))
+
+pub not_run : (ws : List Bytes) (asked : Fill × Named) → fill_words ws ≡ Some asked → kind_of_words ws ≡ None
+not_run [] asked is = refl
+not_run (a ∷ []) asked is = refl
+not_run (a ∷ b ∷ []) asked is = refl
+not_run (a ∷ b ∷ c ∷ []) asked is = refl
+not_run (a ∷ b ∷ c ∷ d ∷ []) asked is = by (fill_named a b c) refl
+  where
+    nothing : None ≡ Some asked → ⊥
+    nothing e = cc
+
+    by : (o : Option Fill) → fill_named a b c ≡ o → kind_of_four a b c d ≡ None
+    by None e = absurd (nothing (sym (ap (λ (o : Option Fill). option_and_then (λ (found : Fill × List Bytes). option_map (λ named. (found.0, named)) (kind_of_databases found.1)) (option_map (λ fill. (fill, d ∷ [])) o)) e) ∙ is))
+    by (Some fill) e = no_run a b c d (named_fill a b c fill e)
+not_run (a ∷ b ∷ c ∷ d ∷ e ∷ ws) asked is = refl
 
 -- numbers that a test tells apart
 pub differ : (a b : ℕ) → (a == b) ≡ false → a ≡ b → ⊥
@@ -185,3 +228,31 @@ served-bad (inr (inl e)) n none write store some = inl e
 served-bad (inr (inr (inl e))) n none write store some = absurd (write e)
 served-bad (inr (inr (inr (inl e)))) n none write store some = inr e
 served-bad (inr (inr (inr (inr e)))) n none write store some = absurd (store e)
+
+-- a test of one of two
+pub or_left : (a b : Bool) → a ≡ true → (a || b) ≡ true
+or_left a b is = ap (λ x. x || b) is
+
+pub or_right : (a b : Bool) → b ≡ true → (a || b) ≡ true
+or_right true b is = refl
+or_right false b is = is
+
+pub or_none : (a b : Bool) → a ≡ false → b ≡ false → (a || b) ≡ false
+or_none a b is none = ap (λ x. x || b) is ∙ none
+
+-- the statuses of a fill
+abbrev pub Filled : ℕ → Type 0
+Filled s = (s ≡ 0) ⊎ ((s ≡ 4) ⊎ ((s ≡ 5) ⊎ (s ≡ 6)))
+
+pub filled-served : {s : ℕ} → Filled s → Served s
+filled-served (inl e) = inl e
+filled-served (inr e) = inr (inr e)
+
+pub filled-not_bad : {P : Type 0} {s : ℕ} → Filled s → s ≡ 2 → P
+filled-not_bad filled bad = absurd (grind (arith, filled, bad))
+
+pub filled-good : {s : ℕ} → Filled s → (s ≡ 4 → ⊥) → (s ≡ 6 → ⊥) → (s ≡ 0) ⊎ (s ≡ 5)
+filled-good (inl e) write store = inl e
+filled-good (inr (inl e)) write store = absurd (write e)
+filled-good (inr (inr (inl e))) write store = inr e
+filled-good (inr (inr (inr e))) write store = absurd (store e)

@@ -1,7 +1,8 @@
 -- What follows the answers, and the status when all is written.
 use Rattle.std.specs.Prelude.{ℕ, ◌+◌, []}
 use Rattle.qm_model.specs.Operations.{Bytes}
-use Rattle.qm_run.specs.Program.{bad_text, fault_text}
+use Rattle.qm_filling.specs.Says.{fault_text}
+use Rattle.qm_run.specs.Program.{bad_text}
 use Rattle.qm_engine.specs.declared.answers.Ending.{Ending}
 use Rattle.qm_engine.specs.declared.answers.Ending.TheVariants.{Done, BadLine, Memory, StoreFault}
 

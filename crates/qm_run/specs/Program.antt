@@ -1,5 +1,5 @@
 -- What the program may answer, write and leave.
-use Rattle.std.specs.Prelude.{◌≡◌, ◌≤◌, ◌<◌, ◌⊎◌, ℕ, suc, Bool, true, false, ◌&&◌, if◌then◌else◌, List, [], ◌∷◌, ◌++◌, length, take, codes, Option, None, Some, option_map, is_some, bytes_eq, decimal, ⊤}
+use Rattle.std.specs.Prelude.{◌≡◌, ◌≤◌, ◌<◌, ◌⊎◌, ℕ, suc, Bool, true, false, ◌&&◌, ◌||◌, if◌then◌else◌, List, [], ◌∷◌, ◌++◌, length, take, codes, Option, None, Some, option_map, is_some, bytes_eq, decimal, Contains, IfSome, ⊤}
 use Rattle.std.specs.Option.{option_and_then}
 use Rattle.qm_model.specs.Operations.{Bytes}
 use Rattle.qm_model.specs.Opening.{Chunks}
@@ -11,9 +11,13 @@ use Rattle.qm_model.specs.Mmr.{mmr}
 use Rattle.qm_machine.specs.Machine.{State, initial, answers}
 use Rattle.qm_model.specs.Schemes.{Scheme, chunks_of, engine_of}
 use Rattle.qm_machine.specs.Grammar.{commands_in, bad_in}
+use Rattle.qm_machine.specs.Lines.{Destroy}
 use Rattle.qm_machine.specs.Text.{text_of}
 use Rattle.qm_engine.specs.Stores.{HasEnds}
 use Rattle.qm_engine.specs.Runs.{after, IsOwnStore, IsOwnLeft}
+use Rattle.qm_fill.specs.declared.words.Fill.{Fill}
+use Rattle.qm_fill.specs.Words.{fill_of_words}
+use Rattle.qm_filling.specs.Says.{IsPartOf, fault_text}
 use Rattle.qm_run.specs.declared.kind.Named.{Named}
 use Rattle.qm_run.specs.Schemes.{current, form_of, scheme}
 
@@ -41,8 +45,29 @@ kind_of_words (a ∷ b ∷ c ∷ []) = None
 kind_of_words (a ∷ b ∷ c ∷ d ∷ []) = kind_of_four a b c d
 kind_of_words (a ∷ b ∷ c ∷ d ∷ e ∷ ws) = None
 
+-- which databases three words name, that follow those of a fill
+abbrev pub kind_of_three : Bytes → Bytes → Bytes → Option Named
+kind_of_three b c d = if bytes_eq d (codes "mmr") then kind_named b c else None
+
+abbrev pub kind_of_databases : List Bytes → Option Named
+kind_of_databases [] = None
+kind_of_databases (b ∷ []) = None
+kind_of_databases (b ∷ c ∷ []) = None
+kind_of_databases (b ∷ c ∷ d ∷ []) = kind_of_three b c d
+kind_of_databases (b ∷ c ∷ d ∷ e ∷ ws) = None
+
+-- the words of a fill: those of its seed and its rounds, and then those that follow run
+abbrev pub fill_words : List Bytes → Option (Fill × Named)
+fill_words ws = option_and_then (λ (found : Fill × List Bytes). option_map (λ named. (found.0, named)) (kind_of_databases found.1)) (fill_of_words ws)
+
+abbrev pub is_run : List Bytes → Bool
+is_run ws = is_some (kind_of_words ws)
+
+abbrev pub is_fill : List Bytes → Bool
+is_fill ws = is_some (fill_words ws)
+
 abbrev pub are_words : List Bytes → Bool
-are_words ws = is_some (kind_of_words ws)
+are_words ws = is_run ws || is_fill ws
 
 -- the machine of current databases or of any ones, ordered or unordered
 abbrev pub machine_at : Bool → Bool → Scheme
@@ -55,19 +80,21 @@ machine_of named = machine_at named.is_current named.is_ordered
 abbrev pub scheme_of : List Bytes → Option Scheme
 scheme_of ws = option_map machine_of (kind_of_words ws)
 
+-- the machine of the databases that words of a run or of a fill name
+abbrev pub machine_asked : Option Named → Option (Fill × Named) → Option Scheme
+machine_asked (Some named) fill = Some (machine_of named)
+machine_asked None fill = option_map (λ (asked : Fill × Named). machine_of asked.1) fill
+
 -- the chunks of the words' databases, if they name current ones
 abbrev pub chunks_named : List Bytes → Option Chunks
-chunks_named ws = option_and_then chunks_of (scheme_of ws)
+chunks_named ws = option_and_then chunks_of (machine_asked (kind_of_words ws) (fill_words ws))
+
+-- a command may destroy the store: a fill's last one does, a run's one of its lines
+abbrev pub MayDestroy : List Bytes → Option Bytes → Type 0
+MayDestroy ws left = (is_fill ws ≡ true) ⊎ IfSome left (λ input. Contains (commands_in input) Destroy)
 
 abbrev pub bad_text : ℕ → Bytes
 bad_text n = codes "bad line " ++ (decimal n ++ 10 ∷ [])
-
-abbrev pub fault_text : Bytes
-fault_text = codes "store fault" ++ 10 ∷ []
-
--- the part is a first part of the whole
-abbrev pub IsPartOf : Bytes → Bytes → Type 0
-IsPartOf part whole = (n : ℕ) × (part ≡ take n whole)
 
 -- of this machine over a store of this log, which chooses these ends, for an input
 module _ (m : Scheme) (log : Log) (choices : List ℕ) (input : Bytes) where

@@ -4,6 +4,7 @@
 mod any;
 mod commands;
 mod current;
+mod fills;
 mod kind;
 mod program;
 

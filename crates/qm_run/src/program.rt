@@ -12,15 +12,18 @@ ghost use Rattle.qm_engine.specs.Stores.{HasEnds};
 ghost use Rattle.qm_model.specs.Mmr as trees;
 ghost use Rattle.qm_model.specs.Schemes.{chunks_of};
 ghost use Rattle.qm_run.specs.Schemes.{current, scheme};
-ghost use Rattle.qm_run.specs.Program.{are_words, family_word, order_word, kind_named, kind_of_four, kind_of_words, machine_of, scheme_of, chunks_named, Says, bad_text};
+ghost use Rattle.qm_run.specs.Program.{are_words, is_run, is_fill, family_word, order_word, kind_named, kind_of_four, kind_of_words, kind_of_three, kind_of_databases, fill_words, machine_of, scheme_of, chunks_named, MayDestroy, Says, bad_text};
+ghost use Rattle.qm_filling.specs.Says as filled;
 ghost use Rattle.qm_run.specs.Endings.{tail_text, tail_status};
 
+use crate::fills::fill_by;
 use crate::kind::{Kind, Link, Named, OrderedPlaces, Pair, Places};
 use crate::{any, current};
 use qm_any::Config;
 use qm_base::{ByteKey, ByteValue, Gate, Location};
 use qm_current::Absences;
 use qm_engine::{Answered, Answering, Ending, answer_lines};
+use qm_fill::{Fill, parse_words};
 use qm_index::{Factory, FourCap};
 use qm_lines::{InputError, LIMIT, Sink, SinkError, Source, read_all, write_all};
 use qm_merkle::mmr;
@@ -90,11 +93,37 @@ fn kind_from(words: &[String]) -> Option<Named>
     }
 }
 
-/// Whether the words after the program's name are those of a run.
+fn kind_of_three(b: &str, c: &str, d: &str) -> Option<Named>
+    ensures { result ≡ kind_of_three b.now c.now d.now }
+{
+    if d == "mmr" { named_by(b, c) } else { None }
+}
+
+// Which databases the words are for that follow those of a fill.
+fn databases_from(words: &[String]) -> Option<Named>
+    ensures { result ≡ kind_of_databases (map string_bytes words.now) }
+{
+    if words.len() == 3 {
+        kind_of_three(words[0].as_str(), words[1].as_str(), words[2].as_str())
+    } else {
+        None
+    }
+}
+
+// Which fill the words of a command line are for, and by which databases.
+fn fill_from(words: &[String]) -> Option<(Fill, Named)>
+    ensures { result ≡ fill_words (map string_bytes words.now) }
+{
+    let (fill, databases) = parse_words(words)?;
+    let named = databases_from(databases)?;
+    Some((fill, named))
+}
+
+/// Whether the words after the program's name are those of a run or of a fill.
 pub fn are_words(words: &[String]) -> bool
     ensures { result ≡ are_words (map string_bytes words.now) }
 {
-    kind_from(words).is_some()
+    kind_from(words).is_some() || fill_from(words).is_some()
 }
 
 fn bad_line_text(alloc: Global, number: u64) -> Result<String, AllocError>
@@ -284,11 +313,12 @@ fn run<C: Store + Drop, K: Sink, G: Gate>(
 
 /// The program. The words are those after its name: `run`, then `any` or `current`, then `unordered` or `ordered`, then `mmr`. It reads
 /// the source to its end, runs the commands of its lines over the store, up to the first line that is not a command, and writes
-/// the replies, one line each. It answers a status and the store.
+/// the replies, one line each. Or they are `fill`, a seed and a count of rounds, and then those that follow `run`: it runs the commands
+/// of that fill, and writes its summary; it does not read the source. It answers a status and the store.
 ///
-/// The statuses: 0, every line has its reply; 1, the words are no such ones; 2, a line is not a command, and after the
+/// The statuses: 0, every line or command has its reply; 1, the words are no such ones; 2, a line is not a command, and after the
 /// replies before it `bad line` and its number were written; 3, the source failed; 4, the sink failed; 5, want of memory; 6, the
-/// store failed, and after the replies so far `store fault` was written; 7, more than 16,777,216 bytes of input.
+/// store failed, and after the replies so far `store fault` was written, alone by a fill; 7, more than 16,777,216 bytes of input.
 pub fn qmdb_main<C: Store + Drop, S: Source, K: Sink, G: Gate>(
     alloc: Global,
     words: &[String],
@@ -305,14 +335,22 @@ pub fn qmdb_main<C: Store + Drop, S: Source, K: Sink, G: Gate>(
         × Says m stored input result.0 (Rose (C.faults store) (C.faults result.1)) written
         (C.told result.1))))) }
 
+    // The same of a fill: the summary of the machine's answers to its commands.
+    ensures fill { IfSome (fill_words (map string_bytes words.now)) (λ asked. IfSome (C.told store)
+        (λ stored. IfSome (K.text sink.old) (λ before. (written : Bytes)
+        × (K.text sink.new ≡ Some (before ++ written))
+        × filled.Says (machine_of asked.1) asked.0 stored result.0
+        (Rose (C.faults store) (C.faults result.1)) written (C.told result.1)))) }
+
     // What stays as it was.
     ensures untouched { (result.0 ≡ 1) ⊎ ((result.0 ≡ 3) ⊎ (result.0 ≡ 7))
         → (result.1 ≡ store) × (sink.new ≡ sink.old) }
     ensures unread { result.0 ≡ 1 → source.new ≡ source.old }
+    ensures fill_unread { is_fill (map string_bytes words.now) ≡ true → source.new ≡ source.old }
     ensures ends { (choices : List ℕ)
         × Turns (C.told store) (C.told result.1)
         (HasEnds (chunks_named (map string_bytes words.now))
-        (IfSome (S.left source.old) (λ input. Contains (commands_in input) Destroy)) choices) }
+        (MayDestroy (map string_bytes words.now) (S.left source.old)) choices) }
 
     // When each status comes.
     ensures usage { (result.0 ≡ 1) ↔ (are_words (map string_bytes words.now) ≡ false) }
@@ -320,29 +358,39 @@ pub fn qmdb_main<C: Store + Drop, S: Source, K: Sink, G: Gate>(
     ensures steady { result.0 ≢ 3 → S.faults source.new ≡ S.faults source.old }
     ensures write { result.0 ≡ 4 → Rose (K.faults sink.old) (K.faults sink.new) }
     ensures store { result.0 ≡ 6 → Rose (C.faults store) (C.faults result.1) }
-    ensures ended { (result.0 ≡ 0) ⊎ ((result.0 ≡ 2) ⊎ ((result.0 ≡ 4) ⊎ (result.0 ≡ 6)))
+    ensures ended { is_run (map string_bytes words.now) ≡ true → (result.0 ≡ 0) ⊎ ((result.0 ≡ 2) ⊎ ((result.0 ≡ 4) ⊎ (result.0 ≡ 6)))
         → IsAtEnd (S.left source.new) }
-    ensures good { IfSome (S.left source.old) (λ input. result.0 ≡ 0 → bad_in input ≡ None) }
+    ensures good { is_run (map string_bytes words.now) ≡ true → IfSome (S.left source.old) (λ input. result.0 ≡ 0 → bad_in input ≡ None) }
     ensures bad_line { IfSome (S.left source.old) (λ input. result.0 ≡ 2 → IsSome (bad_in input)) }
     ensures long { result.0 ≡ 7 → IfSome (S.left source.old) (λ input. LIMIT < length input) }
-    ensures long_only { IfSome (S.left source.old) (λ input. LIMIT < length input
+    ensures long_only { is_run (map string_bytes words.now) ≡ true → IfSome (S.left source.old) (λ input. LIMIT < length input
         → (result.0 ≡ 1) ⊎ ((result.0 ≡ 3) ⊎ ((result.0 ≡ 5) ⊎ (result.0 ≡ 7)))) }
     ensures codes { result.0 ≤ 7 }
+    ensures fill_codes { is_fill (map string_bytes words.now) ≡ true
+        → (result.0 ≡ 0) ⊎ ((result.0 ≡ 4) ⊎ ((result.0 ≡ 5) ⊎ (result.0 ≡ 6))) }
 
     // If nothing failed, an input has all its replies, unless memory ran out.
-    ensures complete { are_words (map string_bytes words.now) ≡ true
+    ensures complete { is_run (map string_bytes words.now) ≡ true
         → IfSome (S.left source.old) (λ input. length input ≤ LIMIT → bad_in input ≡ None
         → ¬ Rose (S.faults source.old) (S.faults source.new)
         → ¬ Rose (K.faults sink.old) (K.faults sink.new)
         → ¬ Rose (C.faults store) (C.faults result.1)
         → (result.0 ≡ 0) ⊎ (result.0 ≡ 5)) }
-    ensures complete_bad { are_words (map string_bytes words.now) ≡ true
+    ensures complete_bad { is_run (map string_bytes words.now) ≡ true
         → IfSome (S.left source.old) (λ input. length input ≤ LIMIT → (n : ℕ)
         → bad_in input ≡ Some n → ¬ Rose (S.faults source.old) (S.faults source.new)
         → ¬ Rose (K.faults sink.old) (K.faults sink.new)
         → ¬ Rose (C.faults store) (C.faults result.1)
         → (result.0 ≡ 2) ⊎ (result.0 ≡ 5)) }
+    ensures complete_fill { is_fill (map string_bytes words.now) ≡ true
+        → ¬ Rose (K.faults sink.old) (K.faults sink.new)
+        → ¬ Rose (C.faults store) (C.faults result.1)
+        → (result.0 ≡ 0) ⊎ (result.0 ≡ 5) }
 {
+    if let Some(asked) = fill_from(words) {
+        let (fill, named) = asked;
+        return fill_by(named, alloc, store, fill, sink);
+    }
     let Some(named) = kind_from(words) else {
         return (1, store);
     };
