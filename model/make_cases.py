@@ -159,9 +159,27 @@ put('too long, in lines', ['fill 3355444 6f70656e0a'], '', 7, 0, 0)
 section('Other words.')
 ONE = "open\nbatch\nput 1 6b 76\nmerkleize 1 prop none\napply 1\nops 1\nget 6b\ninfo\n"
 modelled('one put, once more', ONE)
-for words in ('', 'run', 'run any unordered', 'run any unordered mmr mmr', 'run any unordered mmb', 'run any ordered mmb', 'run any Ordered mmr', 'walk any unordered mmr', 'run any unordered MMR', 'fill any unordered mmr 1 1', '--help'):
+for words in ('', 'run', 'run any unordered', 'run any unordered mmr mmr', 'run any unordered mmb', 'run any ordered mmb', 'run any Ordered mmr', 'walk any unordered mmr', 'run any unordered MMR', 'fill any unordered mmr 1 1', 'fill', 'fill 0 1', 'fill 01 1 any unordered mmr', 'fill 4294967296 1 any unordered mmr', 'fill 0 0 any unordered mmr', 'fill 0 10001 any unordered mmr', 'fill 0 any unordered mmr', 'fill 0 1 any unordered', 'fill 0 1 any unordered mmr mmr', 'fill 0 1 run any unordered mmr', '--help'):
     put('words: ' + words if words else 'no words', ['words ' + words if words else 'words'], '', 1, 0, 0, begin='again')
 put('other words before a source that fails', ['words run', 'fail source 0'], '', 1, 0, 0, begin='again')
+
+# ---- fills
+FILL = qmdb.stage_number('fill')
+def filled(words, said=(), begin='case', store=None, name=None):
+    """what the model makes of a fill; said: lines of stdin after its words"""
+    store = store or model.Store()
+    status, text = qmdb.run_program(words.split(' '), b'', store, FILL)
+    put(name or words, ['words ' + words] + list(said), text.decode(), status, store.start, len(store.items), begin=begin)
+    return text.decode()
+section('Fills: large runs that are computed from a number. The source is not read, whatever it has.')
+for words in ('fill 0 1 any unordered mmr', 'fill 0 1 any ordered mmr', 'fill 0 1 current unordered mmr', 'fill 0 1 current ordered mmr', 'fill 4294967295 1 any unordered mmr', 'fill 7 15 current unordered mmr', 'fill 7 16 any ordered mmr', 'fill 7 17 current ordered mmr', 'fill 1 60 any unordered mmr', 'fill 123456789 60 current ordered mmr'):
+    filled(words)
+filled('fill 0 1 any unordered mmr', ['| open', '| put 1 6', 'fail source 0'], name='a fill over a source that would fail')
+section('A fill whose sink fails, and whose store fails: the fault is told alone.')
+put('a fill, sink call 0 fails', ['fail sink 0'], '', 4, 0, 0, begin='again')
+for call, n in ((0, 0), (1, 0), (2, 1), (3, 1)):
+    put('a fill, store call %d fails' % call, ['fail store %d' % call], 'store fault\n', 6, 0, n, begin='again')
+put('a fill, store call 0 and sink call 0 fail', ['fail store 0', 'fail sink 0'], '', 4, 0, 0, begin='again')
 
 # ---- calls that fail
 section('Each call in turn that fails.')

@@ -1,5 +1,5 @@
 //! `qmdb run (any|current) (unordered|ordered) mmr`: the lines of standard input over the files of a folder, the replies on standard
-//! output.
+//! output. `qmdb fill seed n` and then the words that follow `run`: a large run that is computed from a number, and its summary.
 #![tactic(auto)]
 
 ghost use Rattle.std.specs.Prelude.{◌≡◌, ◌⊎◌, IfErr};
@@ -16,9 +16,14 @@ use std::rt::{Env, Files};
 use std::{env, fs, io};
 
 const HELP: &str = "usage: qmdb run (any|current) (unordered|ordered) mmr
+       qmdb fill seed n (any|current) (unordered|ordered) mmr
        qmdb --help | --version
 
-Reads the commands of standard input, one a line, runs them over the store in the folder qmdb-data, and writes a reply line for each.
+Run reads the commands of standard input, one a line, runs them over the store in the folder qmdb-data, and writes a reply line for each.
+
+Fill reads no input. It runs n rounds over that store, each a batch of eight puts and dels that are computed from the seed, then
+makes the store last, opens it again and destroys it. It writes how many commands there were and how many were refused, and then the
+replies to info and to root. seed is a number up to 4294967295, n one from 1 to 10000.
 
 line, reply, and an example: a line and what it was answered
   open [max=n]                         open i start size                      open => open 1 0 1
@@ -64,7 +69,7 @@ or key=none. policy is prop, hold, bounded:entries:skips, or rule:entries:skips 
 next, prev, span, all, range and keys are lines of ordered databases, proof h of any ones, held, chunks and witness of current ones, absent of
 those that are ordered too: each makes a proof and checks it against the root, and a verdict is yes or no.
 A refused command is answered with refused and why.
-Statuses: 0 all answered, 1 other words, 2 a bad line, 3 and 4 the input or the output failed, 5 no memory, 6 the store failed, 7 too long.";
+Statuses: 0 all answered, 1 other words, 2 a bad line (of a run), 3 and 4 the input or the output failed, 5 no memory, 6 the store failed, 7 too long.";
 
 const VERSION: &str = "qmdb 0.1.0";
 
@@ -104,13 +109,21 @@ fn answer(words: &[String]) -> Option<&'static str> {
 // What a status other than 0 says.
 fn reason(status: u8) -> &'static str {
     match status {
-        OTHER_WORDS => "unknown arguments; usage: qmdb run (any|current) (unordered|ordered) mmr",
+        OTHER_WORDS => "unknown arguments; usage: qmdb (run|fill seed n) (any|current) (unordered|ordered) mmr",
         2 => "bad line; the last line of the output has its number",
         NOT_READ => "the input cannot be read",
         NOT_WRITTEN => "the output cannot be written",
         NO_MEMORY => "out of memory",
         STORE_FAILED => "the store failed; the output has the replies before it",
         _ => "the input is longer than 16,777,216 bytes",
+    }
+}
+
+// Whether such words are those of a run, which reads standard input.
+fn reads_input(words: &[String]) -> bool {
+    match words {
+        [word, ..] => word.as_str() == "run",
+        [] => false,
     }
 }
 
@@ -172,6 +185,11 @@ fn main(rt: HostRuntime) -> ExitCode {
         return ended(&rt, OTHER_WORDS);
     }
     let (kept, status) = closed_stream(&rt);
+    // A fill runs with its input closed, if its output is not.
+    let (kept_too, status) = match status {
+        Some(NOT_READ) if !reads_input(&words) => closed_stream(&rt),
+        _ => (None, status),
+    };
     if let Some(status) = status {
         return ended(&rt, status);
     }
@@ -184,6 +202,7 @@ fn main(rt: HostRuntime) -> ExitCode {
     if status == STORE_FAILED {
         tell(&rt, store.trouble(), store.damaged().unwrap_or(""));
     }
+    drop(kept_too);
     drop(kept);
     ended(&rt, status)
 }
