@@ -1,0 +1,5 @@
+//! Any databases.
+
+pub mod caller;
+mod database;
+pub mod traits;

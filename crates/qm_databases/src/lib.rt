@@ -1,0 +1,4 @@
+//! Databases by name.
+#![tactic(auto)]
+
+pub mod any;
