@@ -1,1 +1,2 @@
+mod CurrentBatches
 mod Making

@@ -1,2 +1,3 @@
 pub mod Any
+pub mod Current
 pub mod Words

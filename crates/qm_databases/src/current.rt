@@ -1,0 +1,3 @@
+//! Current databases.
+
+mod database;
