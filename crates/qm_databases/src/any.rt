@@ -8,7 +8,7 @@ pub mod unordered;
 pub use qm_any::{Config, hasher, init, initial_root};
 
 /// How a database is opened whose keys and values are of fixed sizes.
-pub type FixedConfig<T, B> = Config<T, B>;
+pub type FixedConfig<T, B = ()> = Config<T, B>;
 
 /// How one is opened whose keys and values are of any length.
-pub type VariableConfig<T, B> = Config<T, B>;
+pub type VariableConfig<T, B = ()> = Config<T, B>;

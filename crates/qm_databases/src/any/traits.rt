@@ -24,7 +24,7 @@ use std::alloc::{AllocError, Global};
 use std::num::NonZeroU64;
 
 /// A batch whose list is made.
-pub trait MerkleizedBatch: Sized {
+pub trait MerkleizedBatch: Drop + Sized {
     type Digest: Digest;
 
     /// The bytes of its root.
@@ -36,7 +36,7 @@ pub trait MerkleizedBatch: Sized {
 }
 
 /// A batch: writes that are recorded on a list.
-pub trait UnmerkleizedBatch<Db>: Sized {
+pub trait UnmerkleizedBatch<Db>: Drop + Sized {
     type Family;
 
     type K: ByteString;
@@ -47,7 +47,7 @@ pub trait UnmerkleizedBatch<Db>: Sized {
 
     type Merkleized: MerkleizedBatch;
 
-    type Store: Store;
+    type Store: Store + Drop;
 
     /// What it and its database mean.
     ghost means: { Means Db Self.Store Self Self.Merkleized };
@@ -84,14 +84,14 @@ pub trait UnmerkleizedBatch<Db>: Sized {
 }
 
 /// A database that is changed by batches.
-pub trait BatchableDb: Sized {
+pub trait BatchableDb: Drop + Sized {
     type Family;
 
     type K: ByteString;
 
     type V: ByteString;
 
-    type Store: Store;
+    type Store: Store + Drop;
 
     type Merkleized: MerkleizedBatch;
 
@@ -249,7 +249,7 @@ pub trait DbAny<F: Family>: BatchableDb<
 
 /// A database that proves its operations against its root: any ones alone, since a current one has another root.
 pub trait Provable<F: Family>: DbAny<F> {
-    type Operation;
+    type Operation: Drop;
 
     /// The operations, as clauses see them.
     ghost views: { List Self.Operation → List Operation };
