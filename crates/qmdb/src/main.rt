@@ -121,10 +121,7 @@ fn reason(status: u8) -> &'static str {
 
 // Whether such words are those of a run, which reads standard input.
 fn reads_input(words: &[String]) -> bool {
-    match words {
-        [word, ..] => word.as_str() == "run",
-        [] => false,
-    }
+    !words.is_empty() && words[0].as_str() == "run"
 }
 
 // What stands in the place of a standard stream that is closed, so that no file of the store does, and the status to end with where
@@ -187,7 +184,7 @@ fn main(rt: HostRuntime) -> ExitCode {
     let (kept, status) = closed_stream(&rt);
     // A fill runs with its input closed, if its output is not.
     let (kept_too, status) = match status {
-        Some(NOT_READ) if !reads_input(&words) => closed_stream(&rt),
+        Some(code) if code == NOT_READ && !reads_input(&words) => closed_stream(&rt),
         _ => (None, status),
     };
     if let Some(status) = status {
