@@ -39,6 +39,7 @@ line, reply, and an example: a line and what it was answered
                                        merkleized h base size floor           resolve 4 prop none put:05 keep keep 62=02 => merkleized 4 4 9 5
   apply h                              applied size                           apply 1 => applied 4
   ops h                                ops base op ..                         ops 1 => ops 1 U:61=01>63 U:63=03>61 C:aa@0
+  evicted h                            evicted key=value ..                   evicted 1 => evicted
   get key [from=h]                     read value                             get 61 => read 01
   many key .. [from=h]                 read value ..                          many 61 62 from=1 => read 01 none
   next key [from=h]                    key k, or none                         next 61 => key 63
@@ -65,7 +66,7 @@ line, reply, and an example: a line and what it was answered
 
 h is the number of a batch; sizes, locations and n are decimal numbers; key is 2 to 64 hexadecimal digits, value 2 to 128 of them or -
 for the empty one, meta none or a value. lo is *, [key or (key, hi is *, key] or key). A slot is keep, del or put:value, a write key=value
-or key=none. policy is prop, hold, bounded:entries:skips, or rule:entries:skips with any of :drop=value, :stop=value, :swap=value>value.
+or key=none. policy is prop, hold, bounded:entries:skips, or rule:entries:skips with any of :drop=value, :stop=value, :swap=value>value, :spare=n.
 next, prev, span, all, range and keys are lines of ordered databases, proof h of any ones, held, chunks and witness of current ones, absent of
 those that are ordered too: each makes a proof and checks it against the root, and a verdict is yes or no.
 A refused command is answered with refused and why.
@@ -109,7 +110,8 @@ fn answer(words: &[String]) -> Option<&'static str> {
 // What a status other than 0 says.
 fn reason(status: u8) -> &'static str {
     match status {
-        OTHER_WORDS => "unknown arguments; usage: qmdb (run|fill seed n) (any|current) (unordered|ordered) mmr",
+        OTHER_WORDS =>
+            "unknown arguments; usage: qmdb (run|fill seed n) (any|current) (unordered|ordered) mmr",
         2 => "bad line; the last line of the output has its number",
         NOT_READ => "the input cannot be read",
         NOT_WRITTEN => "the output cannot be written",
