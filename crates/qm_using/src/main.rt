@@ -1,4 +1,4 @@
-//! What a user of the library copies first, and a line for each name under which a database is known.
+//! What a user of the library copies first.
 #![tactic(auto)]
 
 mod accounts;
