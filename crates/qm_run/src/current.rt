@@ -47,6 +47,13 @@ pub(crate) struct Database<
     db: Inside<C, I, U>,
 }
 
+/// A merkleized batch of such a database. It is a type of the program, so that what a run asks of batches is shown of this name, and
+/// not of all that a batch has.
+#[derive(Drop)]
+pub(crate) struct Made<U: Update<Key = ByteKey, Value = ByteValue>> {
+    batch: Rc<MerkleizedBatch<mmr::Family, Sha256Digest, U, Chunk32>>,
+}
+
 impl<
     C: Store + Drop,
     I: Factory<Value = Location<mmr::Family>, Translator = FourCap> + Drop,
@@ -56,7 +63,7 @@ impl<
 
     type Staged = Staged<mmr::Family, Sha256Digest, U, Chunk32>;
 
-    type Merkleized = Rc<MerkleizedBatch<mmr::Family, Sha256Digest, U, Chunk32>>;
+    type Merkleized = Made<U>;
 
     ghost inside = { λ x. x.db.any.log.store };
 
@@ -72,9 +79,9 @@ impl<
 
     ghost counted = { λ s chain above ws keys is. ap length is.2 };
 
-    ghost is_merkleized = { λ b chain tip. IsMade (sha256_hashing trees.mmr U.form) offered_chunk b.value chain tip };
+    ghost is_merkleized = { λ b chain tip. IsMade (sha256_hashing trees.mmr U.form) offered_chunk b.batch.value chain tip };
 
-    ghost evictions = { λ b. b.value.any.evicted };
+    ghost evictions = { λ b. b.batch.value.any.evicted };
 
     ghost scheme = { scheme_of 32 (sha256_layout trees.mmr offered_chunk U.form I.index_key) offered_name };
 
@@ -111,7 +118,7 @@ impl<
     }
 
     fn sizes(batch: &Self::Merkleized) -> BatchSizes {
-        <Inside<C, I, U> as Common<C>>::sizes(batch)
+        <Inside<C, I, U> as Common<C>>::sizes(&batch.batch)
     }
 
     ghost bare = { peaks-none trees.mmr trees.mmr_births mmr_is_family mmr_has_peaks };

@@ -1,6 +1,6 @@
 //! Batches: begun and written.
 
-use crate::current::{Database, Inside};
+use crate::current::{Database, Inside, Made};
 use crate::kind::Kind;
 use qm_base::{ByteKey, ByteValue, Location};
 use qm_index::{Factory, FourCap};
@@ -23,11 +23,12 @@ impl<
         batch: &Self::Merkleized,
         keep: Option<u64>,
     ) -> Result<Self::Batch, AllocError> {
-        <Inside<C, I, U> as Batching<C>>::child(alloc, batch, keep)
+        <Inside<C, I, U> as Batching<C>>::child(alloc, &batch.batch, keep)
     }
 
     fn tip(&self, alloc: Global) -> Result<Self::Merkleized, AllocError> {
-        <Inside<C, I, U> as Batching<C>>::tip(&self.db, alloc)
+        let batch = <Inside<C, I, U> as Batching<C>>::tip(&self.db, alloc)?;
+        Ok(Made { batch })
     }
 }
 

@@ -1,6 +1,6 @@
 //! The lists of batches: made, and applied.
 
-use crate::current::{Database, Inside};
+use crate::current::{Database, Inside, Made};
 use crate::kind::Kind;
 use qm_base::{ByteKey, ByteValue, Error, Location};
 use qm_chain::Policy;
@@ -22,11 +22,20 @@ impl<
         policy: &mut P,
         metadata: &Option<ByteValue>,
     ) -> Result<Self::Merkleized, Error> {
-        <Inside<C, I, U> as Making<C>>::merkleize(&mut self.db, alloc, batch, policy, metadata)
+        match <Inside<C, I, U> as Making<C>>::merkleize(
+            &mut self.db,
+            alloc,
+            batch,
+            policy,
+            metadata,
+        ) {
+            Ok(batch) => Ok(Made { batch }),
+            Err(error) => Err(error),
+        }
     }
 
     fn apply(self, alloc: Global, batch: &Self::Merkleized) -> Result<Self, Refusal<Self, C>> {
-        match <Inside<C, I, U> as Making<C>>::apply(self.db, alloc, batch) {
+        match <Inside<C, I, U> as Making<C>>::apply(self.db, alloc, &batch.batch) {
             Ok(db) => Ok(Database { db }),
             Err(refused) => {
                 let Refusal { given, error } = refused;

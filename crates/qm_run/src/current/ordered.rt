@@ -29,7 +29,7 @@ impl<
         batch: &Self::Merkleized,
         key: &ByteKey,
     ) -> Result<Option<ByteKey>, Error> {
-        <Inside<C, I, U> as Neighbours<C>>::next_from(&mut self.db, alloc, batch, key)
+        <Inside<C, I, U> as Neighbours<C>>::next_from(&mut self.db, alloc, &batch.batch, key)
     }
 
     fn prev_from(
@@ -38,7 +38,7 @@ impl<
         batch: &Self::Merkleized,
         key: &ByteKey,
     ) -> Result<Option<ByteKey>, Error> {
-        <Inside<C, I, U> as Neighbours<C>>::prev_from(&mut self.db, alloc, batch, key)
+        <Inside<C, I, U> as Neighbours<C>>::prev_from(&mut self.db, alloc, &batch.batch, key)
     }
 
     fn span(

@@ -21,7 +21,7 @@ impl<
         alloc: Global,
         batch: &Self::Merkleized,
     ) -> Result<(Proof<Sha256Digest>, Vec<Sha256Digest>), Error> {
-        <Inside<C, I, U> as Proving<C>>::proof(&self.db, alloc, batch)
+        <Inside<C, I, U> as Proving<C>>::proof(&self.db, alloc, &batch.batch)
     }
 
     fn prove(

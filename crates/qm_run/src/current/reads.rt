@@ -15,21 +15,21 @@ impl<
     U: Kind<I, Key = ByteKey, Value = ByteValue>,
 > Reading<C> for Database<C, I, U> {
     fn batch_root(batch: &Self::Merkleized) -> Roots<Sha256Digest> {
-        <Inside<C, I, U> as Reading<C>>::batch_root(batch)
+        <Inside<C, I, U> as Reading<C>>::batch_root(&batch.batch)
     }
 
     fn ops(
         alloc: Global,
         batch: &Self::Merkleized,
     ) -> Result<(u64, Vec<Listed<ByteKey, ByteValue>>), AllocError> {
-        <Inside<C, I, U> as Reading<C>>::ops(alloc, batch)
+        <Inside<C, I, U> as Reading<C>>::ops(alloc, &batch.batch)
     }
 
     fn evicted(
         alloc: Global,
         batch: &Self::Merkleized,
     ) -> Result<Vec<(ByteKey, ByteValue)>, AllocError> {
-        <Inside<C, I, U> as Reading<C>>::evicted(alloc, batch)
+        <Inside<C, I, U> as Reading<C>>::evicted(alloc, &batch.batch)
     }
 
     fn get(&mut self, alloc: Global, keys: &[ByteKey]) -> Result<Vec<Option<ByteValue>>, Error> {
@@ -51,7 +51,7 @@ impl<
         batch: &Self::Merkleized,
         keys: &[ByteKey],
     ) -> Result<Vec<Option<ByteValue>>, Error> {
-        <Inside<C, I, U> as Reading<C>>::get_from(&mut self.db, alloc, batch, keys)
+        <Inside<C, I, U> as Reading<C>>::get_from(&mut self.db, alloc, &batch.batch, keys)
     }
 
     fn root(&self) -> Roots<Sha256Digest> {

@@ -1,6 +1,6 @@
 //! Staged batches.
 
-use crate::current::{Database, Inside};
+use crate::current::{Database, Inside, Made};
 use crate::kind::Kind;
 use qm_base::{ByteKey, ByteValue, Error, Location, Resolution};
 use qm_chain::Policy;
@@ -46,13 +46,16 @@ impl<
         policy: &mut P,
         metadata: &Option<ByteValue>,
     ) -> Result<Self::Merkleized, Error> {
-        <Inside<C, I, U> as Staging<C>>::resolve(
+        match <Inside<C, I, U> as Staging<C>>::resolve(
             &mut self.db,
             alloc,
             batch,
             resolution,
             policy,
             metadata,
-        )
+        ) {
+            Ok(batch) => Ok(Made { batch }),
+            Err(error) => Err(error),
+        }
     }
 }

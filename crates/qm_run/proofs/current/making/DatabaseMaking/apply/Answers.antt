@@ -6,7 +6,7 @@ use Rattle.qm_run.proofs.current.making.DatabaseMaking.apply.Goals as goal
 pub returns-in-Database : goal.returns-in-Database
 returns-in-Database g c =
     let x = c.in-Database.db in
-    let a = applies-told _ g.C.Store c.in-Err.refused (Database x) c.in-Database.is c.args.self.db c.args.batch.now c.in-Err.ensures in
+    let a = applies-told _ g.C.Store c.in-Err.refused (Database x) c.in-Database.is c.args.self.db c.args.batch.now.batch c.in-Err.ensures in
     let own = a.back x refl in
     record {
       fit = tt;
@@ -26,7 +26,7 @@ returns-in-Database g c =
 pub returns-in-Store : goal.returns-in-Store
 returns-in-Store g c =
     let s = c.in-Store.store in
-    let a = applies-told _ g.C.Store c.in-Err.refused (Store s) c.in-Store.is c.args.self.db c.args.batch.now c.in-Err.ensures in
+    let a = applies-told _ g.C.Store c.in-Err.refused (Store s) c.in-Store.is c.args.self.db c.args.batch.now.batch c.in-Err.ensures in
     record {
       fit = tt;
       applied = tt;
