@@ -1,0 +1,7 @@
+pub mod ProofForms
+pub mod ProofFormRows
+pub mod Tags
+pub mod Views
+pub mod Claims
+pub mod Checking
+pub mod CheckRows

@@ -1,0 +1,11 @@
+//! What a light client holds: a proof of a key or of its absence, as bytes, and what it answers to a claim by a root alone.
+#![tactic(auto)]
+
+pub mod decode;
+pub mod encode;
+pub mod laws;
+pub mod proof;
+
+pub use decode::decode_proof;
+pub use encode::encode_proof;
+pub use proof::AnyProof;
