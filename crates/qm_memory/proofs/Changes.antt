@@ -11,7 +11,7 @@ use Rattle.std.proofs.lemmas.List.Elements.{All-filter, filter_passes, All-tail}
 use Rattle.std.proofs.lemmas.Slice.Eq.{bytes_eq-Decides}
 use Rattle.qm_model.specs.Operations.{Bytes}
 use Rattle.qm_model.specs.StoreModel.{Entry, Named, Rest, Stored, rest_of, found_by, cut_by, appended, settled, rewound, pruned, with_metadata, restarted, destroyed}
-use Rattle.qm_memory.specs.Changes.{Change, grew, settled_from, rewound_from, pruned_from, put_new, put_over, restarted_from, emptied, AreNamedOnce, appending, settling, rewinding, pruning, restarting, emptying, place_of, replaced, putting, undone, found_at, past_of}
+use Rattle.qm_memory.specs.Changes.{Change, grew, settled_from, rewound_from, pruned_from, put_new, put_over, restarted_from, emptied, AreNamedOnce, appending, settling, rewinding, pruning, restarting, emptying, place_of, replaced, put_in_turn, put_over_older, putting, undone, found_at, past_of}
 
 -- Metadata by name.
 
@@ -83,6 +83,11 @@ differ name ms all k d within = not-true _ (all k d within)
 -- a put keeps the names apart
 pub once-put : (name : Bytes) (entries : List Entry) (ms : List Named) → AreNamedOnce ms → AreNamedOnce (record { name = name; entries = entries } ∷ others name ms)
 once-put name entries ms once = (differ name (others name ms) (filter_passes _ ms), once-filter _ ms once)
+
+-- what is put last stands over those before
+pub put-last : (ms older : List Named) (m : Named) → put_in_turn (ms ++ m ∷ []) older ≡ put_over_older m (put_in_turn ms older)
+put-last [] older m = refl
+put-last (n ∷ ms) older m = put-last ms (put_over_older n older) m
 
 -- Each call undone.
 

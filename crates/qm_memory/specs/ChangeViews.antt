@@ -1,5 +1,7 @@
--- How a noted change is held.
-use Rattle.std.specs.Prelude.{[]}
+-- How a noted change is held, and how metadata are given.
+use Rattle.std.specs.Prelude.{[], String, Vec}
+use Rattle.std.specs.String.{string_bytes}
+use Rattle.qm_model.specs.StoreModel.{Entry, Named}
 use Rattle.qm_memory.specs.Changes.{Change, grew, settled_from, rewound_from, pruned_from, put_new, put_over, restarted_from, emptied}
 use Rattle.qm_memory.specs.declared.change.Kind.{Kind}
 use Rattle.qm_memory.specs.declared.change.Kind.TheVariants as kinds
@@ -13,3 +15,6 @@ change_of kinds.PutNew = put_new
 change_of (kinds.PutOver place named) = put_over place named.value
 change_of (kinds.RestartedFrom cut) = restarted_from cut.value.items cut.value.stable
 change_of (kinds.Emptied dropped) = emptied (record { start = dropped.value.start; items = dropped.value.items; head = dropped.value.head.items; metadata = dropped.value.metadata.items; stable = dropped.value.stable; ends = []; past = [] })
+
+abbrev pub named_of : {A : Type 0} → String A × Vec Entry A → Named
+named_of (name, entries) = record { name = string_bytes name; entries = entries.items }

@@ -1,5 +1,5 @@
 -- What a store in memory notes of its calls, so that each earlier state can be told.
-use Rattle.std.specs.Prelude.{◌≡◌, ℕ, ◌-◌, false, List, [], ◌∷◌, ◌++◌, length, take, drop, All, Option, None, Some, slice_get, bytes_eq, ⊤}
+use Rattle.std.specs.Prelude.{◌≡◌, ℕ, ◌-◌, false, List, [], ◌∷◌, ◌++◌, length, take, drop, All, Option, None, Some, filter, slice_get, bytes_eq, not, ⊤}
 use Rattle.std.specs.List.{insert, position_or_len}
 use Rattle.qm_model.specs.Operations.{Bytes}
 use Rattle.qm_model.specs.StoreModel.{Named, Rest, Stored, rest_of}
@@ -48,6 +48,17 @@ replaced place (Some named) = put_over place named
 
 abbrev pub putting : Bytes → List Named → Change
 putting name ms = replaced (place_of name ms) (slice_get ms (place_of name ms))
+
+-- Metadata that a store is given.
+
+-- put over those of its name
+abbrev pub put_over_older : Named → List Named → List Named
+put_over_older m older = m ∷ filter (λ o. not (bytes_eq m.name o.name)) older
+
+-- put over older ones, one after another
+abbrev pub put_in_turn : List Named → List Named → List Named
+put_in_turn [] older = older
+put_in_turn (m ∷ ms) older = put_in_turn ms (put_over_older m older)
 
 -- The states before.
 

@@ -1,7 +1,8 @@
 -- What a store in memory tells of itself.
-use Rattle.std.specs.Prelude.{◌≡◌, ◌≤◌, ℕ, ◌+◌, ◌-◌, ◌^◌, min, max, List, [], ◌∷◌, slice_range}
-use Rattle.qm_model.specs.StoreModel.{Stored, empty, end_of}
-use Rattle.qm_memory.specs.Changes.{Change, AreNamedOnce}
+use Rattle.std.specs.Prelude.{◌≡◌, ◌≤◌, ℕ, ◌+◌, ◌-◌, ◌^◌, min, max, List, [], ◌∷◌, length, slice_range}
+use Rattle.qm_model.specs.Operations.{Bytes}
+use Rattle.qm_model.specs.StoreModel.{Named, Stored, empty, end_of}
+use Rattle.qm_memory.specs.Changes.{Change, AreNamedOnce, put_in_turn}
 
 -- what it holds, what its calls changed with the newest first, the numbers of the calls that fail, and how many calls and faults there
 -- were
@@ -15,6 +16,18 @@ pub record Mem : Type 0 where
 -- a store at rest with no items, from this start on, with this head
 abbrev pub at_start : ℕ → List ℕ → Stored
 at_start start head = record empty { start = start; head = head; stable = start }
+
+-- one with these items and these metadata, all of it stable
+abbrev pub holding : ℕ → List ℕ → List Bytes → List Named → Stored
+holding start head items metadata = record { start = start; items = items; head = head; metadata = metadata; stable = start + length items; ends = []; past = [] }
+
+-- the same, with these metadata put one after another
+abbrev pub filled : ℕ → List ℕ → List Bytes → List Named → Stored
+filled start head items named = holding start head items (put_in_turn named [])
+
+-- a store in memory of which no call was made yet, and which fails at the calls of these numbers
+abbrev pub at_rest : Stored → List ℕ → Mem
+at_rest held fail = record { held = held; changes = []; fail = fail; calls = 0; faults = 0 }
 
 -- one more, up to the greatest number of 64 bits
 abbrev pub one_more : ℕ → ℕ

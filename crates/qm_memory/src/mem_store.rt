@@ -5,14 +5,15 @@ ghost use Rattle.std.proofs.Common.{refl};
 ghost use Rattle.std.proofs.Math.Nat.{le-add_right};
 ghost use Rattle.qm_model.specs.Causes.{IsCause};
 ghost use Rattle.qm_model.specs.StoreModel.{metadata_in, appended, settled, rewound, pruned, with_metadata, restarted, destroyed, end_of};
-ghost use Rattle.qm_memory.specs.Changes.{appending, settling, rewinding, pruning, putting, restarting, emptying};
-ghost use Rattle.qm_memory.specs.Mem.{Mem, at_start, called, failed, made, chosen, IsInside};
+ghost use Rattle.qm_memory.specs.ChangeViews.{named_of};
+ghost use Rattle.qm_memory.specs.Changes.{AreNamedOnce, appending, settling, rewinding, pruning, putting, restarting, emptying};
+ghost use Rattle.qm_memory.specs.Mem.{Mem, at_start, at_rest, holding, filled, called, failed, made, chosen, IsInside};
 
 use crate::change::{Change, Cut, Dropped, Kind, Pruned};
 use crate::items::Items;
-use crate::metadata::{Metadata, entries_of, take_out};
+use crate::metadata::{Metadata, entries_of, put_all, take_out};
 use qm_store::{MetaEntry, Store, StoreError};
-use std::alloc::Global;
+use std::alloc::{AllocError, Global};
 use std::marker::Model;
 use std::mem::replace;
 
@@ -51,9 +52,7 @@ impl Model for MemStore {
 impl MemStore {
     /// An empty store, which fails at the calls of these numbers.
     pub fn new(alloc: Global, fail: Vec<u64>) -> MemStore
-        ensures { result
-            ≡ record
-            { held = at_start 0 []; changes = []; fail = fail.items; calls = 0; faults = 0 } }
+        ensures { result ≡ at_rest (at_start 0 []) fail.items }
     {
         MemStore::with_head(alloc, 0, Vec::new(alloc), fail)
     }
@@ -61,22 +60,53 @@ impl MemStore {
     /// An empty store whose first item will be at this location, with this head.
     pub fn with_head(alloc: Global, start: u64, head: Vec<u8>, fail: Vec<u64>) -> MemStore
         requires { start ≤ 2 ^ 62 }
-        ensures { result
-            ≡ record {
-              held = at_start start head.items;
-              changes = [];
-              fail = fail.items;
-              calls = 0;
-              faults = 0;
-            } }
+        ensures { result ≡ at_rest (at_start start head.items) fail.items }
     {
+        MemStore::at_rest(alloc, start, head, Items::new(alloc), Vec::new(alloc), fail)
+    }
+
+    /// A store with copies of these items from a location on, all of them stable, with this head and these metadata, which
+    /// fails at the calls of these numbers. The metadata are put one after another, so of those of one name it has the last.
+    pub fn of(
+        alloc: Global,
+        start: u64,
+        head: Vec<u8>,
+        items: &[Vec<u8>],
+        metadata: Vec<(String, Vec<MetaEntry>)>,
+        fail: Vec<u64>,
+    ) -> Result<MemStore, AllocError>
+        requires { start + length items.now ≤ 2 ^ 62 }
+        ensures { IfOk result (λ store. store
+            ≡ at_rest (filled start head.items (map (λ v. v.items) items.now)
+            (map named_of metadata.items)) fail.items) }
+    {
+        let mut kept = Items::new(alloc);
+        kept.append(items)?;
+        let metadata = put_all(alloc, metadata)?;
+        Ok(MemStore::at_rest(alloc, start, head, kept, metadata, fail))
+    }
+
+    // A store of which all is stable, and nothing was called.
+    fn at_rest(
+        alloc: Global,
+        start: u64,
+        head: Vec<u8>,
+        kept: Items,
+        metadata: Vec<Metadata>,
+        fail: Vec<u64>,
+    ) -> MemStore
+        requires limit { start + length kept ≤ 2 ^ 62 }
+        requires once { AreNamedOnce metadata.items }
+        ensures { result ≡ at_rest (holding start head.items kept metadata.items) fail.items }
+    {
+        let stable = start + kept.len() as u64;
         MemStore {
             alloc,
             first: start,
             head,
-            kept: Items::new(alloc),
-            metadata: Vec::new(alloc),
-            stable: start,
+            kept,
+            metadata,
+            stable,
             ends: Vec::new(alloc),
             changes: Vec::new(alloc),
             listed: fail,

@@ -1,9 +1,10 @@
 //! Metadata by name, in memory.
 
-ghost use Rattle.std.specs.Prelude.{◌≡◌, ◌≤◌, bytes_eq, filter, not};
+ghost use Rattle.std.specs.Prelude.{◌≡◌, ◌≤◌, [], ◌∷◌, bytes_eq, filter, map, not};
 ghost use Rattle.std.specs.Prelude.{IfOk, OnOk, OnErr, vec_len, vec_capacity};
 ghost use Rattle.qm_model.specs.StoreModel.{metadata_in};
-ghost use Rattle.qm_memory.specs.Changes.{AreNamedOnce, place_of as place_among, putting};
+ghost use Rattle.qm_memory.specs.ChangeViews.{named_of};
+ghost use Rattle.qm_memory.specs.Changes.{AreNamedOnce, place_of as place_among, put_over_older, put_in_turn, putting};
 
 use crate::change::{Change, Kind};
 use qm_store::MetaEntry;
@@ -122,4 +123,28 @@ pub(crate) fn take_out(
     Ok(Change {
         kind: Kind::PutOver(place as u64, replaced),
     })
+}
+
+// Puts metadata in place of those of their name.
+fn put(metadata: &mut Vec<Metadata>, named: Metadata) -> Result<(), AllocError>
+    ensures { OnOk result (metadata.new.items ≡ put_over_older named metadata.old.items) }
+{
+    metadata.retain(|older| !older.is_of(named.name.as_str()));
+    metadata.insert(0, named)?;
+    Ok(())
+}
+
+// Metadata, each of which was put after those before it.
+pub(crate) fn put_all(
+    alloc: Global,
+    metadata: Vec<(String, Vec<MetaEntry>)>,
+) -> Result<Vec<Metadata>, AllocError>
+    ensures value { IfOk result (λ v. v.items ≡ put_in_turn (map named_of metadata.items) []) }
+    ensures once { IfOk result (λ v. AreNamedOnce v.items) }
+{
+    let mut kept = Vec::new(alloc);
+    for (name, entries) in metadata {
+        put(&mut kept, Metadata { name, entries })?;
+    }
+    Ok(kept)
 }
