@@ -24,6 +24,8 @@ mod lengths;
 #[cfg(test)]
 mod overlays;
 #[cfg(test)]
+mod padding;
+#[cfg(test)]
 mod refusals;
 #[cfg(test)]
 mod scans;
