@@ -21,6 +21,8 @@ TOP = os.path.dirname(os.path.dirname(os.path.abspath(__file__)))
 BODIES = f"{TOP}/docs/wrong_bodies"
 # How many rows one run of a program takes: it has a minute.
 AT_ONCE = {"qmdb_rows": 40, "qm_proof_rows": 400}
+# The status of `rt try` where some run gave no answer in its time, as beside much else: then a row may differ though the body is right.
+NO_ANSWER = 6
 
 
 def read(path):
@@ -91,9 +93,10 @@ def changed(program, rows):
             write(f"{folder}/{at:04}", "".join(row[1] for row in rows[at : at + count]))
         ran = subprocess.run(["rt", "try", "--cases", folder], cwd=program, stdin=subprocess.DEVNULL, capture_output=True, text=True, errors="replace")
     said = "\n" + ran.stdout + ran.stderr
+    late = " (some rows had no answer in time)" if ran.returncode == NO_ANSWER else ""
     for name, _, out in rows:
         if "\n" + out not in said:
-            return name
+            return name + late
     return None
 
 

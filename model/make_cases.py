@@ -20,9 +20,14 @@ import qmdb  # noqa: E402
 STAGE = qmdb.stage_number('remaining')
 DURABLE = qmdb.stage_number('durable')
 SCRIPTS = qmdb.stage_number('ordered')
+DELAYED = qmdb.stage_number('delayed-merge')
+# the program has no numbers of workers, which that stage has
+fuzz.UNSAID.add('workers')
 WORDS = 'run any unordered mmr'
 ORDERED = 'run any ordered mmr'
 inp, out = [], []
+# what the model says of words and input over trees whose merges are delayed
+DONE = {}
 def section(text):
     inp.append('')
     inp.append('# ' + text)
@@ -52,12 +57,25 @@ def lines_of(data):
         else: said.append('hex ' + (p + b'\n').hex())
     if parts[-1]: said.append('hex ' + parts[-1].hex())
     return said
-def modelled(name, data, words=WORDS, items=False):
+def delayed(name, data, words):
+    """Puts the case of these words over trees whose merges are delayed, where a database is opened; returns whether it did."""
+    if not (words.startswith('run ') and words.endswith(' mmr')): return False
+    words = words[:-3] + 'mmb'
+    store = model.Store()
+    status, text = qmdb.run_program(words.split(' '), data, store, DELAYED)
+    if b'open 1 ' not in text: return False
+    DONE[words, data] = status, text.decode()
+    put(name + ', delayed', ['words ' + words] + lines_of(data), text.decode(), status, store.start, len(store.items))
+    return True
+def twin(name, data, words, text, status, store, items=None):
+    """Puts the case of these words, and before it that of the same input over trees whose merges are delayed."""
+    if delayed(name, data, words): put(name, ['words ' + words], text, status, store.start, len(store.items), items, begin='again')
+    else: put(name, ([] if words == WORDS else ['words ' + words if words else 'words']) + lines_of(data), text, status, store.start, len(store.items), items)
+def modelled(name, data, words=WORDS, items=False, stage=STAGE):
     if isinstance(data, str): data = data.encode()
     store = model.Store()
-    status, text = qmdb.run_program(words.split(' ') if words else [], data, store, STAGE)
-    said = ([] if words == WORDS else ['words ' + words if words else 'words']) + lines_of(data)
-    put(name, said, text.decode(), status, store.start, len(store.items), [i.hex() for i in store.items] if items else None)
+    status, text = qmdb.run_program(words.split(' ') if words else [], data, store, stage)
+    twin(name, data, words, text.decode(), status, store, [i.hex() for i in store.items] if items else None)
     return text.decode(), status, store
 
 # ---- worked rows
@@ -73,7 +91,7 @@ for row in check_rows.load_rows():
     store = model.Store()
     status, text = qmdb.run_program(run['words'], data, store, STAGE)
     assert (status, text.decode()) == (run['status'], run['output'])
-    put(name, lines_of(data), run['output'], run['status'], store.start, len(store.items), [i.hex() for i in store.items] if name in ('one put', 'put and delete') else None)
+    twin(name, data, WORDS, run['output'], run['status'], store, [i.hex() for i in store.items] if name in ('one put', 'put and delete') else None)
 
 section('Worked rows of ordered databases.')
 for row in check_rows.load_rows():
@@ -159,7 +177,7 @@ put('too long, in lines', ['fill 3355444 6f70656e0a'], '', 7, 0, 0)
 section('Other words.')
 ONE = "open\nbatch\nput 1 6b 76\nmerkleize 1 prop none\napply 1\nops 1\nget 6b\ninfo\n"
 modelled('one put, once more', ONE)
-for words in ('', 'run', 'run any unordered', 'run any unordered mmr mmr', 'run any unordered mmb', 'run any ordered mmb', 'run any Ordered mmr', 'walk any unordered mmr', 'run any unordered MMR', 'fill any unordered mmr 1 1', 'fill', 'fill 0 1', 'fill 01 1 any unordered mmr', 'fill 4294967296 1 any unordered mmr', 'fill 0 0 any unordered mmr', 'fill 0 10001 any unordered mmr', 'fill 0 any unordered mmr', 'fill 0 1 any unordered', 'fill 0 1 any unordered mmr mmr', 'fill 0 1 run any unordered mmr', '--help'):
+for words in ('', 'run', 'run any unordered', 'run any unordered mmr mmr', 'run any unordered mmB', 'run any ordered mmbs', 'run any Ordered mmr', 'walk any unordered mmr', 'run any unordered MMR', 'fill any unordered mmr 1 1', 'fill', 'fill 0 1', 'fill 01 1 any unordered mmr', 'fill 4294967296 1 any unordered mmr', 'fill 0 0 any unordered mmr', 'fill 0 10001 any unordered mmr', 'fill 0 any unordered mmr', 'fill 0 1 any unordered', 'fill 0 1 any unordered mmr mmr', 'fill 0 1 run any unordered mmr', '--help'):
     put('words: ' + words if words else 'no words', ['words ' + words if words else 'words'], '', 1, 0, 0, begin='again')
 put('other words before a source that fails', ['words run', 'fail source 0'], '', 1, 0, 0, begin='again')
 
@@ -168,11 +186,12 @@ FILL = qmdb.stage_number('fill')
 def filled(words, said=(), begin='case', store=None, name=None):
     """what the model makes of a fill; said: lines of stdin after its words"""
     store = store or model.Store()
-    status, text = qmdb.run_program(words.split(' '), b'', store, FILL)
+    status, text = qmdb.run_program(words.split(' '), b'', store, DELAYED if words.endswith(' mmb') else FILL)
     put(name or words, ['words ' + words] + list(said), text.decode(), status, store.start, len(store.items), begin=begin)
     return text.decode()
 section('Fills: large runs that are computed from a number. The source is not read, whatever it has.')
 for words in ('fill 0 1 any unordered mmr', 'fill 0 1 any ordered mmr', 'fill 0 1 current unordered mmr', 'fill 0 1 current ordered mmr', 'fill 4294967295 1 any unordered mmr', 'fill 7 15 current unordered mmr', 'fill 7 16 any ordered mmr', 'fill 7 17 current ordered mmr', 'fill 1 60 any unordered mmr', 'fill 123456789 60 current ordered mmr'):
+    filled(words[:-3] + 'mmb')
     filled(words)
 filled('fill 0 1 any unordered mmr', ['| open', '| put 1 6', 'fail source 0'], name='a fill over a source that would fail')
 section('A fill whose sink fails, and whose store fails: the fault is told alone.')
@@ -423,8 +442,155 @@ for words in (WORDS, ORDERED, CURRENT, CURRENT_ORDERED):
 section('Lines of ordered databases, of an unordered current one.')
 modelled('no neighbours', 'open\nnext 61\nprev 61\nspan 61\nall 61\nrange * *\nkeys * *\nnext 61 from=1\n', words=CURRENT)
 section('Other words, with current in them.')
-for words in ('run current', 'run current mmr', 'run current unordered mmb', 'run Current unordered mmr', 'run any current mmr', 'current run unordered mmr', 'run current unordered mmr mmr'):
+for words in ('run current', 'run current mmr', 'run current unordered mbm', 'run Current unordered mmr', 'run any current mmr', 'current run unordered mmr', 'run current unordered mmr mmr'):
     modelled('words: ' + words, b'', words=words)
+
+# ---- damaged stores
+section('Stores that something else left: each is opened, and opened once more over what that opening left of it.')
+def given(store):
+    """stdin lines for a store of its own"""
+    said = []
+    if store.start: said.append('start %d' % store.start)
+    if store.head: said.append('head ' + store.head.hex())
+    said.extend(('item ' + i.hex()).rstrip() for i in store.items)
+    for name, entries in store.metas.items():
+        said.append('meta ' + name)
+        said.extend(('entry %s %s' % (k.hex(), v.hex())).rstrip() for k, v in entries)
+    return said
+def damaged(name, words, store, first=None, items=True):
+    """first: what the opening answers, where it is worked by hand"""
+    asked = b'open\ninfo\nroot\n'
+    said, before = given(store), store.copy()
+    status, text = qmdb.run_program(words.split(' '), asked, store, STAGE)
+    text = text.decode()
+    assert status == 0 and (first is None or text.split('\n')[0] == first), (name, text)
+    if text.startswith('refused'): assert store.content() == before.content(), name
+    shown = lambda: [i.hex() for i in store.items] if items else None
+    put('damaged: ' + name, ['words ' + words] + lines_of(asked) + said, text, status, store.start, len(store.items), shown())
+    status, text = qmdb.run_program(words.split(' '), asked, store, STAGE)
+    put('damaged and opened again: ' + name, ['keep', 'words ' + words] + lines_of(asked), text.decode(), status, store.start, len(store.items), shown())
+for row in check_rows.load_rows():
+    if row['stage'] != 'damaged': continue
+    run, = row['runs']
+    damaged(row['name'][9:], ' '.join(run['words']), check_rows.initial_store(row, False), run['output'].split('\n')[0])
+ends = lambda floor: model.encode(('C', None, floor))
+puts = model.encode(('U', b'k', b'v'))
+links = lambda key, following: model.encode(('U', key, b'\1', following))
+counted = lambda count, *pins: {'grafted': [(b'\1' + model.x8(0), count)] + [(b'\0' + model.x8(i), pin) for i, pin in enumerate(pins)]}
+FOUR = [ends(0), puts, puts, ends(2)]
+def bordering(name, words, first, start=0, head=b'', items=(), metas=None):
+    damaged(name, words, model.Store(start, head, items, metas), first)
+REFUSED = 'refused DataCorrupted '
+bordering('no commit, and a head at start 0', WORDS, REFUSED + 'no retained commit', head=b'\7', items=[puts])
+bordering('a start with the head that it needs', WORDS, 'open 1 2 3', 2, bytes(32), [ends(2)])
+bordering('a start with a head of two digests', WORDS, REFUSED + 'head does not match the start', 2, bytes(64), [ends(2)])
+bordering('a floor at the start', WORDS, 'open 1 2 4', 2, bytes(32), [puts, ends(2)])
+bordering('a floor at its own commit', WORDS, 'open 1 0 2', items=[ends(0), ends(1)])
+bordering('a floor right behind its commit', WORDS, REFUSED + 'inactivity floor exceeds commit location', items=[ends(0), ends(2)])
+bordering('an item that does not decode below the floor', WORDS, 'open 1 0 3', items=[ends(0), b'\xff', ends(2)])
+bordering('an item that does not decode, and a head at start 0', WORDS, REFUSED + 'head does not match the start', head=b'\7', items=[ends(0), b'\xff', ends(0)])
+bordering('an empty item', WORDS, REFUSED + 'item does not decode', items=[ends(0), b'', ends(0)])
+bordering('links under an unordered database', WORDS, REFUSED + 'item does not decode', items=[ends(0), links(b'a', b'c'), links(b'c', b'a'), ends(0)])
+bordering('a ring', ORDERED, 'open 1 0 4', items=[ends(0), links(b'a', b'c'), links(b'c', b'a'), ends(0)])
+bordering('a key that names itself beside another', ORDERED, REFUSED + 'links form no ring', items=[ends(0), links(b'a', b'a'), links(b'c', b'a'), ends(0)])
+bordering('metadata under an any database', WORDS, 'open 1 0 4', items=FOUR, metas=counted(bytes(7)))
+bordering('a commit whose floor is past 2^62', WORDS, 'open 1 0 1', items=[ends(0), ends(2 ** 62 + 1)])
+bordering('the greatest count, without its pin', CURRENT, REFUSED + 'missing pinned node in grafted tree metadata', items=FOUR, metas=counted(model.x8(2 ** 54)))
+bordering('a count of no chunk', CURRENT, 'open 1 0 4', items=FOUR, metas=counted(model.x8(0)))
+bordering('a wrong pin before a missing one', CURRENT, REFUSED + 'missing pinned node in grafted tree metadata', items=FOUR, metas=counted(model.x8(3), bytes(31)))
+bordering('metadata of another name', CURRENT, 'open 1 0 4', items=FOUR, metas={'other': counted(bytes(7))['grafted']})
+section('The pruned store of one key: without metadata a current database has lost what it knew of three chunks.')
+pruned_store = model.Store()
+qmdb.run_program(CURRENT.split(' '), (LONG + 'prune 768\n').encode(), pruned_store, STAGE)
+def left(head=None, metas=None):
+    return model.Store(pruned_store.start, pruned_store.head if head is None else head, pruned_store.items, metas)
+damaged('pruned, under an any database', WORDS, left(), 'open 1 768 799', items=False)
+damaged('pruned, and a byte of the head gone', WORDS, left(head=pruned_store.head[:-1]), REFUSED + 'head does not match the start', items=False)
+damaged('pruned, with its metadata', CURRENT, left(metas=pruned_store.metas), 'open 1 768 799', items=False)
+damaged('pruned, with metadata of another name behind its own', CURRENT, left(metas=dict(pruned_store.metas, other=[(bytes(9), b'')])), 'open 1 768 799', items=False)
+section('The items that a store is given are stable, so a crash takes none of them away.')
+store = model.Store(0, b'', FOUR)
+status, text = qmdb.run_program(WORDS.split(' '), b'crash 0\nopen\ninfo\n', store, STAGE)
+put('given, and crashed before it is opened', lines_of(b'crash 0\nopen\ninfo\n') + given(model.Store(0, b'', FOUR)), text.decode(), status, store.start, len(store.items))
+section('Metadata of one name that are given twice: the last are read.')
+TWICE = ['words ' + CURRENT, '| open'] + ['item ' + i.hex() for i in FOUR]
+COUNT = 'entry 01' + '00' * 8
+put('damaged: a good count after a bad one', TWICE + ['meta grafted', COUNT + ' ' + '00' * 7, 'meta grafted', COUNT + ' ' + '00' * 8], 'open 1 0 4\n', 0, 0, 4)
+put('damaged: a bad count after a good one', TWICE + ['meta grafted', COUNT + ' ' + '00' * 8, 'meta grafted', COUNT + ' ' + '00' * 7], REFUSED + 'pruned chunks value not a valid u64\n', 0, 0, 4)
+
+# ---- each call that fails
+section('Tables of failing calls: which calls of the store each line makes is worked by hand. Until the first run that ends well each writes the replies before the line whose call failed, and what it left is opened.')
+def failing(name, words, lines, calls):
+    """calls: how many calls of the store each line makes that makes some, by its number"""
+    data = ''.join(x + '\n' for x in lines)
+    text, status, store = modelled(name, data, words=words)
+    assert status == 0
+    replies = text.splitlines(keepends=True)
+    # of the first opening only the commit comes after the append of the first operation
+    opening = calls[0]
+    def had(at, call):
+        """what the store has when a call of this line fails"""
+        store = model.Store()
+        if at: qmdb.run_program(words.split(' '), ''.join(x + '\n' for x in lines[:at]).encode(), store, STAGE)
+        elif call == opening - 1: store.append([ends(0)])
+        return store
+    k = 0
+    for at in sorted(calls):
+        for call in range(calls[at]):
+            store = had(at, call)
+            put('%s, store call %d fails' % (name, k), ['fail store %d' % k], ''.join(replies[:at]) + 'store fault\n', 6, store.start, len(store.items), begin='again')
+            status, text = qmdb.run_program(words.split(' '), b'open\ninfo\n', store, STAGE)
+            put('%s, opened after store call %d failed' % (name, k), ['keep', 'words ' + words, '| open', '| info'], text.decode(), status, store.start, len(store.items))
+            k += 1
+    store = model.Store()
+    status, text = qmdb.run_program(words.split(' '), data.encode(), store, STAGE)
+    put('%s, store call %d would fail' % (name, k), ['fail store %d' % k], text.decode(), status, store.start, len(store.items), begin='again')
+    for call in range(3):
+        put('%s, source call %d fails' % (name, call), ['fail source %d' % call], '' if call < 2 else text.decode(), 3 if call < 2 else 0, store.start if call == 2 else 0, len(store.items) if call == 2 else 0, begin='again')
+    for call in range(2):
+        put('%s, sink call %d fails' % (name, call), ['fail sink %d' % call], '' if call < 1 else text.decode(), 4 if call < 1 else 0, store.start, len(store.items), begin='again')
+RULED = 'open\nbatch\nput 1 61 01\nput 1 62 02\nput 1 63 03\nmerkleize 1 hold none\nops 1\napply 1\nbatch\nmerkleize 2 rule:2:9:drop=02 none\nops 2\napply 2\ninfo'.split('\n')
+failing('table: one put', WORDS, ONE.split('\n')[:-1], {0: 3, 3: 1, 4: 1, 6: 1})
+failing('table: the ordered rule', ORDERED, RULED, {0: 3, 7: 1, 9: 4, 11: 1})
+failing('table: one put, current', CURRENT, ONE.split('\n')[:-1], {0: 4, 3: 1, 4: 1, 6: 1})
+TWO_KEYS = 'open\nbatch\nput 1 61 01\nput 1 63 03\nmerkleize 1 hold aa\nops 1\napply 1\nget 61\nget 63\nbatch\ndel 2 61\nmerkleize 2 hold none\napply 2\nget 61\ninfo'.split('\n')
+# to delete a key reads where it is live; an ordered database looks for the update before it in the key's own bucket, then round the ring
+for words in (CURRENT, CURRENT_ORDERED):
+    failing('table: two keys under hold, ' + words[4:], words, TWO_KEYS, {0: 4, 6: 1, 7: 1, 8: 1, 11: 1 if words == CURRENT else 3, 12: 1})
+HUNDRED = ['open', 'batch'] + ['put 1 %02x %02x' % (i, i) for i in range(1, 101)] + ['merkleize 1 prop none', 'apply 1', 'batch'] + ['put 2 %02x %02x' % (i, i) for i in range(2, 51)] + ['merkleize 2 prop none', 'apply 2', 'get 01', 'info']
+# the second batch looks 49 keys up, and its walk comes to each operation from location 2 to 100
+failing('table: a hundred keys, and 49 of them written again', CURRENT, HUNDRED, {0: 4, 102: 1, 103: 1, 154: 49 + 99, 155: 1, 156: 1})
+
+# ---- trees whose merges are delayed
+KINDS = tuple('run %s %s mmb' % (a, b) for a in ('any', 'current') for b in ('unordered', 'ordered'))
+section('A chunk that waits for its node, with proofs of it, and a boundary that waits for a pair; mountain ranges have neither.')
+ONE_BY_ONE = 'open\n' + ''.join('batch\nput %d 6b 76\nmerkleize %d prop none\napply %d\n' % (i, i, i) for i in range(1, 101)) + 'info\nheld 6b\nchunks 0 9\nwitness\nroot\n'
+ranges, _, _ = modelled('a key in 100 batches', ONE_BY_ONE, words=CURRENT)
+for text, boundary in ((ranges, 256), (DONE['run current unordered mmb', ONE_BY_ONE.encode()][1], 0)):
+    assert 'info 0 301 299 %d live\nheld 299 yes\nchunks 9 1 yes\nwitness yes\n' % boundary in text
+for words in ('run current unordered mmb', 'run current ordered mmb'):
+    text, _, _ = modelled('pruned up to a pair, ' + words[4:], LONG + 'info\nprune 513\nprune 512\ninfo\n' + SHOWN + 'crash 0\nopen\ninfo\n' + SHOWN, words=words, stage=DELAYED)
+    assert 'info 0 799 797 512 live\nrefused PruneBeyondMinRequired 513 512\nok\ninfo 512 799 797 512 live\n' in text
+section('Proofs, pins and forks over trees whose merges are delayed.')
+for words in KINDS:
+    modelled('proofs and pins, ' + words[4:], 'open\nbatch\nput 1 61 01\nput 1 62 02\nmerkleize 1 prop none\napply 1\nproof 1\npins 5\npins 4\npins 0\nprove 5 0 9\nprove 4 2 1\nchild 1\nput 2 63 03\nmerkleize 2 hold aa\nchild 2\ndel 3 61\nmerkleize 3 prop none\nproof 3\napply 3\nroot\nroot 3\ncommit\nprune 2\npins 5\nprove 9 5 9\nclose\nopen\nroot\n', words=words, stage=DELAYED)
+section('Scripts over trees whose merges are delayed.')
+for words in KINDS:
+    for seed in range(8):
+        lines = fuzz.script('delayed rows %d' % seed, words[4:], DELAYED, (12, 25, 40)[seed % 3], bad=seed % 5 == 0)
+        said = ''.join(x + '\n' for x in lines)
+        if len(said) <= 1800: modelled('delayed script %d, %s' % (seed, words[4:]), said, words=words, stage=DELAYED)
+
+# each worked row of these stands above
+for row in check_rows.load_rows():
+    first, last = check_rows.stages_of(row)
+    if first > DELAYED or last < DELAYED or 'initial' in row or len(row['runs']) > 1: continue
+    run, = row['runs']
+    words = ' '.join(run['words'])
+    asked = words, check_rows.row_input(run)
+    # (that of a rebuild by workers)
+    if words not in KINDS or row['name'] == 'rebuild mmb': continue
+    assert DONE[asked] == (run['status'], run['output']), row['name']
 
 dest = sys.argv[1]
 open(dest + '/stdin', 'w').write('\n'.join(inp).lstrip('\n') + '\n')

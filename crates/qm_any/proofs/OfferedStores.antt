@@ -1,7 +1,6 @@
 -- What opens a database over sha256, and what makes one last or ends it, as an offer says it.
-use Rattle.std.proofs.Common.{arith, ◌≡◌, ◌⊎◌, inl, inr, ◌≤◌, ◌<◌, ℕ, zero, suc, Bool, true, false, List, [], ◌∷◌, length, map, Option, Some, None, IfSome, refl, sym, ap, ◌∙◌, subst}
-use Rattle.std.specs.Prelude.{◌^◌, nat_lt, if◌then◌else◌, option_map, option_and_then}
-use Rattle.std.specs.Option.{option_or}
+use Rattle.std.proofs.Common.{arith, ◌≡◌, ◌⊎◌, inl, inr, ◌≤◌, ◌<◌, ℕ, Bool, true, false, List, length, map, Option, Some, None, ap, ◌∙◌, subst}
+use Rattle.std.specs.Prelude.{◌^◌, nat_lt, if◌then◌else◌}
 use Rattle.qm_model.specs.Families.{Births, IsFamily, HasPeaks}
 use Rattle.qm_model.specs.Trees.{Shape}
 use Rattle.std.specs.Prelude.{Result, Ok, Err, IfOk, IfErr}
@@ -21,8 +20,7 @@ use Rattle.qm_store.specs.Given.{store_after, store_given}
 use Rattle.qm_store.specs.Refusals.{refusal_of}
 use Rattle.qm_any.specs.Lasting.{cut_to, IsHeadAt}
 use Rattle.qm_any.specs.Databases.{Database, IsDatabase}
-use Rattle.qm_model.specs.Schemes.{layout_of}
-use Rattle.qm_model.specs.Taken.{IsTaken, selected_size, head_at, taken, StaysBeside, after_prune, LeavesOpening, LeavesSync, LeavesPrune}
+use Rattle.qm_model.specs.Taken.{head_at, StaysBeside, after_prune, LeavesSync, LeavesPrune}
 use Rattle.qm_any.proofs.OfferedHeads.{head-is, scheme}
 use Rattle.qm_any.specs.Offered.{sha256_hashing}
 

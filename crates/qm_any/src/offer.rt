@@ -6,9 +6,6 @@ ghost use Rattle.qm_model.specs.Live.{floor};
 ghost use Rattle.qm_merkle.proofs.Standing.{peaks-none};
 ghost use Rattle.qm_any.specs.Databases.{IsDatabase, IsBegun, IsStaged, IsMade, staged_keys};
 ghost use Rattle.qm_any.specs.Offered.{sha256_hashing, sha256_layout, scheme_of};
-ghost use Rattle.qm_model.specs.Mmr.{mmr, mmr_births};
-ghost use Rattle.qm_model.proofs.MmrFamily.{mmr_is_family};
-ghost use Rattle.qm_model.proofs.MmrPeaks.{mmr_has_peaks};
 
 mod batches;
 mod durable;
@@ -26,7 +23,7 @@ use crate::staged::Staged;
 use qm_base::{Digest, Location, Sha256, Sha256Digest};
 use qm_bits::Chunks;
 use qm_index::{Factory, FourCap};
-use qm_merkle::mmr;
+use qm_merkle::Family;
 use qm_offer::{BatchSizes, Common, Engine, Meaning, Numbers};
 use qm_operations::Update;
 use qm_step::kind::Steps;
@@ -34,38 +31,37 @@ use qm_store::Store;
 use std::rc::Rc;
 
 impl<
+    F: Family,
     C: Store + Drop,
-    I: qm_index::Unordered<Value = Location<mmr::Family>> + Drop,
+    I: qm_index::Unordered<Value = Location<F>> + Drop,
     U: Update,
     N: Chunks,
-> Meaning<C> for Db<mmr::Family, C, I, Sha256, U, N> {
-    type Batch = UnmerkleizedBatch<mmr::Family, Sha256Digest, U>;
+> Meaning<C> for Db<F, C, I, Sha256, U, N> {
+    type Batch = UnmerkleizedBatch<F, Sha256Digest, U>;
 
-    type Staged = Staged<mmr::Family, Sha256Digest, U>;
+    type Staged = Staged<F, Sha256Digest, U>;
 
-    type Merkleized = Rc<MerkleizedBatch<mmr::Family, Sha256Digest, U>>;
+    type Merkleized = Rc<MerkleizedBatch<F, Sha256Digest, U>>;
 
     ghost inside = { λ db. db.log.store };
 
-    ghost stands = { λ db list. IsDatabase C.Store (sha256_layout mmr N.LEN U.form I.index_key) db list };
+    ghost stands = { λ db list. IsDatabase C.Store (sha256_layout F.shape N.LEN U.form I.index_key) db list };
 
     ghost numbered = { λ db n. ⊤ };
 
-    ghost is_batch = { λ b chain above ws. IsBegun (sha256_hashing mmr U.form) b chain above × (b.writes ≡ ws) };
+    ghost is_batch = { λ b chain above ws. IsBegun (sha256_hashing F.shape U.form) b chain above × (b.writes ≡ ws) };
 
-    ghost is_staged = { λ s chain above ws keys. IsStaged (sha256_hashing mmr U.form) s chain above × (s.batch.writes ≡ ws) × (staged_keys s ≡ keys) };
+    ghost is_staged = { λ s chain above ws keys. IsStaged (sha256_hashing F.shape U.form) s chain above × (s.batch.writes ≡ ws) × (staged_keys s ≡ keys) };
 
     ghost count = { λ s. length (staged_keys s) };
 
     ghost counted = { λ s chain above ws keys is. ap length is.2 };
 
-    ghost is_merkleized = { λ b chain tip. IsMade (sha256_hashing mmr U.form) b.value chain tip };
+    ghost is_merkleized = { λ b chain tip. IsMade (sha256_hashing F.shape U.form) b.value chain tip };
 
     ghost evictions = { λ b. b.value.evicted };
 
-    ghost scheme = { scheme_of 32 (sha256_hashing mmr U.form) };
-
-    ghost bounds = { record { low = λ list. le_refl (floor list); chunks = tt; prompt = tt; over = tt } };
+    ghost scheme = { scheme_of 32 (sha256_hashing F.shape U.form) };
 
     ghost formed = { λ x list is. is.lent.of };
 
@@ -73,12 +69,13 @@ impl<
 }
 
 impl<
+    F: Family,
     C: Store + Drop,
-    I: qm_index::Unordered<Value = Location<mmr::Family>> + Drop,
+    I: qm_index::Unordered<Value = Location<F>> + Drop,
     U: Update,
     N: Chunks,
-> Common<C> for Db<mmr::Family, C, I, Sha256, U, N> {
-    type Family = mmr::Family;
+> Common<C> for Db<F, C, I, Sha256, U, N> {
+    type Family = F;
 
     type Key = U::Key;
 
@@ -116,12 +113,15 @@ impl<
         }
     }
 
-    ghost bare = { peaks-none mmr mmr_births mmr_is_family mmr_has_peaks };
+    ghost bare = { peaks-none F.shape F.births F.numbered F.peaked };
+
+    ghost bounds = { record { low = λ list. le_refl (floor list); chunks = tt; prompt = tt; over = tt } };
 }
 
 impl<
+    F: Family,
     C: Store + Drop,
-    I: Factory<Value = Location<mmr::Family>, Translator = FourCap> + Drop,
-    U: Steps<mmr::Family, I>,
+    I: Factory<Value = Location<F>, Translator = FourCap> + Drop,
+    U: Steps<F, I>,
     N: Chunks,
-> Engine<C> for Db<mmr::Family, C, I, Sha256, U, N> {}
+> Engine<C> for Db<F, C, I, Sha256, U, N> {}

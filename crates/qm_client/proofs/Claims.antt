@@ -21,7 +21,7 @@ use Rattle.qm_client.specs.ProofForms.{KeyProof, held, linked, absent, with_leng
 use Rattle.qm_client.specs.Claims.{Claim, has, lacks, IsClaim, ClaimSays, claim_verdict, claim_inputs}
 use Rattle.qm_model.proofs.Numbers.{length-four_bytes}
 use Rattle.qm_model.proofs.Forms.{decoded-spelling}
-use Rattle.qm_client.proofs.Fields.{read_key-field, read_value-field}
+use Rattle.qm_model.proofs.Forms.{read_key-field, read_value-field}
 use Rattle.qm_model.proofs.Proving.{true_or_false}
 use Rattle.qm_model.proofs.Speaking.{both_true, each_of}
 use Rattle.qm_model.proofs.KeySpeaking.{operation_speaks, key_speaks_of_the_map, spanned_speaks, emptied_speaks}

@@ -1,4 +1,4 @@
-pub mod Fields
 pub mod ProofForms
 pub mod Reading
 pub mod Claims
+pub mod Checked

@@ -12,7 +12,7 @@ use Rattle.qm_model.specs.RangeProofs.{RangeProof, OperationProof, spanned, empt
 use Rattle.qm_client.specs.ProofForms.{KeyProof, held, linked, absent, most_digests, with_lengths, digest_field, digests_spelling, range_spelling, operation_spelling, proof_spelling, IsRangeOf, IsOperationOf, IsProofOf, IsProofSpelling, Reader, both, mapped, read_eight, read_count, read_each, read_digests, read_digest, range_of, read_range, operation_of, read_operation, spanned_of, read_whole, read_proof}
 use Rattle.qm_model.proofs.Numbers.{AreBytes, length-four_bytes, length-eight_bytes, number_of_four-four_bytes, number_of_eight-eight_bytes, four_bytes-number_of_four, eight_bytes-number_of_eight}
 use Rattle.qm_model.proofs.Options.{IfSome-and_then, IfSome-map, IfSome-if}
-use Rattle.qm_client.proofs.Fields.{first_bytes-append, read_key-field, read_value-field, read_metadata-field, IsCut, first_bytes-cut, IsRead, read_key-read, read_value-read, read_metadata-read, IsMetadata}
+use Rattle.qm_model.proofs.Forms.{first_bytes-append, read_key-field, read_value-field, read_metadata-field, IsCut, first_bytes-cut, IsRead, read_key-read, read_value-read, read_metadata-read, IsMetadata}
 
 -- A reader takes back what is fit and was written, whatever stands behind it, and gives only what, written, the bytes begin with.
 record Codec {A : Type 0} (write : A → Bytes) (IsFit : A → Type 0) (read : Reader A) : Type 0 where

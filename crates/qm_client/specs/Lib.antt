@@ -3,5 +3,4 @@ pub mod ProofFormRows
 pub mod Tags
 pub mod Views
 pub mod Claims
-pub mod Checking
-pub mod CheckRows
+pub mod Provable

@@ -1,5 +1,5 @@
 -- What the checks of a current database's proofs come to, by what makes them and what checks them.
-use Rattle.std.proofs.Common.{◌≡◌, ◌∙◌, ◌<◌, ◌≤◌, ◌+◌, ◌-◌, ℕ, Bool, List, [], ◌∷◌, length, map, take, drop, Option, None, Some, arith, ap, ap₂, sym, refl}
+use Rattle.std.proofs.Common.{◌≡◌, ◌∙◌, ◌≤◌, ◌+◌, ◌-◌, ℕ, Bool, List, [], ◌∷◌, length, map, take, drop, Option, None, Some, arith, ap, ap₂, sym, refl}
 use Rattle.std.specs.Prelude.{option_map, unwrap_or}
 use Rattle.std.proofs.lemmas.List.{take-map, drop-map, length-map, length-take-le, length-drop}
 use Rattle.qm_model.specs.Operations.{Bytes, Operation}

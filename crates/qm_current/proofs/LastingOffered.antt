@@ -16,7 +16,7 @@ use Rattle.qm_any.proofs.Lasting.{reads-itself}
 use Rattle.qm_current.specs.Applying.{store_in}
 use Rattle.qm_current.specs.Databases.{Database, IsCounted, IsDatabase}
 use Rattle.qm_current.specs.Lasting as lasts
-use Rattle.qm_current.specs.Lasting.{AreEntries, HasCounted, HasLeftCounted, HasLeftPruned, HasLeftUncounted, HasPruned}
+use Rattle.qm_current.specs.Lasting.{AreEntries, HasLeftPruned, HasLeftUncounted}
 use Rattle.qm_current.specs.Offered.{IsOffered, offered_name, scheme_of}
 
 -- what is so of what a store tells turns with it

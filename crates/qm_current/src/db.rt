@@ -326,3 +326,12 @@ pub fn sync_boundary<F: Graftable, N: Chunks>(floor_chunks: u64, size: u64) -> L
     let floor = floor_chunks * N::span();
     Location::new(qm_chunks::sync_boundary::<F>(height::<N>(), floor, size))
 }
+
+/// The least size of a list from which so many chunks may be pruned, if the node over the last of them and its neighbour waits for
+/// more than its own operations. An opening refuses a list below it, if so many chunks are pruned.
+pub fn pair_absorption_threshold<F: Graftable, N: Chunks>(chunk_count: u64) -> Option<u64>
+    requires within { chunk_count * (8 * N.LEN) ≤ 2 ^ 62 }
+    ensures { result ≡ grafts.pair_absorption_threshold F.shape (grafting N.LEN) chunk_count }
+{
+    qm_chunks::pair_absorption_threshold::<F>(height::<N>(), chunk_count)
+}

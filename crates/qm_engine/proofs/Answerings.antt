@@ -10,7 +10,7 @@ use Rattle.qm_model.proofs.Chains.{Begins-self}
 use Rattle.qm_model.specs.Policies.{Policy, policies}
 use Rattle.qm_machine.specs.Lines.{Line, Answer, Destroy}
 use Rattle.qm_machine.specs.Machine.{State, choices_after, initial, turn, answers}
-use Rattle.qm_model.specs.Schemes.{Scheme, engine_of}
+use Rattle.qm_model.specs.Schemes.{HasBounds, Scheme, engine_of}
 use Rattle.qm_machine.specs.Grammar.{lines_of, line_of, commands_in}
 use Rattle.qm_machine.specs.Text.{reply_line, text_of}
 use Rattle.qm_machine.proofs.Relabelled.{relabelled, turn_relabelled, choices-relabelled}
@@ -196,18 +196,18 @@ answered_at m log choices input k text left few so_far = record {
 }
 
 -- between two lines of a sound run: the next one was answered
-pub line_goes : {X C B S M : Type 0} (members : stores.Ghosts C) (means : meaning.Ghosts X C B S M) (old new : Session X C B S M) (more rest : List ℕ) (before text : Bytes) (o : Option (Line Policy)) → IfSome o (λ c. IsChosen c more)
+pub line_goes : {X C B S M : Type 0} (members : stores.Ghosts C) (means : meaning.Ghosts X C B S M) → HasBounds means.scheme → (old new : Session X C B S M) (more rest : List ℕ) (before text : Bytes) (o : Option (Line Policy)) → IfSome o (λ c. IsChosen c more)
     → ((s : State) → Stands members means old s → IsSteady means.scheme s → s.choices ≡ more ++ rest → IfSome o (λ c. Apart means.scheme.root ((turn means.scheme policies s c).1).had → (text ≡ with_line before (turn means.scheme policies s c).0) × Stands members means new (turn means.scheme policies s c).1))
     → (s : State) → Between members means policies old (more ++ rest) s → IfSome o (λ c. Apart means.scheme.root ((turn means.scheme policies s c).1).had → (text ≡ with_line before (turn means.scheme policies s c).0) × Between members means policies new rest (turn means.scheme policies s c).1)
-line_goes members means old new more rest before text None chosen did s between = tt
-line_goes members means old new more rest before text (Some c) chosen did s between =
-    goes-between members means policies old new more rest c (λ s. text ≡ with_line before (turn means.scheme policies s c).0) chosen did s between
+line_goes members means bounds old new more rest before text None chosen did s between = tt
+line_goes members means bounds old new more rest before text (Some c) chosen did s between =
+    goes-between members means policies bounds old new more rest c (λ s. text ≡ with_line before (turn means.scheme policies s c).0) chosen did s between
 
 -- between two lines of a sound run: what the next one may leave is a store that databases leave
-pub line-own : {X C B S M : Type 0} (members : stores.Ghosts C) (means : meaning.Ghosts X C B S M) (session : Session X C B S M) (rest : List ℕ) (o : Option (Line Policy)) (left : Option Stored) (s : State) → IfSome left (λ t. t.stable ≤ end_of t)
+pub line-own : {X C B S M : Type 0} (members : stores.Ghosts C) (means : meaning.Ghosts X C B S M) → HasBounds means.scheme → (session : Session X C B S M) (rest : List ℕ) (o : Option (Line Policy)) (left : Option Stored) (s : State) → IfSome left (λ t. t.stable ≤ end_of t)
     → Between members means policies session rest s → Apart means.scheme.root s.had → IsLeft means.scheme left s.log (after_line means.scheme policies s o).log → IsOwnLeft means.scheme policies left s.log (after_line means.scheme policies s o).log
-line-own members means session rest None left s stable between apart is = owned means.scheme policies s.log s.log between.sound.kept between.sound.kept (inl (Begins-self s.log.list)) left stable is
-line-own members means session rest (Some line) left s stable between apart is = own-left members means policies session rest line left s stable between apart is
+line-own members means bounds session rest None left s stable between apart is = owned means.scheme policies s.log s.log between.sound.kept between.sound.kept (inl (Begins-self s.log.list)) left stable is
+line-own members means bounds session rest (Some line) left s stable between apart is = own-left members means policies bounds session rest line left s stable between apart is
 
 -- what holds, if there is none; and what follows, if there is one
 pub none-any : {X : Type 0} (o : Option X) {P : Type 0} → P → IfNone o P

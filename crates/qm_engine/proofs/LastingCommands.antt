@@ -15,7 +15,7 @@ use Rattle.qm_model.specs.StoreModel as model
 use Rattle.qm_machine.specs.Lines.{Answer}
 use Rattle.qm_machine.specs.Lines as lines
 use Rattle.qm_machine.specs.Machine.{State, with_database}
-use Rattle.qm_model.specs.Schemes.{Grafts, Scheme, chunks_of, engine_of}
+use Rattle.qm_model.specs.Schemes.{Grafts, HasBounds, Scheme, chunks_of, engine_of}
 use Rattle.qm_machine.specs.Machine as machine
 use Rattle.qm_machine.specs.Sound.{IsSteady}
 use Rattle.qm_base.specs.declared.error.Error.{Error}
@@ -166,7 +166,7 @@ module _ {X C B S M K V D : Type 0} (members : stores.Ghosts C) (means : meaning
             (failing list is (members.told done.failed.store) (done.failed.left.told list (writes-of means means.scheme.grafts x list stands)))
 
   -- Of a database, what a commit makes of its store, and a sync, and what is left of one that failed.
-  module _ (x : X) (table : List (Slot B S M)) (opened : ℕ) (s : State) (k : Holds members means (Database x) table opened s) (peakless : IsBare means.scheme) where
+  module _ (x : X) (table : List (Slot B S M)) (opened : ℕ) (s : State) (k : Holds members means (Database x) table opened s) (peakless : IsBare means.scheme) (bounds : HasBounds means.scheme) where
     pub commit-settles : (list : List Operation) → s.database ≡ Some list → (t : Stored) → own.IsStored (engine_of means.scheme policies) s.log t → own.IsStored (engine_of means.scheme policies) (machine.settled s.log) (settled t)
     commit-settles list is t has = stored-settled means.scheme peakless s.log t has (omega (arith, k.start, k.within))
 
@@ -178,11 +178,11 @@ module _ {X C B S M K V D : Type 0} (members : stores.Ghosts C) (means : meaning
       pub sync-settles : (list : List Operation) → s.database ≡ Some list → (t : Stored) → own.IsStored (engine_of means.scheme policies) s.log t → own.IsStored (engine_of means.scheme policies) (machine.settled s.log) (synced means.scheme list t)
       sync-settles list is t has =
           subst (λ ops. own.IsStored (engine_of means.scheme policies) (machine.settled s.log) (synced means.scheme ops t)) (steady.held list is).0
-          (stored-synced means.scheme peakless means.bounds.over s.log t has (omega (arith, k.start, k.within)) steady.few)
+          (stored-synced means.scheme peakless bounds.over s.log t has (omega (arith, k.start, k.within)) steady.few)
 
       pub sync-left : (list : List Operation) → s.database ≡ Some list → (left : Option Stored) → model.Turns (members.told (means.inside x)) left (LeavesSync means.scheme list) → IsLeft means.scheme left s.log (machine.settled s.log)
       sync-left list is left made =
-          left_synced means.scheme peakless means.bounds.over (members.told (means.inside x)) left s.log steady.counts k.store.told k.start k.within steady.few
+          left_synced means.scheme peakless bounds.over (members.told (means.inside x)) left s.log steady.counts k.store.told k.start k.within steady.few
           (subst (λ ops. model.Turns (members.told (means.inside x)) left (LeavesSync means.scheme ops)) (sym (steady.held list is).0) made)
 
   pub settled_handles : (x : X) (After : List Operation → Stored → Stored) (Left : List Operation → Stored → Stored → Type 0) (settling : Result X (Refusal X C)) → IsSettling means members After Left x settling
@@ -195,7 +195,7 @@ module _ {X C B S M K V D : Type 0} (members : stores.Ghosts C) (means : meaning
   settled_handles x After Left (Err r) done = given-up_handles x r _ done.failed done.failed.left.beside
 
   -- A prune of a database.
-  module _ (x : X) (pruning : Result X (Refusal X C)) (table : List (Slot B S M)) (opened : ℕ) (s : State) (k : Holds members means (Database x) table opened s) (steady : IsSteady means.scheme s) (to : ℕ) (peakless : IsBare means.scheme) where
+  module _ (x : X) (pruning : Result X (Refusal X C)) (table : List (Slot B S M)) (opened : ℕ) (s : State) (k : Holds members means (Database x) table opened s) (steady : IsSteady means.scheme s) (to : ℕ) (peakless : IsBare means.scheme) (bounds : HasBounds means.scheme) where
     -- the list, with a location within its boundary
     module _ (list : List Operation) (is : s.database ≡ Some list) (stands : means.stands x list) (within : to ≤ means.scheme.boundary list) where
       same-list : s.log.list ≡ list
@@ -205,7 +205,7 @@ module _ {X C B S M K V D : Type 0} (members : stores.Ghosts C) (means : meaning
       few = subst (λ ops. length ops ≤ 2 ^ 62) same-list steady.few
 
       below : to ≤ floor list
-      below = let low = means.bounds.low list in omega (arith, within, low)
+      below = let low = bounds.low list in omega (arith, within, low)
 
       far : to ≤ length s.log.list
       far = let low = below in let inside = steady.within list is in omega (arith, low, inside, ap length same-list)
@@ -222,7 +222,7 @@ module _ {X C B S M K V D : Type 0} (members : stores.Ghosts C) (means : meaning
           let first = members.start (means.inside x) in
           has-become means.scheme peakless (members.told (means.inside x)) (members.told (means.inside after)) s.log (machine.pruned means.scheme.grafts to s.log) (after_prune means.scheme s.log.list first to done.head) k.store.told
           (done.store.told s.log.list (writes-of means means.scheme.grafts x s.log.list (subst (means.stands x) (sym same-list) stands)))
-          (λ t has. stored-after means.scheme peakless means.bounds.over s.log t has (omega (arith, k.start, k.within)) steady.few first to done.head k.store.start far
+          (λ t has. stored-after means.scheme peakless bounds.over s.log t has (omega (arith, k.start, k.within)) steady.few first to done.head k.store.start far
           (λ later. head_is done.head (done.heads (subst (λ n. n < to) (sym k.store.start) later))))
 
     -- or refuses to, past the boundary
@@ -285,7 +285,7 @@ module _ {X C B S M K V D : Type 0} (members : stores.Ghosts C) (means : meaning
             (with_held members means x s.had s.database s (λ list. machine.prune_in means.scheme s to list) (Left up.store) k.database
             (λ list is stands in_had. let within = fits list stands in
             pruned_as list is stands within (Left up.store)
-            (left_pruned means.scheme peakless means.bounds.over (members.told (means.inside x)) (members.told up.store) s.log steady.counts k.store.told k.start k.within steady.few (members.start (means.inside x)) to (IsHeadOf means x to) k.store.start
+            (left_pruned means.scheme peakless bounds.over (members.told (means.inside x)) (members.told up.store) s.log steady.counts k.store.told k.start k.within steady.few (members.start (means.inside x)) to (IsHeadOf means x to) k.store.start
             (far list is stands within) (head_is list is stands within)
             (up.left.told s.log.list (writes-of means means.scheme.grafts x s.log.list (subst (means.stands x) (sym (same-list list is stands within)) stands))))))
 

@@ -25,6 +25,7 @@ use Rattle.qm_model.proofs.Chains.{Begins-through}
 use Rattle.qm_model.proofs.Crashes.{settled-in, settled-within}
 use Rattle.qm_model.proofs.LastWrites.{bytes_same}
 use Rattle.qm_model.proofs.Metadata.{metadata-counted}
+use Rattle.qm_model.proofs.Speaking.{peaks_few}
 use Rattle.qm_model.proofs.Openings.{empty-own, begins_take, begins_both, all_pass, not_when}
 use Rattle.qm_machine.specs.Machine as machine
 use Rattle.qm_engine.specs.Stores.{HasLog, HasEnds, least, MayBe, grown, cut, counted, moved, emptied, IsLeft}
@@ -276,15 +277,21 @@ module _ (m : Scheme) (bare : IsBare m) where
           head = is.head;
           metadata = subst (λ chunks. MetadataIs chunks (record log { chunks = n }) (with_metadata c.name (entries_of (metadata m.hash m.shape c.height m.form log.list n)) s)) (sym same)
               (subst (λ es. own.IsCounted (engine_of m policies) c (record log { chunks = n }) es) (sym found)
-              (metadata-counted (engine_of m policies) c (record log { chunks = n }) same may over.sized (over.few n) small));
+              (metadata-counted (engine_of m policies) c (record log { chunks = n }) same may over.sized few small));
           stable = is.stable;
         }
           where
             found : metadata_in (with_metadata c.name (entries_of (metadata m.hash m.shape c.height m.form log.list n)) s).metadata c.name ≡ entries_of (metadata m.hash m.shape c.height m.form log.list n)
             found = ap (λ t. if t then entries_of (metadata m.hash m.shape c.height m.form log.list n) else metadata_in (filter (λ x. not (bytes_eq c.name x.name)) s.metadata) c.name) (bytes_same c.name)
 
+            within : n ≤ 2 ^ 62
+            within = let up = mul-le n 1 n (2 ^ c.height) (le_refl n) (pow_pos c.height) in omega (arith, may, up)
+
             small : n < 2 ^ 64
-            small = let up = mul-le n 1 n (2 ^ c.height) (le_refl n) (pow_pos c.height) in omega (arith, may, up)
+            small = omega (arith, within)
+
+            few : length (peaks m.shape n) ≤ 2 ^ 64
+            few = omega (arith, within, peaks_few m.shape over.births over.trees.family over.trees.peaked n within)
 
     -- a log that starts within its list
     module _ (inside : log.start ≤ length log.list) where

@@ -11,7 +11,7 @@ use Rattle.qm_model.specs.Opening.{Chunks}
 use Rattle.qm_model.specs.Batches.{Apart, Chain}
 use Rattle.qm_machine.specs.Lines.{Line, Answer}
 use Rattle.qm_machine.specs.Machine.{State, initial, slot_at, turn, answers, state_after}
-use Rattle.qm_model.specs.Schemes.{Scheme, chunks_of, engine_of}
+use Rattle.qm_model.specs.Schemes.{HasBounds, Scheme, chunks_of, engine_of}
 use Rattle.qm_machine.proofs.Runs.{state_after-push, answers-push, Apart-before}
 use Rattle.qm_engine.specs.Stores.{HasLog, IsLeft}
 use Rattle.qm_engine.specs.Runs.{IsRun, IsOwnStore, IsOwnLeft}
@@ -167,15 +167,15 @@ module _ {X C B S M : Type 0} (members : stores.Ghosts C) (means : meaning.Ghost
       by (Store c) at = absurd at
 
   -- and goes on
-  pub goes-between : (old new : Session X C B S M) (more rest : List ℕ) (line : Line P) (T : State → Type 0) → IsChosen line more
+  pub goes-between : HasBounds means.scheme → (old new : Session X C B S M) (more rest : List ℕ) (line : Line P) (T : State → Type 0) → IsChosen line more
       → ((s : State) → Stands members means old s → IsSteady means.scheme s → s.choices ≡ more ++ rest → Apart means.scheme.root ((turn means.scheme rules s line).1).had → T s × Stands members means new (turn means.scheme rules s line).1)
       → (s : State) → Between members means rules old (more ++ rest) s → Apart means.scheme.root ((turn means.scheme rules s line).1).had → T s × Between members means rules new rest (turn means.scheme rules s line).1
-  goes-between old new more rest line T chosen did s between apart =
-      let done = did s between.stands (sound-steady means.scheme rules means.bounds s between.sound) between.choices apart in (
+  goes-between bounds old new more rest line T chosen did s between apart =
+      let done = did s between.stands (sound-steady means.scheme rules bounds s between.sound) between.choices apart in (
         done.0,
         record {
           stands = done.1;
-          sound = turn-sound means.scheme rules means.bounds s line between.sound apart (formed new.held new.table.items new.opened (turn means.scheme rules s line).1 done.1);
+          sound = turn-sound means.scheme rules bounds s line between.sound apart (formed new.held new.table.items new.opened (turn means.scheme rules s line).1 done.1);
           choices = turn-choices means.scheme rules s line ∙ (ap (choices_after line) between.choices ∙ chosen rest);
         },
       )
@@ -192,10 +192,10 @@ module _ {X C B S M : Type 0} (members : stores.Ghosts C) (means : meaning.Ghost
       by (Staged b) is = absurd is
 
   -- what a command may leave there is one that databases leave
-  pub own-left : (session : Session X C B S M) (rest : List ℕ) (line : Line P) (left : Option Stored) (s : State) → IfSome left (λ t. t.stable ≤ end_of t) → Between members means rules session rest s → Apart means.scheme.root s.had
+  pub own-left : HasBounds means.scheme → (session : Session X C B S M) (rest : List ℕ) (line : Line P) (left : Option Stored) (s : State) → IfSome left (λ t. t.stable ≤ end_of t) → Between members means rules session rest s → Apart means.scheme.root s.had
       → IsLeft means.scheme left s.log ((turn means.scheme rules s line).1).log → IsOwnLeft means.scheme rules left s.log ((turn means.scheme rules s line).1).log
-  own-left session rest line left s stable between apart is =
-      let next = turn-followed means.scheme rules means.bounds s line between.sound apart (tips-formed session s between.stands) in
+  own-left bounds session rest line left s stable between apart is =
+      let next = turn-followed means.scheme rules bounds s line between.sound apart (tips-formed session s between.stands) in
       owned means.scheme rules s.log ((turn means.scheme rules s line).1).log between.sound.kept next.0 next.1 left stable is
 
 -- The choices that a run's store made, by its parts.

@@ -12,7 +12,7 @@ use Rattle.qm_model.proofs.Options.{IfSome-and_then, IfSome-map, IfSome-if}
 
 -- The spelling is decoded to its operation.
 
-first_bytes-append : (n : ℕ) (front back : Bytes) → length front ≡ n → first_bytes n (front ++ back) ≡ Some (front, back)
+pub first_bytes-append : (n : ℕ) (front back : Bytes) → length front ≡ n → first_bytes n (front ++ back) ≡ Some (front, back)
 first_bytes-append n front back len =
     let le : nat_le n (length (front ++ back)) ≡ true = le-leb _ _ (omega (arith, length-append front back)) in
     rw le (rw (take_at front back n len, drop_at front back n len))
@@ -23,11 +23,11 @@ read_field-field None bs back short =
     (first_bytes-append (length bs) bs back refl)
 read_field-field (Some n) bs back sized = first_bytes-append n bs back sized
 
-read_key-field : (form : Form) (bs back : Bytes) → IsKey form bs → read_key form (field (key_size form.sizes) bs ++ back) ≡ Some (bs, back)
+pub read_key-field : (form : Form) (bs back : Bytes) → IsKey form bs → read_key form (field (key_size form.sizes) bs ++ back) ≡ Some (bs, back)
 read_key-field form bs back is =
     ap (option_and_then (tested form.is_key)) (read_field-field (key_size form.sizes) bs back is.sized) ∙ ap (λ t. if t then Some (bs, back) else None) is.known
 
-read_value-field : (form : Form) (bs back : Bytes) → IsValue form bs → read_value form (field (value_size form.sizes) bs ++ back) ≡ Some (bs, back)
+pub read_value-field : (form : Form) (bs back : Bytes) → IsValue form bs → read_value form (field (value_size form.sizes) bs ++ back) ≡ Some (bs, back)
 read_value-field form bs back is =
     ap (option_and_then (tested form.is_value)) (read_field-field (value_size form.sizes) bs back is.sized) ∙ ap (λ t. if t then Some (bs, back) else None) is.known
 
@@ -38,7 +38,7 @@ read_next-field form (Some key) back kind is =
     ap (λ t. if t then option_map (λ p. (Some p.0, p.1)) (read_key form (field (key_size form.sizes) key ++ back)) else Some (None, field (key_size form.sizes) key ++ back)) (sym kind)
     ∙ ap (option_map (λ (p : Bytes × Bytes). (Some p.0, p.1))) (read_key-field form key back is)
 
-read_metadata-field : (form : Form) (meta : Option Bytes) (back : Bytes) → IfSome meta (IsValue form) →
+pub read_metadata-field : (form : Form) (meta : Option Bytes) (back : Bytes) → IfSome meta (IsValue form) →
     read_metadata form (metadata_field (value_size form.sizes) meta ++ back) ≡ Some (meta, back)
 read_metadata-field form None back is = refl
 read_metadata-field form (Some value) back is = ap (option_map (λ (p : Bytes × Bytes). (Some p.0, p.1))) (read_value-field form value back is)
@@ -169,13 +169,13 @@ AreBytes-take (suc n) (b ∷ bs) below zero = below zero
 AreBytes-take (suc n) (b ∷ bs) below (suc i) = AreBytes-take n bs (λ j. below (suc j)) i
 
 -- bytes before others, which together are these
-record IsCut (n : ℕ) (bs : Bytes) (p : Bytes × Bytes) : Type 0 where
-  whole : p.0 ++ p.1 ≡ bs
-  count : length p.0 ≡ n
-  front : AreBytes p.0
-  back : AreBytes p.1
+pub record IsCut (n : ℕ) (bs : Bytes) (p : Bytes × Bytes) : Type 0 where
+  pub whole : p.0 ++ p.1 ≡ bs
+  pub count : length p.0 ≡ n
+  pub front : AreBytes p.0
+  pub back : AreBytes p.1
 
-first_bytes-cut : (n : ℕ) (bs : Bytes) → AreBytes bs → IfSome (first_bytes n bs) (IsCut n bs)
+pub first_bytes-cut : (n : ℕ) (bs : Bytes) → AreBytes bs → IfSome (first_bytes n bs) (IsCut n bs)
 first_bytes-cut n bs below =
     IfSome-if (IsCut n bs) (nat_le n (length bs)) _ _
     (λ h. record {
@@ -187,10 +187,10 @@ first_bytes-cut n bs below =
     (λ _. tt)
 
 -- what was read, spelled before the rest, which together are these bytes
-record IsRead {A : Type 0} (spelled : A → Bytes) (IsFit : A → Type 0) (bs : Bytes) (p : A × Bytes) : Type 0 where
-  whole : spelled p.0 ++ p.1 ≡ bs
-  fit : IsFit p.0
-  back : AreBytes p.1
+pub record IsRead {A : Type 0} (spelled : A → Bytes) (IsFit : A → Type 0) (bs : Bytes) (p : A × Bytes) : Type 0 where
+  pub whole : spelled p.0 ++ p.1 ≡ bs
+  pub fit : IsFit p.0
+  pub back : AreBytes p.1
 
 field_of_cuts : (bs : Bytes) (p q : Bytes × Bytes) → IsCut 4 bs p → IsCut (number_of_four p.0) p.1 q → IsRead (field None) (IsSized None) bs q
 field_of_cuts bs p q first second = record {
@@ -207,12 +207,12 @@ read_field-read None bs below =
 read_field-read (Some n) bs below =
     IfSome_then {X = Bytes × Bytes} _ {Q = IsRead (field (Some n)) (IsSized (Some n)) bs} (first_bytes-cut n bs below) (λ q cut. record { whole = cut.whole; fit = cut.count; back = cut.back })
 
-read_key-read : (form : Form) (bs : Bytes) → AreBytes bs → IfSome (read_key form bs) (IsRead (field (key_size form.sizes)) (IsKey form) bs)
+pub read_key-read : (form : Form) (bs : Bytes) → AreBytes bs → IfSome (read_key form bs) (IsRead (field (key_size form.sizes)) (IsKey form) bs)
 read_key-read form bs below =
     IfSome-and_then (IsRead (field (key_size form.sizes)) (IsSized (key_size form.sizes)) bs) _ (read_field (key_size form.sizes) bs) (tested form.is_key) (read_field-read (key_size form.sizes) bs below)
     (λ p read. IfSome-if _ (form.is_key p.0) _ _ (λ is. record { whole = read.whole; fit = record { known = is; sized = read.fit }; back = read.back }) (λ _. tt))
 
-read_value-read : (form : Form) (bs : Bytes) → AreBytes bs → IfSome (read_value form bs) (IsRead (field (value_size form.sizes)) (IsValue form) bs)
+pub read_value-read : (form : Form) (bs : Bytes) → AreBytes bs → IfSome (read_value form bs) (IsRead (field (value_size form.sizes)) (IsValue form) bs)
 read_value-read form bs below =
     IfSome-and_then (IsRead (field (value_size form.sizes)) (IsSized (value_size form.sizes)) bs) _ (read_field (value_size form.sizes) bs) (tested form.is_value) (read_field-read (value_size form.sizes) bs below)
     (λ p read. IfSome-if _ (form.is_value p.0) _ _ (λ is. record { whole = read.whole; fit = record { known = is; sized = read.fit }; back = read.back }) (λ _. tt))
@@ -227,10 +227,10 @@ read_next-read form bs below =
     (λ p read. record { whole = read.whole; fit = (sym is, read.fit); back = read.back }))
     (λ is. record { whole = refl; fit = (sym is, tt); back = below })
 
-abbrev IsMetadata : Form → Option Bytes → Type 0
+abbrev pub IsMetadata : Form → Option Bytes → Type 0
 IsMetadata form meta = IfSome meta (IsValue form)
 
-read_metadata-read : (form : Form) (bs : Bytes) → AreBytes bs → IfSome (read_metadata form bs) (IsRead (metadata_field (value_size form.sizes)) (IsMetadata form) bs)
+pub read_metadata-read : (form : Form) (bs : Bytes) → AreBytes bs → IfSome (read_metadata form bs) (IsRead (metadata_field (value_size form.sizes)) (IsMetadata form) bs)
 read_metadata-read form [] below = tt
 read_metadata-read form (mark ∷ bs) below =
     let below_rest : AreBytes bs = λ i. below (suc i) in

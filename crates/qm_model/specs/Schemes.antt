@@ -2,7 +2,7 @@
 use Rattle.std.specs.Prelude.{◌≤◌, ◌≡◌, ℕ, ◌/◌, ◌^◌, max, ◌==◌, length, Bool, true, if◌then◌else◌, List, Option, Some, None, IfSome, option_map}
 use Rattle.qm_model.specs.Operations.{Bytes, Operation}
 use Rattle.qm_model.specs.Forms.{Form}
-use Rattle.qm_model.specs.Trees.{Shape, ops_root, peaks}
+use Rattle.qm_model.specs.Trees.{Shape, ops_root}
 use Rattle.qm_model.specs.Live.{floor}
 use Rattle.qm_model.specs.Grafted.{boundary, canonical}
 use Rattle.qm_model.specs.Walk.{Rules}
@@ -76,12 +76,11 @@ kind_of m = if m.form.ordered then ordered else unordered
 abbrev pub chunks_of : Scheme → Option Chunks
 chunks_of m = option_map (λ g. g.chunks) m.grafts
 
--- Chunks have 8 locations at least, and stand over the trees of a family, of few peaks, whose digests are of one size.
+-- Chunks have 8 locations at least, and stand over the trees of a family, whose digests are of one size.
 pub record IsOver (hash : Bytes → Bytes) (shape : Shape) (size : ℕ) (c : Chunks) : Type 0 where
   pub enough : 3 ≤ c.height
   pub births : Births
   pub trees : HasPlaces shape births
-  pub few : (n : ℕ) → length (peaks shape n) ≤ 2 ^ 64
   pub sized : (m : Bytes) → length (hash m) ≡ size
 
 -- how its databases lie in a store

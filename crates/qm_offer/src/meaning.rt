@@ -5,7 +5,7 @@ ghost use Rattle.qm_model.specs.Forms.{IsOf};
 ghost use Rattle.qm_model.specs.Operations.{Bytes, Operation};
 ghost use Rattle.qm_model.specs.Writes.{Write};
 ghost use Rattle.qm_model.specs.Batches.{Chain};
-ghost use Rattle.qm_model.specs.Schemes.{Scheme, HasBounds};
+ghost use Rattle.qm_model.specs.Schemes.{Scheme};
 
 use qm_store::Store;
 
@@ -49,9 +49,6 @@ pub trait Meaning<C: Store> {
     /// What its machine stands on: how operations are spelled and hashed, the operations root of a list, which tells a batch
     /// whether it fits, and its root, up to where a list may be pruned, its proofs and pins, and what is grafted onto its trees.
     ghost scheme: { Scheme };
-
-    /// No list may be pruned past its floor, nor past the boundary of its chunks, if it has any.
-    ghost bounds: { HasBounds scheme };
 
     /// Its list is of operations of that form.
     ghost formed: { (x : Self) (list : List Operation) → stands x list → All (IsOf scheme.form) list };

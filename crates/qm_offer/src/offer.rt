@@ -4,6 +4,7 @@ ghost use Rattle.std.specs.Prelude.{◌≡◌, [], List, length, nat_lt, is_some
 ghost use Rattle.qm_model.specs.Batches.{Chain};
 ghost use Rattle.qm_model.specs.Live.{floor, live};
 ghost use Rattle.qm_model.specs.Operations.{Operation};
+ghost use Rattle.qm_model.specs.Schemes.{HasBounds};
 ghost use Rattle.qm_model.specs.Trees.{peaks};
 
 pub mod batches;
@@ -101,6 +102,9 @@ pub trait Common<C: Store>: Meaning<C> + Drop + Sized {
 
     /// Nothing has no peaks.
     ghost bare: { peaks Self.scheme.shape 0 ≡ [] };
+
+    /// No list may be pruned past its floor, nor past the boundary of its chunks, if it has any.
+    ghost bounds: { HasBounds Self.scheme };
 }
 
 /// A kind of database: one call for each command of a run.

@@ -9,12 +9,11 @@ use Rattle.qm_model.specs.Roots.{sha256_root, sha256_proof, sha256_pins}
 use Rattle.qm_model.specs.Schemes.{Scheme}
 use Rattle.qm_model.specs.Trees.{leaf, peaks, inactive_peaks, leaf_digest, digest_of, root, leaves_from, Shape}
 use Rattle.qm_any.specs.Layouts.{list_root}
-use Rattle.qm_model.specs.Mmr.{mmr}
 use Rattle.qm_any.specs.Offered.{scheme_of, sha256_hashing, sha256_layout}
 use Rattle.qm_current.specs.Offered.{offered_chunk, offered_name}
 use Rattle.qm_current.specs.Offered as currents
 use Rattle.qm_run.specs.declared.kind.Named.{Named}
-use Rattle.qm_run.specs.Program.{machine_at, machine_of}
+use Rattle.qm_run.specs.Program.{machine_of, machine_over, trees_of}
 use Rattle.qm_run.specs.Schemes.{current, scheme}
 
 -- a form with lengths spells operations as the machine does
@@ -70,9 +69,13 @@ module _ (shape : Shape) (form : Form) (lengths : form.sizes ≡ None) where
       ∙ ap (λ p. machine_with (sha256_root shape) (sha256_proof shape) p) all-pins-same
 
 -- the machine of current databases with chunks of 32 bytes is the program's
-pub current-same : (form : Form) (index_key : Bytes → ℕ) → currents.scheme_of 32 (sha256_layout mmr offered_chunk form index_key) offered_name ≡ current mmr form
-current-same form index_key = refl
+pub current-same : (shape : Shape) (form : Form) (index_key : Bytes → ℕ) → currents.scheme_of 32 (sha256_layout shape offered_chunk form index_key) offered_name ≡ current shape form
+current-same shape form index_key = refl
+
+-- the machine of what is asked for
+pub machine-asked : (shape : Shape) {asked_current asked_ordered is_current is_ordered : Bool} → asked_current ≡ is_current → asked_ordered ≡ is_ordered → machine_over shape is_current is_ordered ≡ machine_over shape asked_current asked_ordered
+machine-asked shape p q = ap₂ (machine_over shape) (sym p) (sym q)
 
 -- the machine of what is named
-pub machine-named : (named : Named) {is_current is_ordered : Bool} → named.is_current ≡ is_current → named.is_ordered ≡ is_ordered → machine_at is_current is_ordered ≡ machine_of named
-machine-named named p q = ap₂ machine_at (sym p) (sym q)
+pub machine-named : (named : Named) {is_delayed : Bool} → named.is_delayed ≡ is_delayed → machine_over (trees_of is_delayed) named.is_current named.is_ordered ≡ machine_of named
+machine-named named is = ap (λ delayed. machine_over (trees_of delayed) named.is_current named.is_ordered) (sym is)

@@ -1,5 +1,5 @@
 -- What the program may answer, write and leave.
-use Rattle.std.specs.Prelude.{◌≡◌, ◌≤◌, ◌<◌, ◌⊎◌, ℕ, suc, Bool, true, false, ◌&&◌, ◌||◌, if◌then◌else◌, List, [], ◌∷◌, ◌++◌, length, take, codes, Option, None, Some, option_map, is_some, bytes_eq, decimal, Contains, IfSome, ⊤}
+use Rattle.std.specs.Prelude.{◌≡◌, ◌≤◌, ◌<◌, ◌⊎◌, ℕ, suc, Bool, true, false, ◌||◌, if◌then◌else◌, List, [], ◌∷◌, ◌++◌, length, take, codes, Option, None, Some, option_map, is_some, bytes_eq, decimal, Contains, IfSome, ⊤}
 use Rattle.std.specs.Option.{option_and_then}
 use Rattle.qm_model.specs.Operations.{Bytes}
 use Rattle.qm_model.specs.Opening.{Chunks}
@@ -7,7 +7,9 @@ use Rattle.qm_model.specs.Own.{Log, IsOwn}
 use Rattle.qm_model.specs.StoreModel.{Stored, Turns}
 use Rattle.qm_model.specs.Policies.{policies}
 use Rattle.qm_model.specs.Batches.{Apart}
+use Rattle.qm_model.specs.Mmb.{mmb}
 use Rattle.qm_model.specs.Mmr.{mmr}
+use Rattle.qm_model.specs.Trees.{Shape}
 use Rattle.qm_machine.specs.Machine.{State, initial, answers}
 use Rattle.qm_model.specs.Schemes.{Scheme, chunks_of, engine_of}
 use Rattle.qm_machine.specs.Grammar.{commands_in, bad_in}
@@ -29,13 +31,18 @@ family_word word = if bytes_eq word (codes "any") then Some false else (if bytes
 abbrev pub order_word : Bytes → Option Bool
 order_word word = if bytes_eq word (codes "unordered") then Some false else (if bytes_eq word (codes "ordered") then Some true else None)
 
--- which databases two words name
-abbrev pub kind_named : Bytes → Bytes → Option Named
-kind_named family order = option_and_then (λ is_current. option_map (λ is_ordered. record { is_current = is_current; is_ordered = is_ordered }) (order_word order)) (family_word family)
+-- whether the word names trees whose merges are delayed, or mountain ranges
+abbrev pub tree_word : Bytes → Option Bool
+tree_word word = if bytes_eq word (codes "mmr") then Some false else (if bytes_eq word (codes "mmb") then Some true else None)
 
--- the words of the command line: run, then any or current, then unordered or ordered, then mmr
+-- which databases three words name
+abbrev pub kind_named : Bytes → Bytes → Bytes → Option Named
+kind_named family order trees =
+    option_and_then (λ is_current. option_and_then (λ is_ordered. option_map (λ is_delayed. record { is_current = is_current; is_ordered = is_ordered; is_delayed = is_delayed }) (tree_word trees)) (order_word order)) (family_word family)
+
+-- the words of the command line: run, then any or current, then unordered or ordered, then mmr or mmb
 abbrev pub kind_of_four : Bytes → Bytes → Bytes → Bytes → Option Named
-kind_of_four a b c d = if bytes_eq a (codes "run") && bytes_eq d (codes "mmr") then kind_named b c else None
+kind_of_four a b c d = if bytes_eq a (codes "run") then kind_named b c d else None
 
 abbrev pub kind_of_words : List Bytes → Option Named
 kind_of_words [] = None
@@ -45,15 +52,12 @@ kind_of_words (a ∷ b ∷ c ∷ []) = None
 kind_of_words (a ∷ b ∷ c ∷ d ∷ []) = kind_of_four a b c d
 kind_of_words (a ∷ b ∷ c ∷ d ∷ e ∷ ws) = None
 
--- which databases three words name, that follow those of a fill
-abbrev pub kind_of_three : Bytes → Bytes → Bytes → Option Named
-kind_of_three b c d = if bytes_eq d (codes "mmr") then kind_named b c else None
-
+-- which databases words name that follow those of a fill
 abbrev pub kind_of_databases : List Bytes → Option Named
 kind_of_databases [] = None
 kind_of_databases (b ∷ []) = None
 kind_of_databases (b ∷ c ∷ []) = None
-kind_of_databases (b ∷ c ∷ d ∷ []) = kind_of_three b c d
+kind_of_databases (b ∷ c ∷ d ∷ []) = kind_named b c d
 kind_of_databases (b ∷ c ∷ d ∷ e ∷ ws) = None
 
 -- the words of a fill: those of its seed and its rounds, and then those that follow run
@@ -69,12 +73,16 @@ is_fill ws = is_some (fill_words ws)
 abbrev pub are_words : List Bytes → Bool
 are_words ws = is_run ws || is_fill ws
 
--- the machine of current databases or of any ones, ordered or unordered
-abbrev pub machine_at : Bool → Bool → Scheme
-machine_at is_current is_ordered = if is_current then current mmr (form_of is_ordered) else scheme mmr (form_of is_ordered)
+-- the machine of current databases or of any ones, ordered or unordered, over trees of this shape
+abbrev pub machine_over : Shape → Bool → Bool → Scheme
+machine_over shape is_current is_ordered = if is_current then current shape (form_of is_ordered) else scheme shape (form_of is_ordered)
+
+-- trees whose merges are delayed, or mountain ranges
+abbrev pub trees_of : Bool → Shape
+trees_of is_delayed = if is_delayed then mmb else mmr
 
 abbrev pub machine_of : Named → Scheme
-machine_of named = machine_at named.is_current named.is_ordered
+machine_of named = machine_over (trees_of named.is_delayed) named.is_current named.is_ordered
 
 -- the machine of the words
 abbrev pub scheme_of : List Bytes → Option Scheme

@@ -9,7 +9,7 @@ ghost use Rattle.qm_model.specs.StoreModel.{Turns};
 ghost use Rattle.qm_lines.specs.Views.{answer_view, line_view};
 ghost use Rattle.qm_engine.specs.Runs.{IsRun};
 ghost use Rattle.qm_engine.specs.Stores.{HasEnds};
-ghost use Rattle.qm_run.specs.Program.{machine_at};
+ghost use Rattle.qm_run.specs.Program.{machine_over};
 ghost use Rattle.qm_run.specs.Schemes.{scheme};
 
 use crate::any::Database;
@@ -20,7 +20,7 @@ use qm_chain::Policy;
 use qm_engine::{End, Outcome, run};
 use qm_index::{Factory, FourCap};
 use qm_lines::{Command, Reply};
-use qm_merkle::mmr;
+use qm_merkle::{Family, mmr};
 use qm_store::Store;
 use std::alloc::Global;
 
@@ -34,17 +34,18 @@ pub struct Replies<C> {
 
 // Runs commands by any databases over this index and these updates.
 fn run_any<
+    F: Family,
     C: Store + Drop,
-    I: Factory<Value = Location<mmr::Family>, Translator = FourCap> + Drop,
-    U: Kind<I, Key = ByteKey, Value = ByteValue>,
-    P: Policy<mmr::Family, ByteKey, ByteValue> + Twin,
+    I: Factory<Value = Location<F>, Translator = FourCap> + Drop,
+    U: Kind<F, I, Key = ByteKey, Value = ByteValue>,
+    P: Policy<F, ByteKey, ByteValue> + Twin,
     G: Gate,
 >(alloc: Global, store: C, commands: &[Command<ByteKey, ByteValue, P>], gate: &G) -> Replies<C>
     ensures machine { IfSome (C.told store) (λ stored. (log : Log)
-        → IsOwn (engine_of (scheme trees.mmr U.form) P.rules) log stored → (choices : List ℕ)
+        → IsOwn (engine_of (scheme F.shape U.form) P.rules) log stored → (choices : List ℕ)
         → Turns (C.told store) (C.told result.store)
-        (HasEnds (chunks_of (scheme trees.mmr U.form)) ⊤ choices)
-        → IsRun (scheme trees.mmr U.form) P.rules log choices
+        (HasEnds (chunks_of (scheme F.shape U.form)) ⊤ choices)
+        → IsRun (scheme F.shape U.form) P.rules log choices
         (map (line_view ⟦<ByteKey as ByteString>⟧.bytes ⟦<ByteValue as ByteString>⟧.bytes
         (λ p. p)) commands.now)
         (map (answer_view ⟦<ByteKey as ByteString>⟧.bytes ⟦<ByteValue as ByteString>⟧.bytes
@@ -60,7 +61,7 @@ fn run_any<
         replies,
         end,
         store,
-    } = run::<Database<C, I, U>, C, P, G>(alloc, store, opening(), commands, gate);
+    } = run::<Database<F, C, I, U>, C, P, G>(alloc, store, opening(), commands, gate);
     Replies {
         replies,
         end,
@@ -77,10 +78,10 @@ pub fn run_commands<C: Store + Drop, P: Policy<mmr::Family, ByteKey, ByteValue> 
     gate: &G,
 ) -> Replies<C>
     ensures machine { IfSome (C.told store) (λ stored. (log : Log)
-        → IsOwn (engine_of (machine_at false false) P.rules) log stored → (choices : List ℕ)
+        → IsOwn (engine_of (machine_over trees.mmr false false) P.rules) log stored → (choices : List ℕ)
         → Turns (C.told store) (C.told result.store)
-        (HasEnds (chunks_of (machine_at false false)) ⊤ choices)
-        → IsRun (machine_at false false) P.rules log choices
+        (HasEnds (chunks_of (machine_over trees.mmr false false)) ⊤ choices)
+        → IsRun (machine_over trees.mmr false false) P.rules log choices
         (map (line_view ⟦<ByteKey as ByteString>⟧.bytes ⟦<ByteValue as ByteString>⟧.bytes
         (λ p. p)) commands.now)
         (map (answer_view ⟦<ByteKey as ByteString>⟧.bytes ⟦<ByteValue as ByteString>⟧.bytes
@@ -92,5 +93,5 @@ pub fn run_commands<C: Store + Drop, P: Policy<mmr::Family, ByteKey, ByteValue> 
     ensures later { C.faults store ≤ C.faults result.store }
     ensures fault { result.end ≡ End.StoreFault → Rose (C.faults store) (C.faults result.store) }
 {
-    run_any::<C, Places, Pair, P, G>(alloc, store, commands, gate)
+    run_any::<mmr::Family, C, Places<mmr::Family>, Pair, P, G>(alloc, store, commands, gate)
 }

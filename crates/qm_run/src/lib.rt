@@ -3,7 +3,8 @@
 
 mod any;
 mod commands;
-mod current;
+mod current_mmb;
+mod current_mmr;
 mod fills;
 mod kind;
 mod program;

@@ -9,16 +9,17 @@ ghost use Rattle.qm_machine.specs.Grammar.{bad_in, commands_in};
 ghost use Rattle.qm_machine.specs.Lines.{Destroy};
 ghost use Rattle.qm_model.specs.StoreModel.{Turns};
 ghost use Rattle.qm_engine.specs.Stores.{HasEnds};
-ghost use Rattle.qm_model.specs.Mmr as trees;
 ghost use Rattle.qm_model.specs.Schemes.{chunks_of};
+ghost use Rattle.qm_model.specs.Mmb as delayed;
+ghost use Rattle.qm_model.specs.Mmr as ranges;
 ghost use Rattle.qm_run.specs.Schemes.{current, scheme};
-ghost use Rattle.qm_run.specs.Program.{are_words, is_run, is_fill, family_word, order_word, kind_named, kind_of_four, kind_of_words, kind_of_three, kind_of_databases, fill_words, machine_of, scheme_of, chunks_named, MayDestroy, Says, bad_text};
+ghost use Rattle.qm_run.specs.Program.{are_words, is_run, is_fill, family_word, order_word, tree_word, kind_named, kind_of_four, kind_of_words, kind_of_databases, fill_words, machine_of, machine_over, scheme_of, chunks_named, MayDestroy, Says, bad_text};
 ghost use Rattle.qm_filling.specs.Says as filled;
 ghost use Rattle.qm_run.specs.Endings.{tail_text, tail_status};
 
 use crate::fills::fill_by;
 use crate::kind::{Kind, Link, Named, OrderedPlaces, Pair, Places};
-use crate::{any, current};
+use crate::{any, current_mmb, current_mmr};
 use qm_any::Config;
 use qm_base::{ByteKey, ByteValue, Gate, Location};
 use qm_current::Absences;
@@ -26,7 +27,7 @@ use qm_engine::{Answered, Answering, Ending, answer_lines};
 use qm_fill::{Fill, parse_words};
 use qm_index::{Factory, FourCap};
 use qm_lines::{InputError, LIMIT, Sink, SinkError, Source, read_all, write_all};
-use qm_merkle::mmr;
+use qm_merkle::{Family, mmb, mmr};
 use qm_store::Store;
 use std::alloc::{AllocError, Global};
 use std::num::NonZeroUsize;
@@ -57,24 +58,34 @@ fn order_named(word: &str) -> Option<bool>
     }
 }
 
+// Whether the word names trees whose merges are delayed.
+fn trees_named(word: &str) -> Option<bool>
+    ensures { result ≡ tree_word word.now }
+{
+    if word == "mmr" {
+        Some(false)
+    } else if word == "mmb" {
+        Some(true)
+    } else {
+        None
+    }
+}
+
 // Which databases the words name.
-fn named_by(family: &str, order: &str) -> Option<Named>
-    ensures { result ≡ kind_named family.now order.now }
+fn named_by(family: &str, order: &str, trees: &str) -> Option<Named>
+    ensures { result ≡ kind_named family.now order.now trees.now }
 {
     Some(Named {
         is_current: family_named(family)?,
         is_ordered: order_named(order)?,
+        is_delayed: trees_named(trees)?,
     })
 }
 
 fn kind_of_four(a: &str, b: &str, c: &str, d: &str) -> Option<Named>
     ensures { result ≡ kind_of_four a.now b.now c.now d.now }
 {
-    if a == "run" && d == "mmr" {
-        named_by(b, c)
-    } else {
-        None
-    }
+    if a == "run" { named_by(b, c, d) } else { None }
 }
 
 // Which databases the words of a command line are for.
@@ -93,18 +104,12 @@ fn kind_from(words: &[String]) -> Option<Named>
     }
 }
 
-fn kind_of_three(b: &str, c: &str, d: &str) -> Option<Named>
-    ensures { result ≡ kind_of_three b.now c.now d.now }
-{
-    if d == "mmr" { named_by(b, c) } else { None }
-}
-
 // Which databases the words are for that follow those of a fill.
 fn databases_from(words: &[String]) -> Option<Named>
     ensures { result ≡ kind_of_databases (map string_bytes words.now) }
 {
     if words.len() == 3 {
-        kind_of_three(words[0].as_str(), words[1].as_str(), words[2].as_str())
+        named_by(words[0].as_str(), words[1].as_str(), words[2].as_str())
     } else {
         None
     }
@@ -224,19 +229,20 @@ fn serve<
 
 // The same by any databases over this index and these updates.
 fn serve_any<
+    F: Family,
     C: Store + Drop,
-    I: Factory<Value = Location<mmr::Family>, Translator = FourCap> + Drop,
-    U: Kind<I, Key = ByteKey, Value = ByteValue>,
+    I: Factory<Value = Location<F>, Translator = FourCap> + Drop,
+    U: Kind<F, I, Key = ByteKey, Value = ByteValue>,
     K: Sink,
     G: Gate,
 >(alloc: Global, input: &[u8], store: C, sink: &mut K, gate: &G) -> (u8, C)
     ensures headline { IfSome (C.told store) (λ stored. IfSome (K.text sink.old)
         (λ before. (written : Bytes) × (K.text sink.new ≡ Some (before ++ written))
-        × Says (scheme trees.mmr U.form) stored input.now result.0
+        × Says (scheme F.shape U.form) stored input.now result.0
         (Rose (C.faults store) (C.faults result.1)) written (C.told result.1))) }
     ensures ends { (choices : List ℕ)
         × Turns (C.told store) (C.told result.1)
-        (HasEnds (chunks_of (scheme trees.mmr U.form)) (Contains (commands_in input.now) Destroy)
+        (HasEnds (chunks_of (scheme F.shape U.form)) (Contains (commands_in input.now) Destroy)
         choices) }
     ensures write { result.0 ≡ 4 → Rose (K.faults sink.old) (K.faults sink.new) }
     ensures store { result.0 ≡ 6 → Rose (C.faults store) (C.faults result.1) }
@@ -246,24 +252,24 @@ fn serve_any<
     ensures good { result.0 ≡ 0 → bad_in input.now ≡ None }
     ensures later { (K.faults sink.old ≤ K.faults sink.new) × (C.faults store ≤ C.faults result.1) }
 {
-    serve::<any::Database<C, I, U>, C, K, G>(alloc, input, store, sink, gate)
+    serve::<any::Database<F, C, I, U>, C, K, G>(alloc, input, store, sink, gate)
 }
 
-// The same by current databases over this index and these updates.
-fn serve_current<
+// The same by current databases of mountain ranges over this index and these updates.
+fn serve_current_mmr<
     C: Store + Drop,
     I: Factory<Value = Location<mmr::Family>, Translator = FourCap> + Drop,
-    U: Kind<I, Key = ByteKey, Value = ByteValue> + Absences<mmr::Family, I>,
+    U: Kind<mmr::Family, I, Key = ByteKey, Value = ByteValue> + Absences<mmr::Family, I>,
     K: Sink,
     G: Gate,
 >(alloc: Global, input: &[u8], store: C, sink: &mut K, gate: &G) -> (u8, C)
     ensures headline { IfSome (C.told store) (λ stored. IfSome (K.text sink.old)
         (λ before. (written : Bytes) × (K.text sink.new ≡ Some (before ++ written))
-        × Says (current trees.mmr U.form) stored input.now result.0
+        × Says (current ranges.mmr U.form) stored input.now result.0
         (Rose (C.faults store) (C.faults result.1)) written (C.told result.1))) }
     ensures ends { (choices : List ℕ)
         × Turns (C.told store) (C.told result.1)
-        (HasEnds (chunks_of (current trees.mmr U.form)) (Contains (commands_in input.now) Destroy)
+        (HasEnds (chunks_of (current ranges.mmr U.form)) (Contains (commands_in input.now) Destroy)
         choices) }
     ensures write { result.0 ≡ 4 → Rose (K.faults sink.old) (K.faults sink.new) }
     ensures store { result.0 ≡ 6 → Rose (C.faults store) (C.faults result.1) }
@@ -273,7 +279,122 @@ fn serve_current<
     ensures good { result.0 ≡ 0 → bad_in input.now ≡ None }
     ensures later { (K.faults sink.old ≤ K.faults sink.new) × (C.faults store ≤ C.faults result.1) }
 {
-    serve::<current::Database<C, I, U>, C, K, G>(alloc, input, store, sink, gate)
+    serve::<current_mmr::Database<C, I, U>, C, K, G>(alloc, input, store, sink, gate)
+}
+
+// The same by current databases of delayed merges over this index and these updates.
+fn serve_current_mmb<
+    C: Store + Drop,
+    I: Factory<Value = Location<mmb::Family>, Translator = FourCap> + Drop,
+    U: Kind<mmb::Family, I, Key = ByteKey, Value = ByteValue> + Absences<mmb::Family, I>,
+    K: Sink,
+    G: Gate,
+>(alloc: Global, input: &[u8], store: C, sink: &mut K, gate: &G) -> (u8, C)
+    ensures headline { IfSome (C.told store) (λ stored. IfSome (K.text sink.old)
+        (λ before. (written : Bytes) × (K.text sink.new ≡ Some (before ++ written))
+        × Says (current delayed.mmb U.form) stored input.now result.0
+        (Rose (C.faults store) (C.faults result.1)) written (C.told result.1))) }
+    ensures ends { (choices : List ℕ)
+        × Turns (C.told store) (C.told result.1)
+        (HasEnds (chunks_of (current delayed.mmb U.form)) (Contains (commands_in input.now) Destroy)
+        choices) }
+    ensures write { result.0 ≡ 4 → Rose (K.faults sink.old) (K.faults sink.new) }
+    ensures store { result.0 ≡ 6 → Rose (C.faults store) (C.faults result.1) }
+    ensures codes { (result.0 ≡ 0)
+        ⊎ ((result.0 ≡ 2) ⊎ ((result.0 ≡ 4) ⊎ ((result.0 ≡ 5) ⊎ (result.0 ≡ 6)))) }
+    ensures bad { result.0 ≡ 2 → IsSome (bad_in input.now) }
+    ensures good { result.0 ≡ 0 → bad_in input.now ≡ None }
+    ensures later { (K.faults sink.old ≤ K.faults sink.new) × (C.faults store ≤ C.faults result.1) }
+{
+    serve::<current_mmb::Database<C, I, U>, C, K, G>(alloc, input, store, sink, gate)
+}
+
+// The same by databases over mountain ranges, current ones or any ones, ordered or unordered.
+fn serve_mmr<C: Store + Drop, K: Sink, G: Gate>(
+    is_current: bool,
+    is_ordered: bool,
+    alloc: Global,
+    input: &[u8],
+    store: C,
+    sink: &mut K,
+    gate: &G,
+) -> (u8, C)
+    ensures headline { IfSome (C.told store) (λ stored. IfSome (K.text sink.old)
+        (λ before. (written : Bytes) × (K.text sink.new ≡ Some (before ++ written))
+        × Says (machine_over ranges.mmr is_current is_ordered) stored input.now result.0
+        (Rose (C.faults store) (C.faults result.1)) written (C.told result.1))) }
+    ensures ends { (choices : List ℕ)
+        × Turns (C.told store) (C.told result.1)
+        (HasEnds (chunks_of (machine_over ranges.mmr is_current is_ordered)) (Contains (commands_in input.now) Destroy)
+        choices) }
+    ensures write { result.0 ≡ 4 → Rose (K.faults sink.old) (K.faults sink.new) }
+    ensures store { result.0 ≡ 6 → Rose (C.faults store) (C.faults result.1) }
+    ensures codes { (result.0 ≡ 0)
+        ⊎ ((result.0 ≡ 2) ⊎ ((result.0 ≡ 4) ⊎ ((result.0 ≡ 5) ⊎ (result.0 ≡ 6)))) }
+    ensures bad { result.0 ≡ 2 → IsSome (bad_in input.now) }
+    ensures good { result.0 ≡ 0 → bad_in input.now ≡ None }
+    ensures later { (K.faults sink.old ≤ K.faults sink.new) × (C.faults store ≤ C.faults result.1) }
+{
+    match (is_current, is_ordered) {
+        (false, false) => serve_any::<mmr::Family, C, Places<mmr::Family>, Pair, K, G>(
+            alloc, input, store, sink, gate,
+        ),
+        (false, true) => serve_any::<mmr::Family, C, OrderedPlaces<mmr::Family>, Link, K, G>(
+            alloc, input, store, sink, gate,
+        ),
+        (true, false) => serve_current_mmr::<C, Places<mmr::Family>, Pair, K, G>(
+            alloc, input, store, sink, gate,
+        ),
+        (true, true) => {
+            serve_current_mmr::<C, OrderedPlaces<mmr::Family>, Link, K, G>(
+                alloc, input, store, sink, gate,
+            )
+        }
+    }
+}
+
+// The same by databases over trees whose merges are delayed, current ones or any ones, ordered or unordered.
+fn serve_mmb<C: Store + Drop, K: Sink, G: Gate>(
+    is_current: bool,
+    is_ordered: bool,
+    alloc: Global,
+    input: &[u8],
+    store: C,
+    sink: &mut K,
+    gate: &G,
+) -> (u8, C)
+    ensures headline { IfSome (C.told store) (λ stored. IfSome (K.text sink.old)
+        (λ before. (written : Bytes) × (K.text sink.new ≡ Some (before ++ written))
+        × Says (machine_over delayed.mmb is_current is_ordered) stored input.now result.0
+        (Rose (C.faults store) (C.faults result.1)) written (C.told result.1))) }
+    ensures ends { (choices : List ℕ)
+        × Turns (C.told store) (C.told result.1)
+        (HasEnds (chunks_of (machine_over delayed.mmb is_current is_ordered)) (Contains (commands_in input.now) Destroy)
+        choices) }
+    ensures write { result.0 ≡ 4 → Rose (K.faults sink.old) (K.faults sink.new) }
+    ensures store { result.0 ≡ 6 → Rose (C.faults store) (C.faults result.1) }
+    ensures codes { (result.0 ≡ 0)
+        ⊎ ((result.0 ≡ 2) ⊎ ((result.0 ≡ 4) ⊎ ((result.0 ≡ 5) ⊎ (result.0 ≡ 6)))) }
+    ensures bad { result.0 ≡ 2 → IsSome (bad_in input.now) }
+    ensures good { result.0 ≡ 0 → bad_in input.now ≡ None }
+    ensures later { (K.faults sink.old ≤ K.faults sink.new) × (C.faults store ≤ C.faults result.1) }
+{
+    match (is_current, is_ordered) {
+        (false, false) => serve_any::<mmb::Family, C, Places<mmb::Family>, Pair, K, G>(
+            alloc, input, store, sink, gate,
+        ),
+        (false, true) => serve_any::<mmb::Family, C, OrderedPlaces<mmb::Family>, Link, K, G>(
+            alloc, input, store, sink, gate,
+        ),
+        (true, false) => serve_current_mmb::<C, Places<mmb::Family>, Pair, K, G>(
+            alloc, input, store, sink, gate,
+        ),
+        (true, true) => {
+            serve_current_mmb::<C, OrderedPlaces<mmb::Family>, Link, K, G>(
+                alloc, input, store, sink, gate,
+            )
+        }
+    }
 }
 
 // Answers the lines of an input by the databases that are named, and writes the text.
@@ -301,17 +422,14 @@ fn run<C: Store + Drop, K: Sink, G: Gate>(
     ensures good { result.0 ≡ 0 → bad_in input.now ≡ None }
     ensures later { (K.faults sink.old ≤ K.faults sink.new) × (C.faults store ≤ C.faults result.1) }
 {
-    match (named.is_current, named.is_ordered) {
-        (false, false) => serve_any::<C, Places, Pair, K, G>(alloc, input, store, sink, gate),
-        (false, true) => serve_any::<C, OrderedPlaces, Link, K, G>(alloc, input, store, sink, gate),
-        (true, false) => serve_current::<C, Places, Pair, K, G>(alloc, input, store, sink, gate),
-        (true, true) => {
-            serve_current::<C, OrderedPlaces, Link, K, G>(alloc, input, store, sink, gate)
-        }
+    let (is_current, is_ordered) = (named.is_current, named.is_ordered);
+    match named.is_delayed {
+        false => serve_mmr::<C, K, G>(is_current, is_ordered, alloc, input, store, sink, gate),
+        true => serve_mmb::<C, K, G>(is_current, is_ordered, alloc, input, store, sink, gate),
     }
 }
 
-/// The program. The words are those after its name: `run`, then `any` or `current`, then `unordered` or `ordered`, then `mmr`. It reads
+/// The program. The words are those after its name: `run`, then `any` or `current`, then `unordered` or `ordered`, then `mmr` or `mmb`. It reads
 /// the source to its end, runs the commands of its lines over the store, up to the first line that is not a command, and writes
 /// the replies, one line each. Or they are `fill`, a seed and a count of rounds, and then those that follow `run`: it runs the commands
 /// of that fill, and writes its summary; it does not read the source. It answers a status and the store.

@@ -1,4 +1,4 @@
-//! `qmdb run (any|current) (unordered|ordered) mmr`: the lines of standard input over the files of a folder, the replies on standard
+//! `qmdb run (any|current) (unordered|ordered) (mmr|mmb)`: the lines of standard input over the files of a folder, the replies on standard
 //! output. `qmdb fill seed n` and then the words that follow `run`: a large run that is computed from a number, and its summary.
 #![tactic(auto)]
 
@@ -15,8 +15,8 @@ use std::process::ExitCode;
 use std::rt::{Env, Files};
 use std::{env, fs, io};
 
-const HELP: &str = "usage: qmdb run (any|current) (unordered|ordered) mmr
-       qmdb fill seed n (any|current) (unordered|ordered) mmr
+const HELP: &str = "usage: qmdb run (any|current) (unordered|ordered) (mmr|mmb)
+       qmdb fill seed n (any|current) (unordered|ordered) (mmr|mmb)
        qmdb --help | --version
 
 Run reads the commands of standard input, one a line, runs them over the store in the folder qmdb-data, and writes a reply line for each.
@@ -111,7 +111,7 @@ fn answer(words: &[String]) -> Option<&'static str> {
 fn reason(status: u8) -> &'static str {
     match status {
         OTHER_WORDS =>
-            "unknown arguments; usage: qmdb (run|fill seed n) (any|current) (unordered|ordered) mmr",
+            "unknown arguments; usage: qmdb (run|fill seed n) (any|current) (unordered|ordered) (mmr|mmb)",
         2 => "bad line; the last line of the output has its number",
         NOT_READ => "the input cannot be read",
         NOT_WRITTEN => "the output cannot be written",

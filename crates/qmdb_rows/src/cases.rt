@@ -1,5 +1,6 @@
 // Cases, and how they are read.
 use anyhow::{Context, Result, bail, ensure};
+use qm_store::MetaEntry;
 use std::alloc::{AllocError, Global};
 
 /// Where a store's last item may end.
@@ -26,11 +27,13 @@ pub enum StoreOf {
     New(NewStore),
 }
 
-/// An empty store.
+/// A store of its own.
 #[derive(Drop)]
 pub struct NewStore {
     pub start: u64,
     pub head: Vec<u8>,
+    pub items: Vec<Vec<u8>>,
+    pub metadata: Vec<(String, Vec<MetaEntry>)>,
     pub fails: Vec<u64>,
 }
 
@@ -51,8 +54,8 @@ fn parse_line(alloc: Global, cases: &mut Vec<Case>, line: &str) -> Result<()> {
     match first {
         "case" => cases.push(Case::new(alloc, rest)?)?,
         "again" => {
-            let before = cases.last().context("no case before")?;
-            let case = before.again(alloc, rest)?;
+            let before = cases.iter().rev().find(|case| !case.is_kept());
+            let case = before.context("no case before")?.again(alloc, rest)?;
             cases.push(case)?;
         }
         _ => {
@@ -68,9 +71,29 @@ impl NewStore {
         NewStore {
             start: 0,
             head: Vec::new(alloc),
+            items: Vec::new(alloc),
+            metadata: Vec::new(alloc),
             fails: Vec::new(alloc),
         }
     }
+
+    // Goes on with an entry of the metadata of the last name.
+    fn push_entry(&mut self, alloc: Global, rest: &str) -> Result<()> {
+        let (key, value) = rest.split_once(' ').unwrap_or((rest, ""));
+        let (_, entries) = self.metadata.last_mut().context("no name")?;
+        entries.push(MetaEntry {
+            key: nine_bytes(&hex::decode(alloc, key)?)?,
+            value: hex::decode(alloc, value)?,
+        })?;
+        Ok(())
+    }
+}
+
+fn nine_bytes(bytes: &[u8]) -> Result<[u8; 9]> {
+    let mut nine = [0; 9];
+    ensure!(bytes.len() == nine.len(), "a key of {} bytes", bytes.len());
+    nine.copy_from_slice(bytes);
+    Ok(nine)
 }
 
 impl Case {
@@ -85,6 +108,11 @@ impl Case {
             is_list: false,
             tells_items: false,
         })
+    }
+
+    // Whether its store is the one that the case before gave back.
+    fn is_kept(&self) -> bool {
+        matches!(self.store, StoreOf::Kept)
     }
 
     // A case with these words and this input.
@@ -107,6 +135,12 @@ impl Case {
             "fill" => self.fill(alloc, rest)?,
             "start" => self.new_store()?.start = start(rest)?,
             "head" => self.new_store()?.head = hex::decode(alloc, rest)?,
+            "item" => self.new_store()?.items.push(hex::decode(alloc, rest)?)?,
+            "meta" => {
+                let name = String::from_str(alloc, rest)?;
+                self.new_store()?.metadata.push((name, Vec::new(alloc)))?;
+            }
+            "entry" => self.new_store()?.push_entry(alloc, rest)?,
             "fail" => self.fail(rest)?,
             "keep" => self.store = StoreOf::Kept,
             "list" => self.is_list = true,

@@ -6,13 +6,16 @@
 //! | line | |
 //! |---|---|
 //! | `case NAME` | A case begins. Its words are `run any unordered mmr`, its input is empty, its store is empty and starts at 0, and no call fails. |
-//! | `again NAME` | A case begins, with the words and the input of the case before. |
+//! | `again NAME` | A case begins, with the words and the input of the last case without `keep`. |
 //! | `words WORD..` | Its words are these. |
 //! | `\| LINE` | Its input goes on with this line. |
 //! | `hex HEX` | Its input goes on with these bytes. |
 //! | `fill COUNT HEX` | Its input goes on with these bytes, so many times. |
 //! | `start N` | Its store starts at N. |
 //! | `head HEX` | Its store's head has these bytes. |
+//! | `item HEX` | Its store has this item, after those before. All are stable. |
+//! | `meta NAME` | Its store has metadata of this name. |
+//! | `entry KEY VALUE` | They have an entry with this key of nine bytes and this value, both in hexadecimal digits. |
 //! | `fail PORT N..` | The calls of these numbers fail, counted from 0. A port is `source`, `sink` or `store`. |
 //! | `keep` | Its store is the one that the case before gave back, whose calls are counted on. |
 //! | `list` | Its lines are read as a list of commands first, and the databases are unordered any ones, whatever its words are. Each line is a command, and no call of source or sink fails. |

@@ -1,6 +1,6 @@
 // Runs of cases.
 use crate::cases::{Case, END, NewStore, StoreOf};
-use anyhow::{Context, Result};
+use anyhow::{Context, Result, bail};
 use qm_base::{ByteKey, ByteValue, OpenGate};
 use qm_lines::{AnyPolicy, Command, MemSink, MemSource, next_line, parse_line, reply_text};
 use qm_memory::MemStore;
@@ -39,7 +39,7 @@ fn ran(alloc: Global, case: Case, kept: MemStore) -> Result<Outcome> {
     } = case;
     let store = match store {
         StoreOf::Kept => kept,
-        StoreOf::New(store) => new_store(alloc, store),
+        StoreOf::New(store) => new_store(alloc, store)?,
     };
     let (status, text, store) = if is_list {
         of_list(alloc, &input, store)?
@@ -97,8 +97,18 @@ fn listed(alloc: Global, input: &[u8]) -> Result<Vec<Command<ByteKey, ByteValue,
     Ok(commands)
 }
 
-fn new_store(alloc: Global, store: NewStore) -> MemStore {
-    MemStore::with_head(alloc, store.start.min(END), store.head, store.fails)
+fn new_store(alloc: Global, store: NewStore) -> Result<MemStore> {
+    let NewStore {
+        start,
+        head,
+        items,
+        metadata,
+        fails,
+    } = store;
+    match start.checked_add(items.len() as u64) {
+        Some(end) if end <= END => Ok(MemStore::of(alloc, start, head, &items, metadata, fails)?),
+        _ => bail!("items past {END}"),
+    }
 }
 
 fn tell<W: Write>(ran: &Outcome, out: &mut W) -> Result<()> {

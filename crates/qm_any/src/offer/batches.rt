@@ -4,18 +4,19 @@ use crate::batch::MerkleizedBatch;
 use crate::db::Db;
 use qm_base::{Location, Sha256};
 use qm_bits::Chunks;
-use qm_merkle::mmr;
+use qm_merkle::Family;
 use qm_offer::{Batching, Writing};
 use qm_step::kind::Steps;
 use qm_store::Store;
 use std::alloc::{AllocError, Global};
 
 impl<
+    F: Family,
     C: Store + Drop,
-    I: qm_index::Unordered<Value = Location<mmr::Family>> + Drop,
-    U: Steps<mmr::Family, I>,
+    I: qm_index::Unordered<Value = Location<F>> + Drop,
+    U: Steps<F, I>,
     N: Chunks,
-> Batching<C> for Db<mmr::Family, C, I, Sha256, U, N> {
+> Batching<C> for Db<F, C, I, Sha256, U, N> {
     fn batch(&self, alloc: Global) -> Result<Self::Batch, AllocError> {
         self.new_batch(alloc)
     }
@@ -37,11 +38,12 @@ impl<
 }
 
 impl<
+    F: Family,
     C: Store + Drop,
-    I: qm_index::Unordered<Value = Location<mmr::Family>> + Drop,
-    U: Steps<mmr::Family, I>,
+    I: qm_index::Unordered<Value = Location<F>> + Drop,
+    U: Steps<F, I>,
     N: Chunks,
-> Writing<C> for Db<mmr::Family, C, I, Sha256, U, N> {
+> Writing<C> for Db<F, C, I, Sha256, U, N> {
     fn put(
         _alloc: Global,
         batch: Self::Batch,

@@ -5,7 +5,7 @@ use crate::open::init;
 use qm_base::{Location, Sha256};
 use qm_bits::Chunks;
 use qm_index::{Factory, FourCap};
-use qm_merkle::mmr;
+use qm_merkle::Family;
 use qm_offer::Durable;
 use qm_open::Config;
 use qm_operations::Update;
@@ -13,11 +13,12 @@ use qm_store::{Refusal, Store};
 use std::alloc::Global;
 
 impl<
+    F: Family,
     C: Store + Drop,
-    I: Factory<Value = Location<mmr::Family>, Translator = FourCap> + Drop,
+    I: Factory<Value = Location<F>, Translator = FourCap> + Drop,
     U: Update,
     N: Chunks,
-> Durable<C> for Db<mmr::Family, C, I, Sha256, U, N> {
+> Durable<C> for Db<F, C, I, Sha256, U, N> {
     type Config = Config<FourCap, ()>;
 
     fn open(

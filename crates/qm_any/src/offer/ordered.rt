@@ -5,7 +5,7 @@ use crate::offer::listed::span_from;
 use crate::offer::ranges::{keys_of, pairs_of};
 use qm_base::{Error, Location, Sha256, Span};
 use qm_bits::Chunks;
-use qm_merkle::mmr;
+use qm_merkle::Family;
 use qm_offer::Neighbours;
 use qm_step::kind::Steps;
 use qm_store::Store;
@@ -13,11 +13,12 @@ use std::alloc::Global;
 use std::ops::Bound;
 
 impl<
+    F: Family,
     C: Store + Drop,
-    I: qm_index::Unordered<Value = Location<mmr::Family>> + Drop,
-    U: Steps<mmr::Family, I>,
+    I: qm_index::Unordered<Value = Location<F>> + Drop,
+    U: Steps<F, I>,
     N: Chunks,
-> Neighbours<C> for Db<mmr::Family, C, I, Sha256, U, N> {
+> Neighbours<C> for Db<F, C, I, Sha256, U, N> {
     fn next(&mut self, alloc: Global, key: &U::Key) -> Result<Option<U::Key>, Error> {
         if !U::is_ordered() {
             return Ok(None);

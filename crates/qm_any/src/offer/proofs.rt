@@ -4,7 +4,7 @@ use crate::db::Db;
 use crate::offer::listed::listed;
 use qm_base::{Error, Listed, Location, Sha256, Sha256Digest};
 use qm_bits::Chunks;
-use qm_merkle::mmr;
+use qm_merkle::Family;
 use qm_offer::Proving;
 use qm_operations::Update;
 use qm_proofs::Proof;
@@ -13,11 +13,12 @@ use std::alloc::Global;
 use std::num::NonZeroU64;
 
 impl<
+    F: Family,
     C: Store + Drop,
-    I: qm_index::Unordered<Value = Location<mmr::Family>> + Drop,
+    I: qm_index::Unordered<Value = Location<F>> + Drop,
     U: Update,
     N: Chunks,
-> Proving<C> for Db<mmr::Family, C, I, Sha256, U, N> {
+> Proving<C> for Db<F, C, I, Sha256, U, N> {
     fn proof(
         &self,
         alloc: Global,

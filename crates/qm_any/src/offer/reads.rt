@@ -4,18 +4,19 @@ use crate::db::Db;
 use crate::offer::listed::{listed, twin_pairs};
 use qm_base::{Error, Listed, Location, Sha256, Sha256Digest};
 use qm_bits::Chunks;
-use qm_merkle::mmr;
+use qm_merkle::Family;
 use qm_offer::{Reading, Roots};
 use qm_operations::Update;
 use qm_store::Store;
 use std::alloc::{AllocError, Global};
 
 impl<
+    F: Family,
     C: Store + Drop,
-    I: qm_index::Unordered<Value = Location<mmr::Family>> + Drop,
+    I: qm_index::Unordered<Value = Location<F>> + Drop,
     U: Update,
     N: Chunks,
-> Reading<C> for Db<mmr::Family, C, I, Sha256, U, N> {
+> Reading<C> for Db<F, C, I, Sha256, U, N> {
     fn batch_root(batch: &Self::Merkleized) -> Roots<Sha256Digest> {
         let root = batch.root();
         Roots {

@@ -5,7 +5,7 @@ use crate::offer::listed::twin_keys;
 use qm_base::{Error, Location, Resolution, Sha256, twin_option};
 use qm_bits::Chunks;
 use qm_chain::Policy;
-use qm_merkle::mmr;
+use qm_merkle::Family;
 use qm_offer::Staging;
 use qm_step::kind::Steps;
 use qm_store::Store;
@@ -13,11 +13,12 @@ use std::alloc::Global;
 use std::ops::Range;
 
 impl<
+    F: Family,
     C: Store + Drop,
-    I: qm_index::Unordered<Value = Location<mmr::Family>> + Drop,
-    U: Steps<mmr::Family, I>,
+    I: qm_index::Unordered<Value = Location<F>> + Drop,
+    U: Steps<F, I>,
     N: Chunks,
-> Staging<C> for Db<mmr::Family, C, I, Sha256, U, N> {
+> Staging<C> for Db<F, C, I, Sha256, U, N> {
     fn stage(
         &mut self,
         alloc: Global,
@@ -46,7 +47,7 @@ impl<
         batch.len()
     }
 
-    fn resolve<P: Policy<mmr::Family, U::Key, U::Value>>(
+    fn resolve<P: Policy<F, U::Key, U::Value>>(
         &mut self,
         alloc: Global,
         batch: Self::Staged,

@@ -4,17 +4,18 @@ use crate::batch::MerkleizedBatch;
 use crate::db::Db;
 use qm_base::{Location, Sha256};
 use qm_bits::Chunk32;
-use qm_merkle::mmr;
+use qm_chunks::Graftable;
 use qm_offer::{Batching, Writing};
 use qm_step::kind::Steps;
 use qm_store::Store;
 use std::alloc::{AllocError, Global};
 
 impl<
+    F: Graftable,
     C: Store + Drop,
-    I: qm_index::Unordered<Value = Location<mmr::Family>> + Drop,
-    U: Steps<mmr::Family, I>,
-> Batching<C> for Db<mmr::Family, C, I, Sha256, U, Chunk32> {
+    I: qm_index::Unordered<Value = Location<F>> + Drop,
+    U: Steps<F, I>,
+> Batching<C> for Db<F, C, I, Sha256, U, Chunk32> {
     fn batch(&self, alloc: Global) -> Result<Self::Batch, AllocError> {
         self.new_batch(alloc)
     }
@@ -36,10 +37,11 @@ impl<
 }
 
 impl<
+    F: Graftable,
     C: Store + Drop,
-    I: qm_index::Unordered<Value = Location<mmr::Family>> + Drop,
-    U: Steps<mmr::Family, I>,
-> Writing<C> for Db<mmr::Family, C, I, Sha256, U, Chunk32> {
+    I: qm_index::Unordered<Value = Location<F>> + Drop,
+    U: Steps<F, I>,
+> Writing<C> for Db<F, C, I, Sha256, U, Chunk32> {
     fn put(
         _alloc: Global,
         batch: Self::Batch,

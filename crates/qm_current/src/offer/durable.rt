@@ -5,18 +5,19 @@ use crate::db::Db;
 use crate::open::init;
 use qm_base::{Error, Location, Sha256};
 use qm_bits::Chunk32;
+use qm_chunks::Graftable;
 use qm_index::{Factory, FourCap};
-use qm_merkle::mmr;
 use qm_offer::Durable;
 use qm_operations::Update;
 use qm_store::{Given, Refusal, Store};
 use std::alloc::Global;
 
 impl<
+    F: Graftable,
     C: Store + Drop,
-    I: Factory<Value = Location<mmr::Family>, Translator = FourCap> + Drop,
+    I: Factory<Value = Location<F>, Translator = FourCap> + Drop,
     U: Update,
-> Durable<C> for Db<mmr::Family, C, I, Sha256, U, Chunk32> {
+> Durable<C> for Db<F, C, I, Sha256, U, Chunk32> {
     type Config = qm_any::Config<FourCap, ()>;
 
     fn open(

@@ -4,7 +4,7 @@ use crate::db::Db;
 use qm_any::span_from;
 use qm_base::{Error, Location, Sha256, Span};
 use qm_bits::Chunk32;
-use qm_merkle::mmr;
+use qm_chunks::Graftable;
 use qm_offer::Neighbours;
 use qm_step::kind::Steps;
 use qm_store::Store;
@@ -12,10 +12,11 @@ use std::alloc::Global;
 use std::ops::Bound;
 
 impl<
+    F: Graftable,
     C: Store + Drop,
-    I: qm_index::Unordered<Value = Location<mmr::Family>> + Drop,
-    U: Steps<mmr::Family, I>,
-> Neighbours<C> for Db<mmr::Family, C, I, Sha256, U, Chunk32> {
+    I: qm_index::Unordered<Value = Location<F>> + Drop,
+    U: Steps<F, I>,
+> Neighbours<C> for Db<F, C, I, Sha256, U, Chunk32> {
     fn next(&mut self, alloc: Global, key: &U::Key) -> Result<Option<U::Key>, Error> {
         if !U::is_ordered() {
             return Ok(None);

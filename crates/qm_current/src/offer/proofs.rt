@@ -4,7 +4,7 @@ use crate::db::Db;
 use qm_any::listed;
 use qm_base::{Error, Listed, Location, Sha256, Sha256Digest};
 use qm_bits::Chunk32;
-use qm_merkle::mmr;
+use qm_chunks::Graftable;
 use qm_offer::Proving;
 use qm_operations::Update;
 use qm_proofs::Proof;
@@ -13,10 +13,11 @@ use std::alloc::Global;
 use std::num::NonZeroU64;
 
 impl<
+    F: Graftable,
     C: Store + Drop,
-    I: qm_index::Unordered<Value = Location<mmr::Family>> + Drop,
+    I: qm_index::Unordered<Value = Location<F>> + Drop,
     U: Update,
-> Proving<C> for Db<mmr::Family, C, I, Sha256, U, Chunk32> {
+> Proving<C> for Db<F, C, I, Sha256, U, Chunk32> {
     fn proof(
         &self,
         alloc: Global,

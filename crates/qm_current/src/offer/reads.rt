@@ -4,17 +4,18 @@ use crate::db::Db;
 use qm_any::{listed, twin_pairs};
 use qm_base::{Error, Listed, Location, Sha256, Sha256Digest};
 use qm_bits::Chunk32;
-use qm_merkle::mmr;
+use qm_chunks::Graftable;
 use qm_offer::{Reading, Roots};
 use qm_operations::Update;
 use qm_store::Store;
 use std::alloc::{AllocError, Global};
 
 impl<
+    F: Graftable,
     C: Store + Drop,
-    I: qm_index::Unordered<Value = Location<mmr::Family>> + Drop,
+    I: qm_index::Unordered<Value = Location<F>> + Drop,
     U: Update,
-> Reading<C> for Db<mmr::Family, C, I, Sha256, U, Chunk32> {
+> Reading<C> for Db<F, C, I, Sha256, U, Chunk32> {
     fn batch_root(batch: &Self::Merkleized) -> Roots<Sha256Digest> {
         Roots {
             root: batch.root(),

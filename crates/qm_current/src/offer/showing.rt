@@ -4,7 +4,6 @@ ghost use Rattle.std.specs.Prelude.{◌≡◌, Bool, Some, None, true, false, is
 ghost use Rattle.std.proofs.Common.{⊎_elim, refl, subst, sym};
 ghost use Rattle.qm_graft.specs.Grafting.{grafting};
 ghost use Rattle.qm_model.specs.Checks.{absent_check};
-ghost use Rattle.qm_model.specs.Mmr.{mmr};
 ghost use Rattle.qm_model.proofs.Proving.{true_or_false};
 ghost use Rattle.sha2.specs.Sha256.{sha256};
 ghost use Rattle.qm_current.specs.Offered.{offered_chunk};
@@ -13,7 +12,8 @@ use crate::absence::Absences;
 use crate::db::Db;
 use qm_base::{Error, Location, Sha256};
 use qm_bits::Chunk32;
-use qm_merkle::{StandardHasher, mmr};
+use qm_chunks::Graftable;
+use qm_merkle::StandardHasher;
 use qm_offer::{Showing, ShownRange};
 use qm_operations::Operation;
 use qm_store::Store;
@@ -21,16 +21,17 @@ use std::alloc::Global;
 use std::num::NonZeroU64;
 
 impl<
+    F: Graftable,
     C: Store + Drop,
-    I: qm_index::Unordered<Value = Location<mmr::Family>> + Drop,
-    U: Absences<mmr::Family, I>,
-> Showing<C> for Db<mmr::Family, C, I, Sha256, U, Chunk32> {
+    I: qm_index::Unordered<Value = Location<F>> + Drop,
+    U: Absences<F, I>,
+> Showing<C> for Db<F, C, I, Sha256, U, Chunk32> {
     fn held(&mut self, alloc: Global, key: &U::Key) -> Result<(u64, bool), Error> {
         let mut hasher = StandardHasher::new(Sha256::new());
         match self.update_proof(alloc, &mut hasher, key) {
             Ok((update, proof)) => {
                 let root = self.root();
-                let operation: Operation<mmr::Family, U> = Operation::Update(update);
+                let operation: Operation<F, U> = Operation::Update(update);
                 let is_accepted = proof.verify(&mut hasher, &operation, &root);
                 Ok((proof.loc.get(), is_accepted))
             }
@@ -73,11 +74,11 @@ impl<
         let witness = self.ops_root_witness(alloc, &mut hasher)?;
         let operations = self.ops_root();
         let root = self.root();
-        Ok(witness.verify::<mmr::Family, Chunk32, Sha256>(&mut hasher, &operations, &root))
+        Ok(witness.verify::<F, Chunk32, Sha256>(&mut hasher, &operations, &root))
     }
 
     ghost checked = { refl };
 
-    ghost absences = { let told : Bool → Type 0 = λ b. is_some (if b then Some (absent_check sha256 mmr (grafting offered_chunk) U.form) else None) ≡ b in
+    ghost absences = { let told : Bool → Type 0 = λ b. is_some (if b then Some (absent_check sha256 F.shape (grafting offered_chunk) U.form) else None) ≡ b in
         ⊎_elim (λ (yes : U.form.ordered ≡ true). subst told (sym yes) refl) (λ (no : U.form.ordered ≡ false). subst told (sym no) refl) (true_or_false U.form.ordered) };
 }

@@ -5,7 +5,7 @@ use qm_any::twin_keys;
 use qm_base::{Error, Location, Resolution, Sha256, twin_option};
 use qm_bits::Chunk32;
 use qm_chain::Policy;
-use qm_merkle::mmr;
+use qm_chunks::Graftable;
 use qm_offer::Staging;
 use qm_step::kind::Steps;
 use qm_store::Store;
@@ -13,10 +13,11 @@ use std::alloc::Global;
 use std::ops::Range;
 
 impl<
+    F: Graftable,
     C: Store + Drop,
-    I: qm_index::Unordered<Value = Location<mmr::Family>> + Drop,
-    U: Steps<mmr::Family, I>,
-> Staging<C> for Db<mmr::Family, C, I, Sha256, U, Chunk32> {
+    I: qm_index::Unordered<Value = Location<F>> + Drop,
+    U: Steps<F, I>,
+> Staging<C> for Db<F, C, I, Sha256, U, Chunk32> {
     fn stage(
         &mut self,
         alloc: Global,
@@ -45,7 +46,7 @@ impl<
         batch.len()
     }
 
-    fn resolve<P: Policy<mmr::Family, U::Key, U::Value>>(
+    fn resolve<P: Policy<F, U::Key, U::Value>>(
         &mut self,
         alloc: Global,
         batch: Self::Staged,

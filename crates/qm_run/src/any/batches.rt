@@ -4,18 +4,19 @@ use crate::any::{Database, Inside};
 use crate::kind::Kind;
 use qm_base::{ByteKey, ByteValue, Location};
 use qm_index::{Factory, FourCap};
-use qm_merkle::mmr;
+use qm_merkle::Family;
 use qm_offer::{Batching, Writing};
 use qm_store::Store;
 use std::alloc::{AllocError, Global};
 
 impl<
+    F: Family,
     C: Store + Drop,
-    I: Factory<Value = Location<mmr::Family>, Translator = FourCap> + Drop,
-    U: Kind<I, Key = ByteKey, Value = ByteValue>,
-> Batching<C> for Database<C, I, U> {
+    I: Factory<Value = Location<F>, Translator = FourCap> + Drop,
+    U: Kind<F, I, Key = ByteKey, Value = ByteValue>,
+> Batching<C> for Database<F, C, I, U> {
     fn batch(&self, alloc: Global) -> Result<Self::Batch, AllocError> {
-        <Inside<C, I, U> as Batching<C>>::batch(&self.db, alloc)
+        <Inside<F, C, I, U> as Batching<C>>::batch(&self.db, alloc)
     }
 
     fn child(
@@ -23,29 +24,30 @@ impl<
         batch: &Self::Merkleized,
         keep: Option<u64>,
     ) -> Result<Self::Batch, AllocError> {
-        <Inside<C, I, U> as Batching<C>>::child(alloc, batch, keep)
+        <Inside<F, C, I, U> as Batching<C>>::child(alloc, batch, keep)
     }
 
     fn tip(&self, alloc: Global) -> Result<Self::Merkleized, AllocError> {
-        <Inside<C, I, U> as Batching<C>>::tip(&self.db, alloc)
+        <Inside<F, C, I, U> as Batching<C>>::tip(&self.db, alloc)
     }
 }
 
 impl<
+    F: Family,
     C: Store + Drop,
-    I: Factory<Value = Location<mmr::Family>, Translator = FourCap> + Drop,
-    U: Kind<I, Key = ByteKey, Value = ByteValue>,
-> Writing<C> for Database<C, I, U> {
+    I: Factory<Value = Location<F>, Translator = FourCap> + Drop,
+    U: Kind<F, I, Key = ByteKey, Value = ByteValue>,
+> Writing<C> for Database<F, C, I, U> {
     fn put(
         alloc: Global,
         batch: Self::Batch,
         key: ByteKey,
         value: ByteValue,
     ) -> Result<Self::Batch, AllocError> {
-        <Inside<C, I, U> as Writing<C>>::put(alloc, batch, key, value)
+        <Inside<F, C, I, U> as Writing<C>>::put(alloc, batch, key, value)
     }
 
     fn del(alloc: Global, batch: Self::Batch, key: ByteKey) -> Result<Self::Batch, AllocError> {
-        <Inside<C, I, U> as Writing<C>>::del(alloc, batch, key)
+        <Inside<F, C, I, U> as Writing<C>>::del(alloc, batch, key)
     }
 }

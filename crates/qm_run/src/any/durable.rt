@@ -5,16 +5,17 @@ use crate::kind::Kind;
 use qm_any::Config;
 use qm_base::{ByteKey, ByteValue, Location};
 use qm_index::{Factory, FourCap};
-use qm_merkle::mmr;
+use qm_merkle::Family;
 use qm_offer::Durable;
 use qm_store::{Given, Refusal, Store};
 use std::alloc::Global;
 
 impl<
+    F: Family,
     C: Store + Drop,
-    I: Factory<Value = Location<mmr::Family>, Translator = FourCap> + Drop,
-    U: Kind<I, Key = ByteKey, Value = ByteValue>,
-> Durable<C> for Database<C, I, U> {
+    I: Factory<Value = Location<F>, Translator = FourCap> + Drop,
+    U: Kind<F, I, Key = ByteKey, Value = ByteValue>,
+> Durable<C> for Database<F, C, I, U> {
     type Config = Config<FourCap, ()>;
 
     fn open(
@@ -24,7 +25,7 @@ impl<
         max_size: Option<u64>,
         number: u64,
     ) -> Result<Self, Refusal<Self, C>> {
-        match <Inside<C, I, U> as Durable<C>>::open(alloc, store, config, max_size, number) {
+        match <Inside<F, C, I, U> as Durable<C>>::open(alloc, store, config, max_size, number) {
             Ok(db) => Ok(Database { db }),
             Err(refused) => {
                 let Refusal { given, error } = refused;
@@ -43,7 +44,7 @@ impl<
     }
 
     fn commit(self) -> Result<Self, Refusal<Self, C>> {
-        match <Inside<C, I, U> as Durable<C>>::commit(self.db) {
+        match <Inside<F, C, I, U> as Durable<C>>::commit(self.db) {
             Ok(db) => Ok(Database { db }),
             Err(refused) => {
                 let Refusal { given, error } = refused;
@@ -62,7 +63,7 @@ impl<
     }
 
     fn sync(self, alloc: Global) -> Result<Self, Refusal<Self, C>> {
-        match <Inside<C, I, U> as Durable<C>>::sync(self.db, alloc) {
+        match <Inside<F, C, I, U> as Durable<C>>::sync(self.db, alloc) {
             Ok(db) => Ok(Database { db }),
             Err(refused) => {
                 let Refusal { given, error } = refused;
@@ -81,7 +82,7 @@ impl<
     }
 
     fn prune(self, alloc: Global, to: u64) -> Result<Self, Refusal<Self, C>> {
-        match <Inside<C, I, U> as Durable<C>>::prune(self.db, alloc, to) {
+        match <Inside<F, C, I, U> as Durable<C>>::prune(self.db, alloc, to) {
             Ok(db) => Ok(Database { db }),
             Err(refused) => {
                 let Refusal { given, error } = refused;
@@ -100,7 +101,7 @@ impl<
     }
 
     fn destroy(self) -> Result<C, Refusal<Self, C>> {
-        match <Inside<C, I, U> as Durable<C>>::destroy(self.db) {
+        match <Inside<F, C, I, U> as Durable<C>>::destroy(self.db) {
             Ok(store) => Ok(store),
             Err(refused) => {
                 let Refusal { given, error } = refused;

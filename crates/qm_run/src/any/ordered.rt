@@ -4,23 +4,24 @@ use crate::any::{Database, Inside};
 use crate::kind::Kind;
 use qm_base::{ByteKey, ByteValue, Error, Location, Span};
 use qm_index::{Factory, FourCap};
-use qm_merkle::mmr;
+use qm_merkle::Family;
 use qm_offer::Neighbours;
 use qm_store::Store;
 use std::alloc::Global;
 use std::ops::Bound;
 
 impl<
+    F: Family,
     C: Store + Drop,
-    I: Factory<Value = Location<mmr::Family>, Translator = FourCap> + Drop,
-    U: Kind<I, Key = ByteKey, Value = ByteValue>,
-> Neighbours<C> for Database<C, I, U> {
+    I: Factory<Value = Location<F>, Translator = FourCap> + Drop,
+    U: Kind<F, I, Key = ByteKey, Value = ByteValue>,
+> Neighbours<C> for Database<F, C, I, U> {
     fn next(&mut self, alloc: Global, key: &ByteKey) -> Result<Option<ByteKey>, Error> {
-        <Inside<C, I, U> as Neighbours<C>>::next(&mut self.db, alloc, key)
+        <Inside<F, C, I, U> as Neighbours<C>>::next(&mut self.db, alloc, key)
     }
 
     fn prev(&mut self, alloc: Global, key: &ByteKey) -> Result<Option<ByteKey>, Error> {
-        <Inside<C, I, U> as Neighbours<C>>::prev(&mut self.db, alloc, key)
+        <Inside<F, C, I, U> as Neighbours<C>>::prev(&mut self.db, alloc, key)
     }
 
     fn next_from(
@@ -29,7 +30,7 @@ impl<
         batch: &Self::Merkleized,
         key: &ByteKey,
     ) -> Result<Option<ByteKey>, Error> {
-        <Inside<C, I, U> as Neighbours<C>>::next_from(&mut self.db, alloc, batch, key)
+        <Inside<F, C, I, U> as Neighbours<C>>::next_from(&mut self.db, alloc, batch, key)
     }
 
     fn prev_from(
@@ -38,7 +39,7 @@ impl<
         batch: &Self::Merkleized,
         key: &ByteKey,
     ) -> Result<Option<ByteKey>, Error> {
-        <Inside<C, I, U> as Neighbours<C>>::prev_from(&mut self.db, alloc, batch, key)
+        <Inside<F, C, I, U> as Neighbours<C>>::prev_from(&mut self.db, alloc, batch, key)
     }
 
     fn span(
@@ -46,11 +47,11 @@ impl<
         alloc: Global,
         key: &ByteKey,
     ) -> Result<Option<Span<ByteKey, ByteValue>>, Error> {
-        <Inside<C, I, U> as Neighbours<C>>::span(&mut self.db, alloc, key)
+        <Inside<F, C, I, U> as Neighbours<C>>::span(&mut self.db, alloc, key)
     }
 
     fn all(&mut self, alloc: Global, key: &ByteKey) -> Result<Option<(ByteValue, ByteKey)>, Error> {
-        <Inside<C, I, U> as Neighbours<C>>::all(&mut self.db, alloc, key)
+        <Inside<F, C, I, U> as Neighbours<C>>::all(&mut self.db, alloc, key)
     }
 
     fn range(
@@ -59,7 +60,7 @@ impl<
         low: &Bound<ByteKey>,
         high: &Bound<ByteKey>,
     ) -> Result<Vec<(ByteKey, ByteValue)>, Error> {
-        <Inside<C, I, U> as Neighbours<C>>::range(&mut self.db, alloc, low, high)
+        <Inside<F, C, I, U> as Neighbours<C>>::range(&mut self.db, alloc, low, high)
     }
 
     fn keys(
@@ -68,6 +69,6 @@ impl<
         low: &Bound<ByteKey>,
         high: &Bound<ByteKey>,
     ) -> Result<Vec<ByteKey>, Error> {
-        <Inside<C, I, U> as Neighbours<C>>::keys(&mut self.db, alloc, low, high)
+        <Inside<F, C, I, U> as Neighbours<C>>::keys(&mut self.db, alloc, low, high)
     }
 }

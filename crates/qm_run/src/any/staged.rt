@@ -5,24 +5,25 @@ use crate::kind::Kind;
 use qm_base::{ByteKey, ByteValue, Error, Location, Resolution};
 use qm_chain::Policy;
 use qm_index::{Factory, FourCap};
-use qm_merkle::mmr;
+use qm_merkle::Family;
 use qm_offer::Staging;
 use qm_store::Store;
 use std::alloc::Global;
 use std::ops::Range;
 
 impl<
+    F: Family,
     C: Store + Drop,
-    I: Factory<Value = Location<mmr::Family>, Translator = FourCap> + Drop,
-    U: Kind<I, Key = ByteKey, Value = ByteValue>,
-> Staging<C> for Database<C, I, U> {
+    I: Factory<Value = Location<F>, Translator = FourCap> + Drop,
+    U: Kind<F, I, Key = ByteKey, Value = ByteValue>,
+> Staging<C> for Database<F, C, I, U> {
     fn stage(
         &mut self,
         alloc: Global,
         batch: Self::Batch,
         keys: &[ByteKey],
     ) -> Result<(Vec<Option<ByteValue>>, Self::Staged), Error> {
-        <Inside<C, I, U> as Staging<C>>::stage(&mut self.db, alloc, batch, keys)
+        <Inside<F, C, I, U> as Staging<C>>::stage(&mut self.db, alloc, batch, keys)
     }
 
     fn expand(
@@ -31,14 +32,14 @@ impl<
         batch: Self::Staged,
         keys: &[ByteKey],
     ) -> Result<(Range<usize>, Vec<Option<ByteValue>>, Self::Staged), Error> {
-        <Inside<C, I, U> as Staging<C>>::expand(&mut self.db, alloc, batch, keys)
+        <Inside<F, C, I, U> as Staging<C>>::expand(&mut self.db, alloc, batch, keys)
     }
 
     fn staged_count(batch: &Self::Staged) -> usize {
         batch.len()
     }
 
-    fn resolve<P: Policy<mmr::Family, ByteKey, ByteValue>>(
+    fn resolve<P: Policy<F, ByteKey, ByteValue>>(
         &mut self,
         alloc: Global,
         batch: Self::Staged,
@@ -46,7 +47,7 @@ impl<
         policy: &mut P,
         metadata: &Option<ByteValue>,
     ) -> Result<Self::Merkleized, Error> {
-        <Inside<C, I, U> as Staging<C>>::resolve(
+        <Inside<F, C, I, U> as Staging<C>>::resolve(
             &mut self.db,
             alloc,
             batch,

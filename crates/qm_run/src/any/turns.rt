@@ -18,23 +18,24 @@ use qm_index::{Factory, FourCap};
 use qm_lines::{
     BatchCommand, InfoCommand, MakingCommand, ReadCommand, StagedCommand, StoreCommand,
 };
-use qm_merkle::mmr;
+use qm_merkle::Family;
 use qm_offer::{Durable, Meaning};
 use qm_store::Store;
 use std::alloc::Global;
 
 impl<
+    F: Family,
     C: Store + Drop,
-    I: Factory<Value = Location<mmr::Family>, Translator = FourCap> + Drop,
-    U: Kind<I, Key = ByteKey, Value = ByteValue>,
-> Answering<C> for Database<C, I, U> {
+    I: Factory<Value = Location<F>, Translator = FourCap> + Drop,
+    U: Kind<F, I, Key = ByteKey, Value = ByteValue>,
+> Answering<C> for Database<F, C, I, U> {
     type Opening = Config<FourCap, ()>;
 
     fn into_store(self) -> C {
         <Self as Durable<C>>::close(self)
     }
 
-    fn batch_turn<P: Policy<mmr::Family, ByteKey, ByteValue> + Twin>(
+    fn batch_turn<P: Policy<F, ByteKey, ByteValue> + Twin>(
         alloc: Global,
         session: &mut SessionOf<Self, C>,
         command: &BatchCommand<ByteKey, ByteValue>,
@@ -42,23 +43,23 @@ impl<
         batch_turn::<Self, C, P>(alloc, session, command)
     }
 
-    fn making_turn<P: Policy<mmr::Family, ByteKey, ByteValue> + Twin>(
+    fn making_turn<P: Policy<F, ByteKey, ByteValue> + Twin>(
         alloc: Global,
         session: SessionOf<Self, C>,
         command: &MakingCommand<ByteValue, P>,
     ) -> (SessionOf<Self, C>, Turn<ByteKey, ByteValue, Sha256Digest>)
-        ensures { Performs C.Store ⟦<Database<C, I, U> as Meaning<C>>⟧
+        ensures { Performs C.Store ⟦<Database<F, C, I, U> as Meaning<C>>⟧
             ⟦<ByteKey as ByteString>⟧.bytes ⟦<ByteValue as ByteString>⟧.bytes
             ⟦<Sha256Digest as Digest>⟧.bytes
             (making_view ⟦<ByteKey as ByteString>⟧.bytes ⟦<ByteValue as ByteString>⟧.bytes (λ p. p)
-            command.now) (λ s. machine.turn ⟦<Database<C, I, U> as Meaning<C>>⟧.scheme P.rules s
+            command.now) (λ s. machine.turn ⟦<Database<F, C, I, U> as Meaning<C>>⟧.scheme P.rules s
             (making_view ⟦<ByteKey as ByteString>⟧.bytes ⟦<ByteValue as ByteString>⟧.bytes (λ p. p)
             command.now)) session result.0 result.1 }
     {
         making_turn::<Self, C, P>(alloc, session, command)
     }
 
-    fn staged_turn<P: Policy<mmr::Family, ByteKey, ByteValue> + Twin>(
+    fn staged_turn<P: Policy<F, ByteKey, ByteValue> + Twin>(
         alloc: Global,
         session: &mut SessionOf<Self, C>,
         command: &StagedCommand<ByteKey, ByteValue, P>,
@@ -66,7 +67,7 @@ impl<
         staged_turn::<Self, C, P>(alloc, session, command)
     }
 
-    fn read_turn<P: Policy<mmr::Family, ByteKey, ByteValue> + Twin>(
+    fn read_turn<P: Policy<F, ByteKey, ByteValue> + Twin>(
         alloc: Global,
         session: &mut SessionOf<Self, C>,
         command: &ReadCommand<ByteKey>,
@@ -74,7 +75,7 @@ impl<
         read_turn::<Self, C, P>(alloc, session, command)
     }
 
-    fn info_turn<P: Policy<mmr::Family, ByteKey, ByteValue> + Twin>(
+    fn info_turn<P: Policy<F, ByteKey, ByteValue> + Twin>(
         alloc: Global,
         session: &mut SessionOf<Self, C>,
         command: &InfoCommand<ByteKey>,
@@ -82,18 +83,18 @@ impl<
         info_turn::<Self, C, P>(alloc, session, command)
     }
 
-    fn store_turn<P: Policy<mmr::Family, ByteKey, ByteValue> + Twin>(
+    fn store_turn<P: Policy<F, ByteKey, ByteValue> + Twin>(
         alloc: Global,
         opening: &Config<FourCap, ()>,
         session: SessionOf<Self, C>,
         command: &StoreCommand,
     ) -> (SessionOf<Self, C>, Turn<ByteKey, ByteValue, Sha256Digest>)
         requires { session.opened + 1 < 2 ^ 64 }
-        ensures { Performs {P = P} C.Store ⟦<Database<C, I, U> as Meaning<C>>⟧
+        ensures { Performs {P = P} C.Store ⟦<Database<F, C, I, U> as Meaning<C>>⟧
             ⟦<ByteKey as ByteString>⟧.bytes ⟦<ByteValue as ByteString>⟧.bytes
             ⟦<Sha256Digest as Digest>⟧.bytes
             (store_view ⟦<ByteKey as ByteString>⟧.bytes ⟦<ByteValue as ByteString>⟧.bytes
-            command.now) (λ s. machine.turn ⟦<Database<C, I, U> as Meaning<C>>⟧.scheme P.rules s
+            command.now) (λ s. machine.turn ⟦<Database<F, C, I, U> as Meaning<C>>⟧.scheme P.rules s
             (store_view ⟦<ByteKey as ByteString>⟧.bytes ⟦<ByteValue as ByteString>⟧.bytes
             command.now)) session result.0 result.1 }
     {

@@ -65,8 +65,8 @@ returns-in-Some-ended g c =
           (λ s. Between g.C.Store g.X.Meaning policies c.loop-line.session behind.0 s)
           (c.loop-line.invariant.machine stored log is own before.0 behind.0 (turns-looser (chunks_of g.X.Meaning.scheme) before.0 (g.C.Store.told c.args.store) _ (λ destroyed. tt) before.1))
           (λ s between none. own-of m policies _ s.log (rw (sym (c.answer_line-next.ensures.unused none)) at between.stands.store.told) between.sound.kept)
-          (λ s between apart. line-own g.C.Store g.X.Meaning c.loop-line.session behind.0 (line_of c.in-Some.line.now) _ s (rw c.returned.ensures.store at c.returned.ensures.stable) between apart
-          (c.answer_line-next.ensures.left s between.stands (sound-steady m policies g.X.Meaning.bounds s between.sound) apart)))));
+          (λ s between apart. line-own g.C.Store g.X.Meaning g.met.X.Common.bounds c.loop-line.session behind.0 (line_of c.in-Some.line.now) _ s (rw c.returned.ensures.store at c.returned.ensures.stable) between apart
+          (c.answer_line-next.ensures.left s between.stands (sound-steady m policies g.met.X.Common.bounds s between.sound) apart)))));
       done = λ e. absurd (ended-at _ c.in-Some-ended.is c.answer_line-next.ensures.not_done e);
       bad = λ e.
           at_bad c.args.input.now c.loop-line.rest.now c.in-Some.line.now c.in-Some.behind.now c.loop-line.answered c.loop-line.invariant.at c.in-Some.ensures.some
@@ -112,7 +112,7 @@ loop-line-preserved g c =
           (λ s. Between g.C.Store g.X.Meaning policies c.loop-line.session (behind.0 ++ rest) s)
           (λ s. Between g.C.Store g.X.Meaning policies c.answer_line-next.result.0 rest s)
           (c.loop-line.invariant.machine stored log is own before.0 (behind.0 ++ rest) (turns-looser (chunks_of g.X.Meaning.scheme) before.0 (g.C.Store.told c.args.store) _ (λ destroyed. tt) before.1))
-          (line_goes g.C.Store g.X.Meaning c.loop-line.session c.answer_line-next.result.0 behind.0 rest c.loop-line.text.items c.answer_line-next.new.text.items (line_of c.in-Some.line.now) (none-at _ c.in_default-ended.is behind.2)
+          (line_goes g.C.Store g.X.Meaning g.met.X.Common.bounds c.loop-line.session c.answer_line-next.result.0 behind.0 rest c.loop-line.text.items c.answer_line-next.new.text.items (line_of c.in-Some.line.now) (none-at _ c.in_default-ended.is behind.2)
           (λ s stands steady choices. none-at _ c.in_default-ended.is (c.answer_line-next.ensures.machine s stands steady behind.0 rest (turns-looser (chunks_of g.X.Meaning.scheme) behind.0 _ _ (λ destroyed. tt) behind.1) choices))));
     }
 

@@ -50,8 +50,8 @@ returns-in-Some g c =
           (line_here f c.args.commands.now i c.command-item.result c.loop-command-test.true c.command-item.is)
           (length-map c.loop-command.replies.items a ∙ c.loop-command.invariant.count)
           (c.loop-command.invariant.machine s before.0 (behind.0 ++ rest) (turns-looser (chunks_of m) before.0 told _ (λ destroyed. tt) before.1) here)
-          (λ bounded s between apart. own-left g.C.Store g.X.Meaning rules c.loop-command.session (behind.0 ++ rest) (f c.command-item.result) _ s bounded between apart
-          (c.step-next.ensures.left s between.stands (sound-steady m rules g.X.Meaning.bounds s between.sound) apart)));
+          (λ bounded s between apart. own-left g.C.Store g.X.Meaning rules g.met.X.Common.bounds c.loop-command.session (behind.0 ++ rest) (f c.command-item.result) _ s bounded between apart
+          (c.step-next.ensures.left s between.stands (sound-steady m rules g.met.X.Common.bounds s between.sound) apart)));
       onward = λ e. absurd (ended-at _ c.in-Some.is c.step-next.ensures.not_done e);
       done = λ e. absurd (ended-at _ c.in-Some.is c.step-next.ensures.not_done e);
       short = λ other. omega (arith, ap length kept, c.loop-command.invariant.count, c.loop-command-test.true);
@@ -96,7 +96,7 @@ loop-command-preserved g c =
           (rw (length-map c.args.commands.now f) c.loop-command-test.true)
           (line_here f c.args.commands.now i c.command-item.result c.loop-command-test.true c.command-item.is)
           (c.loop-command.invariant.machine s before.0 (behind.0 ++ rest) (turns-looser (chunks_of m) before.0 told _ (λ destroyed. tt) before.1) here)
-          (goes-between g.C.Store g.X.Meaning rules c.loop-command.session c.step-next.result.0 behind.0 rest (f c.command-item.result) (λ s. map a c.step-next.new.replies.items ≡ map a c.loop-command.replies.items ++ (turn m rules s (f c.command-item.result)).0 ∷ []) chosen
+          (goes-between g.C.Store g.X.Meaning rules g.met.X.Common.bounds c.loop-command.session c.step-next.result.0 behind.0 rest (f c.command-item.result) (λ s. map a c.step-next.new.replies.items ≡ map a c.loop-command.replies.items ++ (turn m rules s (f c.command-item.result)).0 ∷ []) chosen
           (λ s stands sound choices. none-at _ c.in_default.is (c.step-next.ensures.machine s stands sound behind.0 rest (turns-looser (chunks_of m) behind.0 _ _ (λ destroyed. tt) behind.1) choices)));
     }
 

@@ -3,22 +3,12 @@ use Rattle.qm_filling.specs.Says.{IsServed}
 use Rattle.qm_run.proofs.Machines.{machine-named}
 use Rattle.qm_run.proofs.fills.fill_by.Goals as goal
 
-pub returns-in-false-false : goal.returns-in-false-false
-returns-in-false-false g c =
-    subst (λ m. IsServed m c.args.fill c.fill_any-in-false-false.result.0 (g.C.Store.told c.args.store) (g.C.Store.told c.fill_any-in-false-false.result.1) (g.C.Store.faults c.args.store) (g.C.Store.faults c.fill_any-in-false-false.result.1) (g.K.Sink.text c.args.sink.now) (g.K.Sink.text c.fill_any-in-false-false.new.sink) (g.K.Sink.faults c.args.sink.now) (g.K.Sink.faults c.fill_any-in-false-false.new.sink))
-    (machine-named c.args.named c.in-false-false.is-0 c.in-false-false.is-1) c.fill_any-in-false-false.ensures
+pub returns-in-false : goal.returns-in-false
+returns-in-false g c =
+    subst (λ m. IsServed m c.args.fill c.fill_mmr.result.0 (g.C.Store.told c.args.store) (g.C.Store.told c.fill_mmr.result.1) (g.C.Store.faults c.args.store) (g.C.Store.faults c.fill_mmr.result.1) (g.K.Sink.text c.args.sink.now) (g.K.Sink.text c.fill_mmr.new.sink) (g.K.Sink.faults c.args.sink.now) (g.K.Sink.faults c.fill_mmr.new.sink))
+    (machine-named c.args.named c.in-false.is) c.fill_mmr.ensures
 
-pub returns-in-false-true : goal.returns-in-false-true
-returns-in-false-true g c =
-    subst (λ m. IsServed m c.args.fill c.fill_any.result.0 (g.C.Store.told c.args.store) (g.C.Store.told c.fill_any.result.1) (g.C.Store.faults c.args.store) (g.C.Store.faults c.fill_any.result.1) (g.K.Sink.text c.args.sink.now) (g.K.Sink.text c.fill_any.new.sink) (g.K.Sink.faults c.args.sink.now) (g.K.Sink.faults c.fill_any.new.sink))
-    (machine-named c.args.named c.in-false-true.is-0 c.in-false-true.is-1) c.fill_any.ensures
-
-pub returns-in-true-false : goal.returns-in-true-false
-returns-in-true-false g c =
-    subst (λ m. IsServed m c.args.fill c.fill_current-in-true-false.result.0 (g.C.Store.told c.args.store) (g.C.Store.told c.fill_current-in-true-false.result.1) (g.C.Store.faults c.args.store) (g.C.Store.faults c.fill_current-in-true-false.result.1) (g.K.Sink.text c.args.sink.now) (g.K.Sink.text c.fill_current-in-true-false.new.sink) (g.K.Sink.faults c.args.sink.now) (g.K.Sink.faults c.fill_current-in-true-false.new.sink))
-    (machine-named c.args.named c.in-true-false.is-0 c.in-true-false.is-1) c.fill_current-in-true-false.ensures
-
-pub returns-in-true-true : goal.returns-in-true-true
-returns-in-true-true g c =
-    subst (λ m. IsServed m c.args.fill c.fill_current.result.0 (g.C.Store.told c.args.store) (g.C.Store.told c.fill_current.result.1) (g.C.Store.faults c.args.store) (g.C.Store.faults c.fill_current.result.1) (g.K.Sink.text c.args.sink.now) (g.K.Sink.text c.fill_current.new.sink) (g.K.Sink.faults c.args.sink.now) (g.K.Sink.faults c.fill_current.new.sink))
-    (machine-named c.args.named c.in-true-true.is-0 c.in-true-true.is-1) c.fill_current.ensures
+pub returns-in-true : goal.returns-in-true
+returns-in-true g c =
+    subst (λ m. IsServed m c.args.fill c.fill_mmb.result.0 (g.C.Store.told c.args.store) (g.C.Store.told c.fill_mmb.result.1) (g.C.Store.faults c.args.store) (g.C.Store.faults c.fill_mmb.result.1) (g.K.Sink.text c.args.sink.now) (g.K.Sink.text c.fill_mmb.new.sink) (g.K.Sink.faults c.args.sink.now) (g.K.Sink.faults c.fill_mmb.new.sink))
+    (machine-named c.args.named c.in-true.is) c.fill_mmb.ensures

@@ -1,7 +1,7 @@
 use Rattle.qm_model.specs.Schemes.{chunks_of}
 use Rattle.qm_machine.specs.Lines.{Destroy}
 use Rattle.std.proofs.Common.{◌≡◌, ◌<◌, ◌++◌, ℕ, List, [], length, map, sym, Some, None, Err, refl, ◌∙◌, ap, subst, inl, inr, IfSome}
-use Rattle.std.specs.Prelude.{IsSome, is_some, Contains, ◌||◌}
+use Rattle.std.specs.Prelude.{IsSome, is_some, Contains}
 use Rattle.std.proofs.lemmas.Bool.{false≢true}
 use Rattle.std.specs.String.{string_bytes}
 use Rattle.qm_model.specs.Causes.{Rose}

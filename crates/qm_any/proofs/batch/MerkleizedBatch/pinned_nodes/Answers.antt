@@ -1,4 +1,4 @@
-use Rattle.std.proofs.Common.{ℕ, true, false, None, inl, inr, ◌≡◌, ◌∙◌, ◌∷◌, Contains, arith, map, ap, sym, subst, IfOk}
+use Rattle.std.proofs.Common.{ℕ, true, false, None, ◌≡◌, ◌∙◌, ◌∷◌, Contains, arith, map, ap, sym, subst, IfOk}
 use Rattle.std.proofs.lemmas.Result.{IfOk-from_err, err_from_is_err_and}
 use Rattle.qm_model.proofs.Results.{err-then}
 use Rattle.std.specs.Prelude.{IfErr, OnOk}

@@ -1,4 +1,4 @@
-use Rattle.std.proofs.Common.{ℕ, arith, true, false, None, inl, inr, ◌≡◌, ◌∙◌, ◌∷◌, Contains, length, map, ap, ap₂, sym, subst, IfOk}
+use Rattle.std.proofs.Common.{ℕ, arith, true, false, None, ◌≡◌, ◌∙◌, ◌∷◌, Contains, length, map, ap, ap₂, sym, subst, IfOk}
 use Rattle.std.proofs.lemmas.List.{length-map}
 use Rattle.std.specs.Prelude.{IfErr, OnOk}
 use Rattle.std.proofs.lemmas.Result.{IfOk-from_err, err_from_is_err_and}

@@ -11,11 +11,11 @@ returns-in-Store-clause-handles g c = rw (c.in-Store.is, c.without_database.ensu
 
 pub returns-in-Database-clause-machine : goal.returns-in-Database-clause-machine
 returns-in-Database-clause-machine g c = λ table opened s k steady more rest told choices.
-    rw (c.settled.ensures.given, c.settled.ensures.turn) (pruned_turn g.C.Store g.X.Meaning g.X.Key.ByteString.bytes g.X.Value.ByteString.bytes g.X.Digest.Digest.bytes c.in-Database.x c.prune.result table opened s (rw c.in-Database.is at k) steady c.args.to g.met.X.Common.bare c.prune.ensures.pruned c.prune.ensures.refused)
+    rw (c.settled.ensures.given, c.settled.ensures.turn) (pruned_turn g.C.Store g.X.Meaning g.X.Key.ByteString.bytes g.X.Value.ByteString.bytes g.X.Digest.Digest.bytes c.in-Database.x c.prune.result table opened s (rw c.in-Database.is at k) steady c.args.to g.met.X.Common.bare g.met.X.Common.bounds c.prune.ensures.pruned c.prune.ensures.refused)
 
 pub returns-in-Database-clause-left : goal.returns-in-Database-clause-left
 returns-in-Database-clause-left g c = λ table opened s k steady apart.
-    rw c.settled.ensures.given (pruned_left g.C.Store g.X.Meaning g.X.Key.ByteString.bytes g.X.Value.ByteString.bytes g.X.Digest.Digest.bytes c.in-Database.x c.prune.result table opened s (rw c.in-Database.is at k) steady c.args.to g.met.X.Common.bare c.prune.ensures.pruned c.prune.ensures.refused)
+    rw c.settled.ensures.given (pruned_left g.C.Store g.X.Meaning g.X.Key.ByteString.bytes g.X.Value.ByteString.bytes g.X.Digest.Digest.bytes c.in-Database.x c.prune.result table opened s (rw c.in-Database.is at k) steady c.args.to g.met.X.Common.bare g.met.X.Common.bounds c.prune.ensures.pruned c.prune.ensures.refused)
 
 pub returns-in-Database-clause-handles : goal.returns-in-Database-clause-handles
 returns-in-Database-clause-handles g c = rw (c.in-Database.is, c.settled.ensures.given, c.settled.ensures.turn) (pruned_handles g.C.Store g.X.Meaning g.X.Key.ByteString.bytes g.X.Value.ByteString.bytes g.X.Digest.Digest.bytes c.in-Database.x c.args.to c.prune.result c.prune.ensures.pruned c.prune.ensures.refused)

@@ -12,12 +12,12 @@ returns-in-Store-clause-handles g c = rw (c.in-Store.is, c.without_database.ensu
 
 pub returns-in-Database-clause-machine : goal.returns-in-Database-clause-machine
 returns-in-Database-clause-machine g c = λ table opened s k steady more rest told choices.
-    rw (c.settled.ensures.given, c.settled.ensures.turn) (settled_turn g.C.Store g.X.Meaning g.X.Key.ByteString.bytes g.X.Value.ByteString.bytes g.X.Digest.Digest.bytes c.in-Database.x (synced g.X.Meaning.scheme) (LeavesSync g.X.Meaning.scheme) c.sync.result table opened s (rw c.in-Database.is at k) c.sync.ensures (sync-settles g.C.Store g.X.Meaning g.X.Key.ByteString.bytes g.X.Value.ByteString.bytes g.X.Digest.Digest.bytes c.in-Database.x table opened s (rw c.in-Database.is at k) g.met.X.Common.bare steady) g.met.X.Common.bare)
+    rw (c.settled.ensures.given, c.settled.ensures.turn) (settled_turn g.C.Store g.X.Meaning g.X.Key.ByteString.bytes g.X.Value.ByteString.bytes g.X.Digest.Digest.bytes c.in-Database.x (synced g.X.Meaning.scheme) (LeavesSync g.X.Meaning.scheme) c.sync.result table opened s (rw c.in-Database.is at k) c.sync.ensures (sync-settles g.C.Store g.X.Meaning g.X.Key.ByteString.bytes g.X.Value.ByteString.bytes g.X.Digest.Digest.bytes c.in-Database.x table opened s (rw c.in-Database.is at k) g.met.X.Common.bare g.met.X.Common.bounds steady) g.met.X.Common.bare)
 
 pub returns-in-Database-clause-left : goal.returns-in-Database-clause-left
 returns-in-Database-clause-left g c = λ table opened s k steady apart.
-    rw c.settled.ensures.given (settled_left g.C.Store g.X.Meaning g.X.Key.ByteString.bytes g.X.Value.ByteString.bytes g.X.Digest.Digest.bytes c.in-Database.x (synced g.X.Meaning.scheme) (LeavesSync g.X.Meaning.scheme) c.sync.result table opened s (rw c.in-Database.is at k) c.sync.ensures (sync-settles g.C.Store g.X.Meaning g.X.Key.ByteString.bytes g.X.Value.ByteString.bytes g.X.Digest.Digest.bytes c.in-Database.x table opened s (rw c.in-Database.is at k) g.met.X.Common.bare steady) g.met.X.Common.bare
-    (sync-left g.C.Store g.X.Meaning g.X.Key.ByteString.bytes g.X.Value.ByteString.bytes g.X.Digest.Digest.bytes c.in-Database.x table opened s (rw c.in-Database.is at k) g.met.X.Common.bare steady))
+    rw c.settled.ensures.given (settled_left g.C.Store g.X.Meaning g.X.Key.ByteString.bytes g.X.Value.ByteString.bytes g.X.Digest.Digest.bytes c.in-Database.x (synced g.X.Meaning.scheme) (LeavesSync g.X.Meaning.scheme) c.sync.result table opened s (rw c.in-Database.is at k) c.sync.ensures (sync-settles g.C.Store g.X.Meaning g.X.Key.ByteString.bytes g.X.Value.ByteString.bytes g.X.Digest.Digest.bytes c.in-Database.x table opened s (rw c.in-Database.is at k) g.met.X.Common.bare g.met.X.Common.bounds steady) g.met.X.Common.bare
+    (sync-left g.C.Store g.X.Meaning g.X.Key.ByteString.bytes g.X.Value.ByteString.bytes g.X.Digest.Digest.bytes c.in-Database.x table opened s (rw c.in-Database.is at k) g.met.X.Common.bare g.met.X.Common.bounds steady))
 
 pub returns-in-Database-clause-handles : goal.returns-in-Database-clause-handles
 returns-in-Database-clause-handles g c = rw (c.in-Database.is, c.settled.ensures.given, c.settled.ensures.turn) (settled_handles g.C.Store g.X.Meaning g.X.Key.ByteString.bytes g.X.Value.ByteString.bytes g.X.Digest.Digest.bytes c.in-Database.x (synced g.X.Meaning.scheme) (LeavesSync g.X.Meaning.scheme) c.sync.result c.sync.ensures)

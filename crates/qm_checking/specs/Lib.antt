@@ -1,0 +1,4 @@
+pub mod Checking
+pub mod CheckRows
+pub mod Views
+pub mod Says

@@ -1,0 +1,11 @@
+use Rattle.qm_run.proofs.current_mmb.making.DatabaseMaking.merkleize.Goals as goal
+
+pub returns-in-Ok-clause-makes : goal.returns-in-Ok-clause-makes
+returns-in-Ok-clause-makes g c = λ list chain above ws is begun.
+    let made = c.in-Ok.ensures.makes list chain above ws is begun in
+    record { instance = made.instance; fit = made.fit; made = made.made; stale = tt; refused = tt }
+
+pub returns-in-Err-clause-makes : goal.returns-in-Err-clause-makes
+returns-in-Err-clause-makes g c = λ list chain above ws is begun.
+    let made = c.in-Err.ensures.makes list chain above ws is begun in
+    record { instance = tt; fit = tt; made = tt; stale = made.stale; refused = made.refused }

@@ -1,0 +1,7 @@
+use Rattle.qm_model.proofs.Results.{err-then}
+use Rattle.qm_run.proofs.current_mmb.ordered.DatabaseNeighbours.prev_from.Goals as goal
+
+pub returns-clause-failure : goal.returns-clause-failure
+returns-clause-failure g c = err-then c.prev_from.result c.prev_from.ensures.failure (λ e failed list chain tip is made.
+    let why = failed list chain tip is made in
+    record { stale = why.stale; refused = why.refused; order = why.order })

@@ -1,0 +1,55 @@
+//! The lists of batches: made, and applied.
+
+use crate::current_mmb::{Database, Inside, Made};
+use crate::kind::Kind;
+use qm_base::{ByteKey, ByteValue, Error, Location};
+use qm_chain::Policy;
+use qm_index::{Factory, FourCap};
+use qm_merkle::mmb;
+use qm_offer::Making;
+use qm_store::{Given, Refusal, Store};
+use std::alloc::Global;
+
+impl<
+    C: Store + Drop,
+    I: Factory<Value = Location<mmb::Family>, Translator = FourCap> + Drop,
+    U: Kind<mmb::Family, I, Key = ByteKey, Value = ByteValue>,
+> Making<C> for Database<C, I, U> {
+    fn merkleize<P: Policy<mmb::Family, ByteKey, ByteValue>>(
+        &mut self,
+        alloc: Global,
+        batch: Self::Batch,
+        policy: &mut P,
+        metadata: &Option<ByteValue>,
+    ) -> Result<Self::Merkleized, Error> {
+        match <Inside<C, I, U> as Making<C>>::merkleize(
+            &mut self.db,
+            alloc,
+            batch,
+            policy,
+            metadata,
+        ) {
+            Ok(batch) => Ok(Made { batch }),
+            Err(error) => Err(error),
+        }
+    }
+
+    fn apply(self, alloc: Global, batch: &Self::Merkleized) -> Result<Self, Refusal<Self, C>> {
+        match <Inside<C, I, U> as Making<C>>::apply(self.db, alloc, &batch.batch) {
+            Ok(db) => Ok(Database { db }),
+            Err(refused) => {
+                let Refusal { given, error } = refused;
+                match given {
+                    Given::Database(db) => Err(Refusal {
+                        given: Given::Database(Database { db }),
+                        error,
+                    }),
+                    Given::Store(store) => Err(Refusal {
+                        given: Given::Store(store),
+                        error,
+                    }),
+                }
+            }
+        }
+    }
+}
