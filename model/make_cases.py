@@ -288,6 +288,7 @@ SETTLED = 'open\nbatch\nput 1 6b 76\nmerkleize 1 prop none\napply 1\ncommit\nbat
 SETTLED_REPLIES = 'open 1 0 1\nbatch 1\nok\nmerkleized 1 1 4 2\napplied 4\nok\nbatch 2\nok\nmerkleized 2 4 7 3\napplied 7\n'
 for keep, size in ((0, 4), (5, 4), (6, 4), (7, 7), (9, 7)):
     worked('a crash that is asked to keep %d' % keep, SETTLED + 'crash %d\nopen\ninfo\n' % keep, 0, SETTLED_REPLIES + 'ok\nopen 2 0 %d\n' % size + ('info 0 7 3 3 live\n' if size == 7 else 'info 0 4 2 2 live\n'), size)
+worked('a crash of what was not committed', SETTLED.replace('commit\n', '') + 'crash 3\nopen\ninfo\n', 0, SETTLED_REPLIES.replace('applied 4\nok\n', 'applied 4\n') + 'ok\nopen 2 0 1\ninfo 0 1 0 0 empty\n', 1)
 worked('bounds', SETTLED + 'open max=0\ninfo\nopen max=6\napply 2\nopen max=7\nopen max=1\nopen\n', 0, SETTLED_REPLIES + 'refused InvalidInitializationBound\nrefused NoDatabase\nopen 2 0 4\napplied 7\nopen 3 0 7\nopen 4 0 1\nopen 5 0 1\n', 1)
 worked('closed and destroyed', SETTLED + 'close\nget 6b\nopen\nget 6b\nsync\ndestroy\nsync\nopen\ninfo\n', 0, SETTLED_REPLIES + 'ok\nrefused NoDatabase\nopen 2 0 7\nread 76\nok\nok\nrefused NoDatabase\nopen 3 0 1\ninfo 0 1 0 0 empty\n', 1)
 put('a store for later', lines_of(SETTLED.encode()), SETTLED_REPLIES, 0, 0, 7)
@@ -412,6 +413,15 @@ long_replies = text.splitlines(keepends=True)
 for call, replies, start, count in ((1065, 1064, 0, 796), (1066, 1065, 0, 799), (1067, 1065, 0, 799), (1069, 1067, 768, 31), (1070, 1067, 768, 31), (1068, 1065, 0, 799)):
     put('current, pruned, store call %d fails' % call, ['fail store %d' % call], ''.join(long_replies[:replies]) + 'store fault\n', 6, start, count, begin='again')
 put('current, opened after store call 1068 failed', ['keep', 'words ' + CURRENT, '| open', '| info'], 'open 1 0 799\ninfo 0 799 797 768 live\n', 0, 0, 799)
+section('A prune of an any database, its commit (call 1065) and the prune of its log (call 1066) failing: what is left is opened, as it is, and after a crash where the list was committed.')
+text, status, store = modelled('pruned', LONG + 'root\nprune 768\nroot\ncrash 0\nopen\nroot\n')
+long_replies = text.splitlines(keepends=True)
+assert long_replies[1065] == long_replies[1067] == long_replies[1070] and long_replies[1069] == 'open 2 768 799\n'
+for call in (1066, 1065):
+    put('pruned, store call %d fails' % call, ['fail store %d' % call], ''.join(long_replies[:1066]) + 'store fault\n', 6, 0, 799, begin='again')
+put('opened after store call 1065 failed', ['keep', '| open', '| root'], 'open 1 0 799\n' + long_replies[1065], 0, 0, 799)
+put('pruned, store call 1066 fails, before a crash', lines_of((LONG + 'root\nprune 768\n').encode()) + ['fail store 1066'], ''.join(long_replies[:1066]) + 'store fault\n', 6, 0, 799)
+put('crashed after store call 1066 failed', ['keep', '| crash 0', '| open', '| root', '| get 6b'], 'ok\nopen 1 0 799\n' + long_replies[1065] + 'read 0a\n', 0, 0, 799)
 section('Proofs over several chunks, after a prune, after a crash of a list that is pruned, and by a second run over its store.')
 SHOWN = 'held 6b\nchunks 0 799\nchunks 255 2\nchunks 767 2\nchunks 768 31\nchunks 798 9\nchunks 799 1\nwitness\n'
 modelled('current, proofs before and after a prune', LONG + SHOWN + 'prune 768\n' + SHOWN + 'batch\nput 267 6c 01\nmerkleize 267 prop none\napply 267\n' + SHOWN + 'crash 0\nopen\n' + SHOWN, words=CURRENT)

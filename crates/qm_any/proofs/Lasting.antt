@@ -24,8 +24,8 @@ use Rattle.qm_store.specs.Log as logs
 use Rattle.qm_store.specs.Log.{Log, IsLog, IsRefused}
 use Rattle.qm_any.specs.Layouts.{Hashing, Layout}
 use Rattle.qm_any.specs.Databases.{Database, State, IsDatabase, over}
-use Rattle.qm_model.proofs.Stores.{leaves-now}
-use Rattle.qm_any.specs.Lasting.{bits_from, cut_to, given_up, over_log, HasLasted, HasLeftPruned, HasPruned, HasPrunedLog, IsGivenUp, IsHeadAt}
+use Rattle.qm_model.proofs.Stores.{fails-unmoved}
+use Rattle.qm_any.specs.Lasting.{bits_from, cut_to, given_up, over_log, FailsPrune, HasLasted, HasLeftPruned, HasPruned, HasPrunedLog, IsGivenUp, IsHeadAt}
 
 -- what holds if both do
 pub ok-two : {X E : Type 0} {P Q R : X → Type 0} (r : Result X E) → IfOk r P → IfOk r Q → ((x : X) → P x → Q x → R x) → IfOk r R
@@ -210,9 +210,9 @@ module _ {C D : Type 0} (members : store.Ghosts C) where
       stable : IfSome (members.told old.store) (λ s. s.stable ≡ end_of s)
       stable = subst (λ db. IfSome (members.told db.log.store) (λ s. s.stable ≡ end_of s)) whole all
 
-      itself : (o : Option Stored) → IfSome o (λ s. s.stable ≡ end_of s) → Turns o o (λ s. ReadsAs s.stable (IsOldOrNew (pruned to head) s))
+      itself : (o : Option Stored) → IfSome o (λ s. s.stable ≡ end_of s) → Turns o o (FailsPrune to head)
       itself None h = refl
-      itself (Some s) h = reads-itself (pruned to head) s h
+      itself (Some s) h = fails-unmoved _ _ s (reads-itself (pruned to head) s h)
 
       by : (given : LogGiven (Log C D) C) (error : Error) → IsRefused members (logs.HasLeftPruned members to head) old given error
           → IsGivenUp members {X = Database C D} (λ _. HasLeftPruned members hashing (λ s. s) to old) old.store (given_up (record { given = given; error = error }))
@@ -227,7 +227,7 @@ module _ {C D : Type 0} (members : store.Ghosts C) where
           }
       by (variants.Store s) error refused =
           let left = refused.left s refl in
-          record { store = s; given = refl; left = record { past = past; within = left.within; head = head; heads = heads; told = leaves-now (members.told old.store) (members.told s) (λ s. ReadsAs s.stable (IsOldOrNew (pruned to head) s)) (λ s. ReadsAs s.stable (IsOldOrNew (pruned to head) s)) left.told }; never = refused.never; cause = refused.cause }
+          record { store = s; given = refl; left = record { past = past; within = left.within; head = head; heads = heads; told = left.told }; never = refused.never; cause = refused.cause }
 
   pub cut-is : (chunk : ℕ) (v b : State) (a : Bitmap) (to : ℕ) (log : Log C D) (db : Database C D) → db ≡ over (record v { activity = a }) log → a ≡ bits_from chunk to v.activity → v ≡ b → db ≡ over (cut chunk to b) log
   cut-is chunk v b a to log db is same view = is ∙ ap (λ a. over (record v { activity = a }) log) same ∙ ap (λ v. over (cut chunk to v) log) view
@@ -306,7 +306,7 @@ module _ {C D : Type 0} (members : store.Ghosts C) where
       within = omega (arith, given.left.within, last.store.end);
       head = given.left.head;
       heads = λ items logged. given.left.heads items (last.stands items logged);
-      told = turns-behind (members.told self.log.store) (members.told middle.log.store) (members.told given.store) f (λ s. ReadsAs s.stable (IsOldOrNew (pruned to given.left.head) s)) last.store.told given.left.told;
+      told = turns-behind (members.told self.log.store) (members.told middle.log.store) (members.told given.store) f (FailsPrune to given.left.head) last.store.told given.left.told;
     });
     never = given.never;
     cause = record { later = omega (arith, last.later, given.cause.later); failed = λ fault. omega (arith, last.later, given.cause.failed fault) };

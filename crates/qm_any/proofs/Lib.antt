@@ -25,3 +25,5 @@ pub mod OfferedRanges
 pub mod OfferedProofs
 pub mod Opened
 pub mod Owned
+pub mod Crashing
+pub mod CrashingOpened

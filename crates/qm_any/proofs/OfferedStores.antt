@@ -18,7 +18,7 @@ use Rattle.qm_store.specs.declared.refusal.Given.TheVariants as variants
 use Rattle.qm_store.specs.declared.refusal.Refusal.{Refusal}
 use Rattle.qm_store.specs.Given.{store_after, store_given}
 use Rattle.qm_store.specs.Refusals.{refusal_of}
-use Rattle.qm_any.specs.Lasting.{cut_to, IsHeadAt}
+use Rattle.qm_any.specs.Lasting.{cut_to, FailsPrune, IsHeadAt}
 use Rattle.qm_any.specs.Databases.{Database, IsDatabase}
 use Rattle.qm_model.specs.Taken.{head_at, StaysBeside, after_prune, LeavesSync, LeavesPrune}
 use Rattle.qm_any.proofs.OfferedHeads.{head-is, scheme}
@@ -78,12 +78,12 @@ module _ (shape : Shape) (form : Form) where
   pub left-stable : (list : List Operation) (o new : Option Stored) (start : ℕ) (IsHead : Bytes → Type 0) (to : ℕ) → Turns o new (λ s. ReadsAs s.stable (IsImage s)) → Turns o new (LeavesPrune (scheme shape form) list start IsHead to)
   left-stable list o new start IsHead to is = turned-each o new _ _ (λ s t left. inl left) is
 
-  pub left-pruned : (list : List Operation) (o new : Option Stored) (start : ℕ) (IsHead : Bytes → Type 0) (to : ℕ) (head : Bytes) → start < to → IsHead head → Turns o new (λ s. ReadsAs (settled s).stable (IsOldOrNew (pruned to head) (settled s)))
+  pub left-pruned : (list : List Operation) (o new : Option Stored) (start : ℕ) (IsHead : Bytes → Type 0) (to : ℕ) (head : Bytes) → start < to → IsHead head → Turns o new (λ s. FailsPrune to head (settled s))
       → Turns o new (LeavesPrune (scheme shape form) list start IsHead to)
-  left-pruned list o new start IsHead to head past heads is = turned-each o new _ _ (λ s t left. inr (inr (past, head, heads, left))) is
+  left-pruned list o new start IsHead to head past heads is = turned-each o new _ _ (λ s t left. inr (inr (past, head, heads, left.now))) is
 
-  pub unpruned-beside : (o new : Option Stored) (to : ℕ) (head : Bytes) → Turns o new (λ s. ReadsAs (settled s).stable (IsOldOrNew (pruned to head) (settled s))) → Turns o new (StaysBeside (scheme shape form))
-  unpruned-beside o new to head is = stays-beside o new _ (λ s t r. read-beside (settled s).stable (IsOldOrNew (pruned to head) (settled s)) s t (either s) r) is
+  pub unpruned-beside : (o new : Option Stored) (to : ℕ) (head : Bytes) → Turns o new (λ s. FailsPrune to head (settled s)) → Turns o new (StaysBeside (scheme shape form))
+  unpruned-beside o new to head is = stays-beside o new _ (λ s t r. read-beside (settled s).stable (IsOldOrNew (pruned to head) (settled s)) s t (either s) r.now) is
     where
       either : (s image : Stored) → IsOldOrNew (pruned to head) (settled s) image → AreBeside s image
       either s image (inl i) = image-beside (settled s) image i
@@ -94,7 +94,7 @@ module _ (shape : Shape) (births : Births) (family : IsFamily shape births) (pea
   pub heads-of : (head : Bytes) → IsHeadAt members (sha256_hashing shape form) to db.log head → (list : List Operation) → IsDatabase members (record { hashing = sha256_hashing shape form; chunk = chunk; index_key = index_key }) db list → to ≤ floor list → length list ≤ 2 ^ 62 → head ≡ head_at (scheme shape form) list to
   heads-of head heads list is low few =
       let within : to ≤ length list = omega (arith, low, is.good.floor_within) in
-      head-is shape births family peaked form list to (omega (arith, within, few)) within head (heads (map (spelling form) list) is.lent.logged)
+      head-is (sha256_hashing shape form) 32 births family peaked list to (omega (arith, within, few)) within head (heads (map (spelling form) list) is.lent.logged)
 
 -- no refusal gives back a database and a store
 pub not-both : {X C : Type 0} (given : Given X C) (x : X) (c : C) → given ≡ variants.Database x → given ≡ variants.Store c → ⊥

@@ -13,6 +13,7 @@ use Rattle.qm_store.specs.Refusals.{IsDue}
 use Rattle.qm_store.proofs.Exits.{later-cause}
 use Rattle.qm_store.proofs.Stores.{kept-then}
 use Rattle.qm_open.proofs.Checking.{each-known, known-at}
+use Rattle.qm_offer.specs.Crashing.{FailsOpening}
 use Rattle.qm_any.specs.Databases.{Database}
 use Rattle.qm_any.specs.Layouts.{Layout}
 use Rattle.qm_any.specs.Offered.{scheme_of}
@@ -35,6 +36,7 @@ module _ {C D : Type 0} (members : store.Ghosts C) (layout : Layout D) (digest_s
     refused = each-known (members.told first) (λ s told. tt);
     unopened = tt;
     left = tt;
+    failed = tt;
     start = is.start ∙ kept.start;
     later = le_trans later is.later;
     back = tt;
@@ -50,6 +52,9 @@ module _ {C D : Type 0} (members : store.Ghosts C) (layout : Layout D) (digest_s
     left = turns-weaker (members.told first) (members.told (store_given (λ db. db.log.store) r.given)) (λ s t. LeavesOpening (scheme_of digest_size layout.hashing) (at s) s t) (λ s t. LeavesOpening (scheme_of digest_size layout.hashing) (size s) s t)
         (λ s t told left. subst (λ n. LeavesOpening (scheme_of digest_size layout.hashing) n s t) (sym (alike s told)) left)
         (subst (λ o. Turns o (members.told (store_given (λ db. db.log.store) r.given)) (λ s t. LeavesOpening (scheme_of digest_size layout.hashing) (at s) s t)) kept.told is.left);
+    failed = turns-weaker (members.told first) (members.told (store_given (λ db. db.log.store) r.given)) (λ s. FailsOpening (scheme_of digest_size layout.hashing) (at s) s) (λ s. FailsOpening (scheme_of digest_size layout.hashing) (size s) s)
+        (λ s t told failed. subst (λ n. FailsOpening (scheme_of digest_size layout.hashing) n s t) (sym (alike s told)) failed)
+        (subst (λ o. Turns o (members.told (store_given (λ db. db.log.store) r.given)) (λ s. FailsOpening (scheme_of digest_size layout.hashing) (at s) s)) kept.told is.failed);
     start = tt;
     later = tt;
     back =

@@ -1,8 +1,9 @@
 -- What an accepted opening takes up of an own store: the first operations of its list.
 use Rattle.std.proofs.Common.{◌≡◌, ◌∙◌, ◌+◌, ◌-◌, ◌<◌, ◌≤◌, ℕ, zero, suc, Bool, true, false, List, [], ◌∷◌, length, map, take, drop, Option, Some, None, Result, Ok, Err, ap, sym, subst, refl, arith, le_refl, length-take-le}
-use Rattle.std.specs.Prelude.{IfSome, IfOk, option_map, if◌then◌else◌}
+use Rattle.std.specs.Prelude.{◌==◌, ◌&&◌, get_or, IfSome, IfOk, option_map, if◌then◌else◌}
 use Rattle.std.specs.List.{concat}
 use Rattle.std.specs.Option.{option_or}
+use Rattle.std.proofs.lemmas.Bool.{eqb-true}
 use Rattle.std.proofs.lemmas.List.{length-map, length-take, length-drop, drop-map, drop-take, take-map, take-take}
 use Rattle.qm_model.specs.Operations.{Operation}
 use Rattle.qm_model.specs.Forms.{spelling}
@@ -13,7 +14,8 @@ use Rattle.qm_model.specs.Grafted.{grafted_pins}
 use Rattle.qm_model.specs.Walk.{Rules}
 use Rattle.qm_model.specs.Step.{Made, ordered, unordered}
 use Rattle.qm_model.specs.StoreModel.{Stored, metadata_in}
-use Rattle.qm_model.specs.Opening.{Chunks, Found, Selected, opens, opening, opening_of, opening_refusal, opened_list, commit_at, last_commit, below_bound, selected, size_of, found, pins_found}
+use Rattle.qm_model.specs.Refused.{DataCorrupted}
+use Rattle.qm_model.specs.Opening.{checks, commit_refusal, first_refusal, is_empty, Chunks, Found, Selected, opens, opening, opening_of, opening_refusal, opened_list, commit_at, last_commit, below_bound, selected, size_of, found, pins_found}
 use Rattle.qm_model.specs.Own.{Engine, Log, Takes, OpensParts, KeepsCount, MetadataIs, IsOwn, IsKept, found_in, taken_up, ended_part, settled_list}
 use Rattle.qm_model.specs.Schemes.{Scheme, HasBounds, chunks_of, engine_of, kind_of, layout_of}
 use Rattle.qm_model.specs.Taken.{HasPins, IsTaken, head_at, selected_size}
@@ -63,6 +65,13 @@ selected-some : (start n k : ℕ) (at : Option Selected) → IsWithin start n at
 selected-some start n k None within is = absurd (omega (arith, is))
 selected-some start n k (Some c) within is = let low = within.0 in let high = within.1 in (omega (arith, is, low), omega (arith, is, high))
 
+-- no check fails
+none-at : {A : Type 0} (rs : List (Option A)) (k : ℕ) → first_refusal rs ≡ None → get_or rs k None ≡ None
+none-at [] k is = refl
+none-at (Some r ∷ rs) k is = absurd (cc)
+none-at (None ∷ rs) zero is = refl
+none-at (None ∷ rs) (suc k) is = none-at rs k is
+
 -- An engine of a scheme.
 
 module _ (m : Scheme) {P : Type 0} (rules : Rules P) (bounds : HasBounds m) where
@@ -76,7 +85,7 @@ module _ (m : Scheme) {P : Type 0} (rules : Rules P) (bounds : HasBounds m) wher
       by true = ordered-parts rules m.hash (layout_of m) bounds.prompt
       by false = unordered-parts rules m.hash (layout_of m) bounds.prompt
 
-  keeps : Keeps (kind_of m) rules
+  pub keeps : Keeps (kind_of m) rules
   keeps = by m.form.ordered
     where
       by : (b : Bool) → Keeps (if b then ordered else unordered) rules
@@ -94,6 +103,71 @@ module _ (m : Scheme) {P : Type 0} (rules : Rules P) (bounds : HasBounds m) wher
   counts log kept = keeps-count rules rules keeps m.hash m.form m.shape m.digest_size (chunks_of m) bounds.over log kept
 
   module _ (log : Log) (s : Stored) (is : IsOwn own log s) where
+    alike : found (layout_of m) s ≡ found_in own log
+    alike = opens-alike own log s is
+
+    opened : (bound : Option ℕ) → opening_refusal (layout_of m) (found (layout_of m) s) bound ≡ None → opening (layout_of m) (found_in own log) bound ≡ opens (selected_size m bound s)
+    opened bound accepted = ap (λ f. opening (layout_of m) f bound) (sym alike) ∙ ap (λ o. opening_of o (selected_size m bound s)) accepted
+
+    -- what an accepted opening takes up
+    pub own-takes : (bound : Option ℕ) → opening_refusal (layout_of m) (found (layout_of m) s) bound ≡ None → Takes own log bound (selected_size m bound s)
+    own-takes bound accepted = parts log bound (selected_size m bound s) is.kept (opened bound accepted)
+
+    inside : log.start ≤ length log.list
+    inside = start-within keeps m.hash (layout_of m) log is.kept
+
+    -- a commit that it selects stands in the log
+    own-selected : (bound : Option ℕ) (n : ℕ) → selected_size m bound s ≡ suc n → (log.start < suc n) × (suc n ≤ length log.list)
+    own-selected bound n size =
+        let within = selected-some log.start (log.start + length (found_in own log).items) n (selected (found_in own log) bound) (selected-within (found_in own log) bound) (ap (λ f. size_of (selected f bound)) (sym alike) ∙ size) in
+        (within.0, let high = within.1 in omega (arith, high, inside, length-map (drop log.start log.list) (λ (op : Operation). Some op), length-drop log.start log.list))
+
+    -- it selects none of an empty log alone
+    pub own-none : (bound : Option ℕ) → opening_refusal (layout_of m) (found (layout_of m) s) bound ≡ None → selected_size m bound s ≡ 0 → log.list ≡ []
+    own-none bound accepted size = by (selected f bound) refl (ap (λ g. size_of (selected g bound)) (sym alike) ∙ size) (selected-within f bound)
+      where
+        f : Found
+        f = found_in own log
+
+        counted : f.start + length f.items ≡ length log.list
+        counted = omega (arith, inside, length-map (drop log.start log.list) (λ (op : Operation). Some op), length-drop log.start log.list)
+
+        bare : (ops : List Operation) → length ops ≡ 0 → ops ≡ []
+        bare [] e = refl
+        bare (op ∷ ops) e = absurd (omega (arith, e))
+
+        empty : (b : Bool) → is_empty f ≡ b → option_map DataCorrupted (commit_refusal b None) ≡ None → log.list ≡ []
+        empty false e due = absurd (cc)
+        empty true e due = bare log.list (sym counted ∙ ends f.start (length f.items) e)
+          where
+            both : (p q : Bool) → (p && q) ≡ true → (p ≡ true) × (q ≡ true)
+            both true true e = (refl, refl)
+            both true false e = absurd (cc)
+            both false q e = absurd (cc)
+
+            ends : (a b : ℕ) → (a == 0 && b == 0) ≡ true → a + b ≡ 0
+            ends a b e = let zeros = both (a == 0) (b == 0) e in omega (arith, eqb-true a 0 zeros.0, eqb-true b 0 zeros.1)
+
+        by : (at : Option Selected) → selected f bound ≡ at → size_of at ≡ 0 → IsWithin f.start (f.start + length f.items) at → log.list ≡ []
+        by None e none within =
+            empty (is_empty f) refl (subst (λ at. option_map DataCorrupted (commit_refusal (is_empty f) at) ≡ None) e (none-at (checks (layout_of m) f bound) 3 (subst (λ g. opening_refusal (layout_of m) g bound ≡ None) alike accepted)))
+        by (Some c) e none within = let some = within.0 in absurd (omega (arith, some, none))
+
+    -- nor more than the log has, nor less than its start
+    pub own-few : (bound : Option ℕ) → selected_size m bound s ≤ length log.list
+    own-few bound = by (selected_size m bound s) refl
+      where
+        by : (n : ℕ) → selected_size m bound s ≡ n → n ≤ length log.list
+        by zero size = omega arith
+        by (suc n) size = (own-selected bound n size).1
+
+    pub own-low : (bound : Option ℕ) → opening_refusal (layout_of m) (found (layout_of m) s) bound ≡ None → log.start ≤ selected_size m bound s
+    own-low bound accepted = by (selected_size m bound s) refl
+      where
+        by : (n : ℕ) → selected_size m bound s ≡ n → log.start ≤ n
+        by zero size = omega (arith, inside, ap length (own-none bound accepted size))
+        by (suc n) size = let low = (own-selected bound n size).0 in omega (arith, low)
+
     -- the pins that metadata counts are those of each list that goes on
     pins : (list : List Operation) → IsKept own (taken_up list log) → settled_list (taken_up list log) ≡ list → take (length list) log.list ≡ list → HasPins (chunks_of m) m s list
     pins list kept whole begins = by (chunks_of m) (counts (taken_up list log) kept log (taken_up list log) s s refl refl (subst (λ l. take (length l) log.list ≡ l) (sym whole) begins) (subst (λ l. take (length l) list ≡ l) (sym whole) (Begins-self list)) refl is.stored.metadata)
@@ -108,24 +182,14 @@ module _ (m : Scheme) {P : Type 0} (rules : Rules P) (bounds : HasBounds m) wher
     pub own-taken : (bound : Option ℕ) → opening_refusal (layout_of m) (found (layout_of m) s) bound ≡ None → IsTaken m s (selected_size m bound s) (opened_list (selected_size m bound s) log.list)
     own-taken bound accepted = by (selected_size m bound s) refl
       where
-        alike : found (layout_of m) s ≡ found_in own log
-        alike = opens-alike own log s is
-
-        opened : opening (layout_of m) (found_in own log) bound ≡ opens (selected_size m bound s)
-        opened = ap (λ f. opening (layout_of m) f bound) (sym alike) ∙ ap (λ o. opening_of o (selected_size m bound s)) accepted
-
-        takes : Takes own log bound (selected_size m bound s)
-        takes = parts log bound (selected_size m bound s) is.kept opened
-
         by : (n : ℕ) → selected_size m bound s ≡ n → IsTaken m s n (opened_list n log.list)
         by zero size = refl
         by (suc n) size =
             let list = take (suc n) log.list in
-            let inside = start-within keeps m.hash (layout_of m) log is.kept in
-            let within = selected-some log.start (log.start + length (found_in own log).items) n (selected (found_in own log) bound) (selected-within (found_in own log) bound) (ap (λ f. size_of (selected f bound)) (sym alike) ∙ size) in
-            let few : suc n ≤ length log.list = let high = within.1 in omega (arith, high, inside, length-map (drop log.start log.list) (λ (op : Operation). Some op), length-drop log.start log.list) in
+            let within = own-selected bound n size in
+            let few : suc n ≤ length log.list = within.1 in
             let low : log.start ≤ suc n = let past = within.0 in omega (arith, past) in
-            let taken : Takes own log bound (suc n) = subst (Takes own log bound) size takes in
+            let taken : Takes own log bound (suc n) = subst (Takes own log bound) size (own-takes bound accepted) in
             let long : length list ≡ suc n = length-take-le (suc n) log.list few in
             let of = taken.kept.made.of_form in
             let made : Made (kind_of m) rules list = (keeps.begins list taken.kept.made.whole taken.kept.made.made taken.kept.made.begins taken.ended).0 in
@@ -161,7 +225,7 @@ module _ {C D : Type 0} (members : store.Ghosts C) (layout : Layout D) (digest_s
   abbrev machine : Scheme
   machine = scheme_of digest_size layout.hashing
 
-  plain : HasBounds machine
+  pub plain : HasBounds machine
   plain = record { low = λ list. le_refl (floor list); chunks = tt; prompt = tt; over = tt }
 
   -- the database of an opened own store stands for the first operations of its list

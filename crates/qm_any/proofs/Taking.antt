@@ -1,15 +1,16 @@
 -- What openings leave of a store.
-use Rattle.std.proofs.Common.{◌≡◌, ◌∙◌, ◌-◌, ◌≤◌, ◌<◌, ◌++◌, ℕ, zero, suc, min, List, [], ◌∷◌, length, map, take, true, ap, sym, subst, refl, arith, append-nil, Option, Some, None}
+use Rattle.std.proofs.Common.{inl, inr, ◌≡◌, ◌∙◌, ◌-◌, ◌≤◌, ◌<◌, ◌++◌, ℕ, zero, suc, min, List, [], ◌∷◌, length, map, take, true, ap, sym, subst, refl, arith, append-nil, Option, Some, None}
 use Rattle.std.proofs.lemmas.List.{take-take, length-take}
 use Rattle.qm_model.specs.Operations.{Bytes, Operation, fresh}
-use Rattle.qm_model.specs.StoreModel.{Stored, end_of, left_at, appended, settled, rewound, IsImage, RewindLeaves, ReadsAs, HasAppended, Turns, Becomes}
-use Rattle.qm_model.proofs.Stores.{cut-whole, leaves-now}
+use Rattle.qm_model.specs.StoreModel.{Stored, end_of, left_at, appended, settled, rewound, IsImage, RewindLeaves, ReadsAs, HasAppended, Fails, Grows, Turns, Becomes}
+use Rattle.qm_model.proofs.Stores.{cut-whole, fails-unmoved, leaves-now}
 use Rattle.qm_store.specs.declared.Store as store
 use Rattle.qm_store.specs.declared.refusal.Given.{Given}
 use Rattle.qm_store.specs.declared.refusal.Given.TheVariants as variants
 use Rattle.qm_store.specs.declared.refusal.Refusal.{Refusal}
 use Rattle.qm_store.specs.Given.{store_given, IsUnchanged}
 use Rattle.qm_store.specs.Log.{IsKept}
+use Rattle.qm_offer.specs.Crashing.{FailsOpening, FailsSettling}
 use Rattle.qm_any.specs.Lasting.{HasLeftStable, IsGivenUp}
 use Rattle.qm_model.specs.Forms.{spelling}
 use Rattle.qm_model.specs.Ordered.{IsRing}
@@ -72,6 +73,26 @@ unmoved more s = record {
 }
 
 module _ (m : Scheme) where
+  -- an opening that left the store as it was
+  pub fails-whole : (size : ℕ) (s : Stored) → s.stable ≤ end_of s → FailsOpening m size s s
+  fails-whole zero s stable = inl (fails-unmoved _ _ s (unmoved (map (spelling m.form) fresh) s))
+  fails-whole (suc n) s stable = inl (fails-unmoved _ _ s (reads-whole (suc n) s stable))
+
+  -- one that appended a first part of the fresh list
+  pub fails-grown : (o new : Option Stored) → Grows o new (map (spelling m.form) fresh) → Turns o new (FailsOpening m 0)
+  fails-grown None new grows = grows
+  fails-grown (Some s) None grows = absurd grows
+  fails-grown (Some s) (Some t) grows = inl grows
+
+  -- one whose rewind failed, and one whose commit failed behind that
+  pub fails-cut : (size : ℕ) (s new : Stored) → 0 < size → Fails (λ s. ReadsAs (min s.stable size) (RewindLeaves size s)) (λ s. ReadsAs (min s.stable size) (RewindLeaves size s)) s new → FailsOpening m size s new
+  fails-cut zero s new some failed = absurd (omega (arith, some))
+  fails-cut (suc n) s new some failed = inl failed
+
+  pub fails-settled : (size : ℕ) (s new : Stored) → 0 < size → FailsSettling (rewound size s) new → FailsOpening m size s new
+  fails-settled zero s new some failed = absurd (omega (arith, some))
+  fails-settled (suc n) s new some failed = inr failed
+
   -- if a list is selected its size is no 0
   pub taken-some : (size : ℕ) (s : Stored) → 0 < size → taken m size s ≡ settled (rewound size s)
   taken-some zero s some = absurd (omega (arith, some))
@@ -118,6 +139,13 @@ module _ {C X : Type 0} (members : store.Ghosts C) (inside : X → C) (given : G
 -- nor if nothing more was changed after reads
 pub unchanged-behind : {C : Type 0} (members : store.Ghosts C) (old middle new : C) → IsKept members old middle → IsUnchanged members middle new → IsUnchanged members old new
 unchanged-behind members old middle new kept same = record { start = same.start ∙ kept.start; told = same.told ∙ kept.told }
+
+-- a store that became this, and of which a commit then failed, with what a crash inside that would have left
+pub given-settling : {C X : Type 0} (members : store.Ghosts C) (inside : X → C) (o : Option Stored) (old : C) (r : Refusal X C) (f : Stored → Stored) → Becomes o (members.told old) f → IsGivenUp members (HasLeftStable members) old r
+    → Turns o (members.told (store_given inside r.given)) (λ s. FailsSettling (f s))
+given-settling members inside o old r f becomes up =
+    subst (λ g. Turns o (members.told (store_given inside g)) (λ s. FailsSettling (f s))) (sym up.given)
+    (turns-behind o (members.told old) (members.told up.store) f FailsSettling becomes up.left.told)
 
 -- a store that became this, and of which a commit then failed
 pub given-stable : {C X : Type 0} (members : store.Ghosts C) (inside : X → C) (o : Option Stored) (old : C) (r : Refusal X C) (f : Stored → Stored) (R : Stored → Stored → Type 0) → Becomes o (members.told old) f

@@ -2,7 +2,7 @@
 use Rattle.std.specs.Prelude.{◌≡◌, ◌⊎◌, ◌≤◌, ◌<◌, ℕ, ◌-◌, ◌*◌, ◌/◌, max, min, nat_lt, if◌then◌else◌, List, drop, Result, Ok, Err}
 use Rattle.qm_model.specs.Causes.{IsCause}
 use Rattle.qm_model.specs.Operations.{Bytes}
-use Rattle.qm_model.specs.StoreModel.{Stored, pruned, destroyed, IsImage, IsOldOrNew, DestroyLeaves, ReadsAs, Turns, Becomes, Leaves}
+use Rattle.qm_model.specs.StoreModel.{Stored, pruned, destroyed, IsImage, IsOldOrNew, DestroyLeaves, ReadsAs, Fails, Turns, Becomes, Leaves}
 use Rattle.qm_base.specs.declared.error.Error.TheVariants.{Memory, Journal}
 use Rattle.qm_base.specs.declared.error.JournalError.TheVariants as journal
 use Rattle.qm_bits.specs.Bitmaps.{Bitmap}
@@ -35,6 +35,10 @@ bits_from chunk to bits = record { pruned = max bits.pruned (to / (8 * chunk)); 
 -- a store, of a log that starts here, pruned to a location, with this head, if that is after the start
 abbrev pub cut_to : ℕ → ℕ → Bytes → Stored → Stored
 cut_to start to head s = if nat_lt start to then pruned to head s else s
+
+-- a prune to a location with this head failed, and a crash inside it would have left the same
+abbrev pub FailsPrune : ℕ → Bytes → Stored → Stored → Type 0
+FailsPrune to head = Fails (λ s. ReadsAs s.stable (IsOldOrNew (pruned to head) s)) (λ s. ReadsAs s.stable (IsOldOrNew (pruned to head) s))
 
 module _ {C : Type 0} (members : store.Ghosts C) where
   -- a store is given back, as the call left it that failed
@@ -100,4 +104,4 @@ module _ {C D : Type 0} (members : store.Ghosts C) where
     pub within : members.«end» new ≤ members.«end» log.store
     pub head : Bytes
     pub heads : IsHeadAt hashing to log head
-    pub told : Turns (members.told log.store) (members.told new) (λ s. let t = f s in ReadsAs t.stable (IsOldOrNew (pruned to head) t))
+    pub told : Turns (members.told log.store) (members.told new) (λ s. FailsPrune to head (f s))

@@ -16,6 +16,7 @@ use Rattle.qm_store.specs.declared.refusal.Refusal.{Refusal}
 use Rattle.qm_store.specs.Given.{store_given, IsUnchanged}
 use Rattle.qm_store.specs.Log.{IsKept}
 use Rattle.qm_store.specs.Refusals.{refusal_of, IsDue}
+use Rattle.qm_offer.specs.Crashing.{FailsOpening}
 use Rattle.qm_open.specs.declared.pruned.Pruned.{Pruned}
 use Rattle.qm_open.specs.Selecting.{refusal_up_to, refusal_at}
 use Rattle.qm_any.specs.Databases.{Database, IsDatabase}
@@ -42,6 +43,7 @@ module _ {C D : Type 0} (members : store.Ghosts C) (layout : Layout D) (digest_s
     pub refused : IfSome (members.told old) (λ s. IfErr result (λ r. IsDue r.error (due s)))
     pub unopened : IfErr result (λ r. IfSome (members.told old) (λ s. IsSome (due s) → IsUnchanged members old (store_given (λ db. db.log.store) r.given)))
     pub left : IfErr result (λ r. Turns (members.told old) (members.told (store_given (λ db. db.log.store) r.given)) (λ s new. LeavesOpening (scheme_of digest_size layout.hashing) (size s) s new))
+    pub failed : IfErr result (λ r. Turns (members.told old) (members.told (store_given (λ db. db.log.store) r.given)) (λ s. FailsOpening (scheme_of digest_size layout.hashing) (size s) s))
     pub start : IfOk result (λ db. members.start db.log.store ≡ members.start old)
     pub later : IfOk result (λ db. members.faults old ≤ members.faults db.log.store)
     pub back : IfErr result (λ r. (s : C) × (r.given ≡ Store s) × (members.start s ≡ members.start old) × (IsSome (refusal_of r.error) → IsKept members old s)

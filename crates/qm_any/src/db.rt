@@ -6,7 +6,11 @@ ghost use Rattle.qm_model.specs.Causes.{IsCause, Rose};
 ghost use Rattle.qm_model.specs.Live as lives;
 ghost use Rattle.qm_model.specs.Forms.{spelling};
 ghost use Rattle.qm_model.specs.Operations.{Operation, IsCommitEnded};
+ghost use Rattle.qm_model.specs.Own as own;
+ghost use Rattle.qm_model.specs.Policies.{Policy};
+ghost use Rattle.qm_model.specs.Schemes.{engine_of};
 ghost use Rattle.qm_model.specs.Trees as trees;
+ghost use Rattle.qm_model.specs.Walk.{Rules};
 ghost use Rattle.qm_model.specs.Writes.{read_through};
 ghost use Rattle.qm_merkle.specs.Batches.{stops, lists_since};
 ghost use Rattle.qm_merkle.specs.Mems.{Holds, Stands, node_at};
@@ -26,6 +30,8 @@ ghost use Rattle.qm_store.specs.Given.{Appended, AppendedPart, store_given, stor
 ghost use Rattle.qm_store.specs.KeptTrees.{IsKeptTree};
 ghost use Rattle.qm_operations.specs.Views.{operation_views};
 ghost use Rattle.qm_any.specs.Applying.{Appends, IsUnapplied, KeepsRest, can_apply, store_in};
+ghost use Rattle.qm_offer.specs.Crashing.{IsSafe};
+ghost use Rattle.qm_any.specs.Offered.{scheme_of};
 ghost use Rattle.qm_any.specs.Making.{evicted_made, list_made, making_of, policy_left};
 ghost use Rattle.qm_any.specs.Tips.{AreTreeAndRoot, IsTooLong, IsTreeAfter};
 ghost use Rattle.qm_any.specs.Reading.{Reads, AtList};
@@ -339,6 +345,13 @@ impl<
             → Appends C.Store self batch.now U.form tip result }
         ensures rest { KeepsRest C.Store self.log.store (store_after store_in result) }
         ensures unapplied { IfErr result (IsUnapplied C.Store self batch.now) }
+        ensures crashes { (rules : Rules Policy) (log : own.Log) (chain : Chain)
+            (more : List Operation) → let longer = record log { list = log.list ++ more } in
+            let e = engine_of (scheme_of H.Digest.SIZE ⟦<Self as LaidOut>⟧.layout.hashing) rules in
+            ⟦<Self as LaidOut>⟧.stands self log.list
+            → IsMade ⟦<Self as LaidOut>⟧.layout.hashing batch.now chain longer.list
+            → own.IsKept e longer
+            → IsSafe C.Store e log longer self.log.store (store_after store_in result) }
     {
         match batch.lacking(alloc, &self.commitment) {
             Err(error) => Err(Refusal {

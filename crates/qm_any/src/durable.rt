@@ -3,9 +3,17 @@
 ghost use Rattle.std.specs.Prelude.{◌≡◌, ◌⊎◌, ◌≤◌, ◌<◌, ℕ, List, IfOk, IfErr, IfSome, OnOk};
 ghost use Rattle.qm_model.specs.Live as lives;
 ghost use Rattle.qm_model.specs.Operations.{Operation};
+ghost use Rattle.qm_model.specs.Own.{Log, no_log};
+ghost use Rattle.qm_model.specs.Policies.{Policy};
+ghost use Rattle.qm_model.specs.Schemes.{engine_of};
 ghost use Rattle.qm_model.specs.StoreModel.{end_of, settled, with_metadata, IsImage, IsOldOrNew, ReadsAs};
+ghost use Rattle.qm_model.specs.Walk.{Rules};
+ghost use Rattle.qm_store.specs.Given.{store_after, store_given};
 ghost use Rattle.qm_store.specs.Log.{HasLeft};
+ghost use Rattle.qm_offer.specs.Crashing.{IsSafe};
+ghost use Rattle.qm_any.specs.Applying.{store_in};
 ghost use Rattle.qm_any.specs.Lasting.{bits_from, boundary_of, over_log, HasLasted, HasLeftPruned, HasLeftDestroyed, HasLeftStable, HasPruned, HasPrunedLog, IsDestroyed, IsGivenUp};
+ghost use Rattle.qm_any.specs.Offered.{scheme_of};
 
 use crate::db::{Db, LaidOut, State};
 use qm_base::{Error, Hasher, Location};
@@ -32,6 +40,9 @@ impl<
         ensures committed { IfOk result
             (HasLasted C.Store ⟦<Self as LaidOut>⟧.layout.hashing settled self) }
         ensures refused { IfErr result (IsGivenUp C.Store (HasLeftStable C.Store) self.log.store) }
+        ensures crashes { (rules : Rules Policy) (log : Log) → IsSafe C.Store
+            (engine_of (scheme_of H.Digest.SIZE ⟦<Self as LaidOut>⟧.layout.hashing) rules) log log
+            self.log.store (store_after store_in result) }
     {
         let (log, state) = self.into_parts();
         over(state, log.commit())
@@ -44,6 +55,9 @@ impl<
         ensures synced { IfOk result
             (HasLasted C.Store ⟦<Self as LaidOut>⟧.layout.hashing settled self) }
         ensures refused { IfErr result (IsGivenUp C.Store (HasLeftStable C.Store) self.log.store) }
+        ensures crashes { (rules : Rules Policy) (log : Log) → IsSafe C.Store
+            (engine_of (scheme_of H.Digest.SIZE ⟦<Self as LaidOut>⟧.layout.hashing) rules) log log
+            self.log.store (store_after store_in result) }
     {
         let (log, state) = self.into_parts();
         over(state, log.sync())
@@ -81,8 +95,14 @@ impl<
             → IsGivenUp C.Store (λ old new. HasLeftStable C.Store old new
             ⊎ HasLeftPruned C.Store ⟦<Self as LaidOut>⟧.layout.hashing settled loc self.log new)
             self.log.store r) }
+        ensures crashes { (rules : Rules Policy) (log : Log)
+            → ⟦<Self as LaidOut>⟧.stands self log.list → IsSafe C.Store
+            (engine_of (scheme_of H.Digest.SIZE ⟦<Self as LaidOut>⟧.layout.hashing) rules) log log
+            self.log.store (store_after store_in result) }
     {
-        let boundary = self.sync_boundary().get().min(self.size().get());
+        // The log is kept from where its store is.
+        let (_, size) = self.bounds();
+        let boundary = self.sync_boundary().get().min(size.get());
         if loc.get() > boundary {
             let error = Error::PruneBeyondMinRequired(loc.get(), boundary);
             return Err(Refusal {
@@ -150,6 +170,13 @@ impl<
         ensures destroyed { IfOk result (IsDestroyed C.Store self.log.store) }
         ensures refused { IfErr result
             (IsGivenUp C.Store (HasLeftDestroyed C.Store) self.log.store) }
+        ensures crashes { IfOk result (λ left. (rules : Rules Policy) (log : Log) → IsSafe C.Store
+            (engine_of (scheme_of H.Digest.SIZE ⟦<Self as LaidOut>⟧.layout.hashing) rules) log no_log
+            self.log.store left) }
+        ensures crashes_failing { IfErr result (λ r. (rules : Rules Policy) (log : Log)
+            → IsSafe C.Store
+            (engine_of (scheme_of H.Digest.SIZE ⟦<Self as LaidOut>⟧.layout.hashing) rules) log no_log
+            self.log.store (store_given store_in r.given)) }
     {
         let mut store = self.close();
         match store.destroy() {

@@ -4,15 +4,24 @@ ghost use Rattle.std.specs.Prelude.{option_map, ◌≡◌, ◌⊎◌, ◌<◌, �
 ghost use Rattle.qm_model.specs.Causes.{IsCause};
 ghost use Rattle.qm_model.specs.Grafted.{pair_absorption_threshold};
 ghost use Rattle.qm_model.specs.Live as lives;
+ghost use Rattle.qm_model.specs.Opening.{opened_list};
 ghost use Rattle.qm_model.specs.Operations.{Operation};
+ghost use Rattle.qm_model.specs.Own.{Log, taken_up};
+ghost use Rattle.qm_model.specs.Policies.{Policy};
+ghost use Rattle.qm_model.specs.Schemes.{engine_of};
 ghost use Rattle.qm_model.specs.Step.{IsGood};
-ghost use Rattle.qm_model.specs.StoreModel.{end_of, rewound, ReadsAs, RewindLeaves, Turns, Becomes};
+ghost use Rattle.qm_model.specs.StoreModel.{end_of, rewound, ReadsAs, RewindLeaves, Becomes, Leaves};
 ghost use Rattle.qm_bits.specs.Bitmaps.{bit_count};
 ghost use Rattle.qm_step.specs.Kinds.{HasRing};
-ghost use Rattle.qm_store.specs.Given.{store_given};
+ghost use Rattle.qm_model.specs.Taken.{selected_size};
+ghost use Rattle.qm_model.specs.Walk.{Rules};
+ghost use Rattle.qm_store.specs.Given.{store_after, store_given};
+ghost use Rattle.qm_offer.specs.Crashing.{IsSafe};
 ghost use Rattle.qm_open.specs.Opened.{IsOpened};
 ghost use Rattle.qm_open.specs.Selecting.{bits_of, floor_told, selected_view};
 ghost use Rattle.qm_open.specs.Unopened.{IsUnfinished, IsUnopened};
+ghost use Rattle.qm_any.specs.Applying.{store_in};
+ghost use Rattle.qm_any.specs.Offered.{scheme_of};
 ghost use Rattle.qm_any.specs.Opening.{height_of, pruned_view, OpensAt, OpensUpTo};
 
 use crate::db::{Db, LaidOut};
@@ -65,7 +74,7 @@ fn settled<
     ensures became { IfOk result (λ db.
         Becomes (C.told opened.log.store) (C.told db.log.store) (rewound selected.size)) }
     ensures left { IfErr result (λ r.
-        Turns (C.told opened.log.store) (C.told (store_given (λ db. db.log.store) r.given))
+        Leaves (C.told opened.log.store) (C.told (store_given (λ db. db.log.store) r.given))
         (λ s. ReadsAs (min s.stable selected.size) (RewindLeaves selected.size s))) }
     ensures activity { IfOk result (λ db. db.activity ≡ opened.activity) }
     ensures start { IfOk result (λ db. C.start db.log.store ≡ C.start opened.log.store) }
@@ -191,11 +200,17 @@ pub fn init<
     config: Config<I::Translator, ()>,
     max_size: Option<u64>,
 ) -> Result<Db<F, C, I, H, U, N>, Refusal<Db<F, C, I, H, U, N>, C>>
-    ensures keys { ⟦<Db<F, C, I, H, U, N> as LaidOut>⟧.layout.index_key ≡ I.Translator.index_key }
+    ensures keys { ⟦<Db<F, C, I, H, U, N> as LaidOut>⟧.layout.index_key
+        ≡ I.made_from I.Translator.index_key }
     ensures opens { OpensUpTo C.Store ⟦<Db<F, C, I, H, U, N> as LaidOut>⟧.layout H.Digest.SIZE None
         max_size store result }
     ensures causes { IfErr result (λ r.
         IsUnopened U.form None max_size (C.start store) (C.end store) r.error) }
+    ensures crashes { (rules : Rules Policy) (log : Log)
+        → let m = scheme_of H.Digest.SIZE ⟦<Db<F, C, I, H, U, N> as LaidOut>⟧.layout.hashing in
+        IfSome (C.told store) (λ s. IsSafe C.Store (engine_of m rules) log
+        (taken_up (opened_list (selected_size m max_size s) log.list) log) store
+        (store_after store_in result)) }
 {
     init_with(alloc, store, hasher, config, max_size, None)
 }
@@ -223,7 +238,8 @@ pub fn init_with<
     requires few { IfSome pruned (λ p. p.0 * (8 * N.LEN) ≤ 2 ^ 62) }
     requires threshold { IfSome pruned (λ p.
         p.1 ≡ pair_absorption_threshold F.shape (height_of N.LEN) p.0) }
-    ensures keys { ⟦<Db<F, C, I, H, U, N> as LaidOut>⟧.layout.index_key ≡ I.Translator.index_key }
+    ensures keys { ⟦<Db<F, C, I, H, U, N> as LaidOut>⟧.layout.index_key
+        ≡ I.made_from I.Translator.index_key }
     ensures opens { OpensUpTo C.Store ⟦<Db<F, C, I, H, U, N> as LaidOut>⟧.layout H.Digest.SIZE
         (option_map (pruned_view N.LEN) pruned) max_size store result }
     ensures causes { IfErr result (λ r. IsUnopened U.form (option_map (pruned_view N.LEN) pruned)

@@ -74,7 +74,7 @@ places-stand first (delete k ∷ rest) = later-stands first (delete k) rest (pla
 places-stand first (commit m f ∷ rest) = later-stands first (commit m f) rest (places_from (suc first) rest) (places-stand (suc first) rest)
 
 -- a place of a list in which no key stands twice
-apart-place : (ps : Places) (p : Bytes × ℕ) → AreApart ps → Contains ps p → place_of ps p.0 ≡ Some p.1
+pub apart-place : (ps : Places) (p : Bytes × ℕ) → AreApart ps → Contains ps p → place_of ps p.0 ≡ Some p.1
 apart-place [] p apart (i, within, is) = absurd (omega (arith, within))
 apart-place (u ∷ ps) p apart h = by (first_or_later u ps p h) (apart-place ps p apart.1)
   where

@@ -15,6 +15,7 @@ pub use build::{Snapshot, build_snapshot};
 pub use cache::Cache;
 pub use item::commit_floor_in;
 pub use links::forms_ring;
+pub use moves::move_key;
 pub use proof::proved_over;
-pub use read::last_metadata;
+pub use read::{Found, has_key, last_metadata, read_operation};
 pub use snapshot::SnapshotBuild;

@@ -11,7 +11,7 @@ use qm_base::{Error, Location};
 use std::alloc::AllocError;
 
 /// Moves a key from its place in its bucket, if it has one, to a location, or nowhere. Want of memory is the only error.
-pub(crate) fn move_key<F, I: qm_index::Unordered<Value = Location<F>>>(
+pub fn move_key<F, I: qm_index::Unordered<Value = Location<F>>>(
     index: &mut I,
     key: &[u8],
     found: Option<Found>,

@@ -20,7 +20,7 @@ use qm_store::{AuthLog, Store};
 use std::alloc::Global;
 
 /// The operation at a location. An item that spells none is refused.
-pub(crate) fn read_operation<F: Family, C: Store, H: Hasher, U: Update>(
+pub fn read_operation<F: Family, C: Store, H: Hasher, U: Update>(
     alloc: Global,
     log: &mut AuthLog<F, C, H>,
     at: u64,
@@ -94,8 +94,8 @@ pub(crate) fn operation_in<F, U: Update>(
     }
 }
 
-// Whether the operation at a location is an update of the key.
-fn has_key<F: Family, C: Store, H: Hasher, U: Update>(
+/// Whether the operation at a location is an update of the key.
+pub fn has_key<F: Family, C: Store, H: Hasher, U: Update>(
     log: &mut AuthLog<F, C, H>,
     at: u64,
     key: &[u8],
@@ -147,7 +147,7 @@ fn is_of_key<F: Family, C: Store, H: Hasher, U: Update>(
 
 /// Where an update of a key was found: the place in the key's bucket, and the location there.
 #[derive(Clone, Copy, Drop)]
-pub(crate) struct Found {
+pub struct Found {
     pub place: usize,
     pub location: u64,
 }

@@ -10,7 +10,7 @@ use Rattle.qm_model.proofs.LastWrites.{bytes_same}
 use Rattle.qm_model.proofs.Stores.{leaves-now, metadata_in-other}
 use Rattle.qm_graft.specs.Grafting.{grafting}
 use Rattle.qm_store.specs.declared.Store as store
-use Rattle.qm_any.specs.Lasting.{cut_to, HasLeftStable}
+use Rattle.qm_any.specs.Lasting.{cut_to, FailsPrune, HasLeftStable}
 use Rattle.qm_any.specs.Layouts.{Layout}
 use Rattle.qm_any.proofs.Lasting.{reads-itself}
 use Rattle.qm_current.specs.Applying.{store_in}
@@ -101,7 +101,9 @@ module _ {D : Type 0} (size : ℕ) (layout : Layout D) where
     pub unpruned-beside : (to : ℕ) → HasLeftPruned members layout settled to old new → Turns (members.told (store_in old)) (members.told new) (StaysBeside m)
     unpruned-beside to left =
         cut-left-beside (members.told (store_in old)) (members.told new) left.entries to left.any.head
-        (subst (λ n. Turns (members.told (store_in old)) (members.told new) (λ s. ReadsAs (end_of s) (IsOldOrNew (pruned to left.any.head) (with_metadata n left.entries (settled s))))) named left.any.told)
+        (subst (λ n. Turns (members.told (store_in old)) (members.told new) (λ s. ReadsAs (end_of s) (IsOldOrNew (pruned to left.any.head) (with_metadata n left.entries (settled s))))) named
+        (turned-each (members.told (store_in old)) (members.told new) (λ s. FailsPrune to left.any.head (with_metadata old.name left.entries (settled s)))
+        (λ s. ReadsAs (end_of s) (IsOldOrNew (pruned to left.any.head) (with_metadata old.name left.entries (settled s)))) (λ s t failed. failed.now) left.any.told))
 
   -- What becomes of the store of a database that stands for a list.
   module _ {C : Type 0} (members : store.Ghosts C) (old : Database C D) (list : List Operation) (is : IsOffered members layout old list) where
@@ -178,9 +180,9 @@ module _ {D : Type 0} (size : ℕ) (layout : Layout D) where
       pub prune-cut : (start : ℕ) (IsHead : Bytes → Type 0) (new : C) → old.any.log.tree.start ≡ start → (left : HasLeftPruned members layout settled to old new) → IsHead left.any.head
           → Turns (members.told (store_in old)) (members.told new) (LeavesPrune m list start IsHead to)
       prune-cut start IsHead new same left head =
-          turned-with (members.told (store_in old)) (members.told new) (λ s. counted_in m s ≡ old.any.activity.pruned) (λ s. ReadsAs (end_of s) (IsOldOrNew (pruned to left.any.head) (with_metadata old.name left.entries (settled s))))
+          turned-with (members.told (store_in old)) (members.told new) (λ s. counted_in m s ≡ old.any.activity.pruned) (λ s. FailsPrune to left.any.head (with_metadata old.name left.entries (settled s)))
           (LeavesPrune m list start IsHead to) counts
-          (λ s t counted r. inr (inr (subst (λ n. n < to) same left.any.past, left.any.head, head, subst (λ x. ReadsAs (end_of s) (IsOldOrNew (pruned to left.any.head) x) t) (before-is left.entries s left.counts counted) r)))
+          (λ s t counted failed. inr (inr (subst (λ n. n < to) same left.any.past, left.any.head, head, subst (λ x. ReadsAs (end_of s) (IsOldOrNew (pruned to left.any.head) x) t) (before-is left.entries s left.counts counted) failed.now)))
           left.any.told
 
 module _ {C D : Type 0} (layout : Layout D) (members : store.Ghosts C) where

@@ -90,7 +90,7 @@ module _ {C D : Type 0} (members : store.Ghosts C) where
     within = omega (arith, left.within, last.store.«end»);
     head = left.head;
     heads = λ items logged. left.heads items (last.stands items logged);
-    told = turns-behind (members.told self.log.store) (members.told middle.log.store) (members.told new) f (λ s. let t = more s in ReadsAs t.stable (IsOldOrNew (pruned to left.head) t)) last.store.told left.told;
+    told = turns-behind (members.told self.log.store) (members.told middle.log.store) (members.told new) f (λ s. lasting.FailsPrune to left.head (more s)) last.store.told left.told;
   }
 
   module _ (layout : Layout D) where

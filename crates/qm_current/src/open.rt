@@ -55,7 +55,7 @@ pub fn init<
     max_size: Option<u64>,
 ) -> Result<Db<F, C, I, H, U, N>, Refusal<Db<F, C, I, H, U, N>, C>>
     ensures keys { ⟦<any::Db<F, C, I, H, U, N> as LaidOut>⟧.layout.index_key
-        ≡ I.Translator.index_key }
+        ≡ I.made_from I.Translator.index_key }
     ensures opens { Opens C.Store ⟦<any::Db<F, C, I, H, U, N> as LaidOut>⟧.layout H.Digest.SIZE
         config.metadata.now max_size config.instance store result }
     ensures causes { IfErr result (λ r. IsUnopened
@@ -135,7 +135,7 @@ fn open_counted<
         Counts (lies U.form F.shape H.Digest.SIZE N.LEN config.metadata.now) config.metadata.now s
         pinned.chunks (map H.Digest.bytes pinned.pins.items)) }
     ensures keys { ⟦<any::Db<F, C, I, H, U, N> as LaidOut>⟧.layout.index_key
-        ≡ I.Translator.index_key }
+        ≡ I.made_from I.Translator.index_key }
     ensures opens { Opens C.Store ⟦<any::Db<F, C, I, H, U, N> as LaidOut>⟧.layout H.Digest.SIZE
         config.metadata.now max_size config.instance store result }
     ensures causes { IfErr result (λ r. IsUnopened

@@ -12,3 +12,7 @@ pub mod Tables
 pub mod TreeNeighbours
 pub mod Trees
 pub mod Visits
+pub mod Partitions
+pub mod Rows
+pub mod TreeWays
+pub mod Ways

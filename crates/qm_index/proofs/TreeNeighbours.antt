@@ -16,7 +16,7 @@ use Rattle.qm_index.proofs.Picks.{has, has-filter, has-lookup, picks_least, pick
 use Rattle.qm_index.proofs.Trees.{looked_up, bucket-found}
 
 -- below, as an order and as a test
-less-below : (a b : ℕ) → nat_cmp a b ≡ Less → nat_lt a b ≡ true
+pub less-below : (a b : ℕ) → nat_cmp a b ≡ Less → nat_lt a b ≡ true
 less-below a b h = cases (nat_lt a b) (a == b) h
   where
     cases : (t u : Bool) → cond t Less (cond u Equal Greater) ≡ Less → t ≡ true
@@ -24,7 +24,7 @@ less-below a b h = cases (nat_lt a b) (a == b) h
     cases false true h = absurd (cc)
     cases false false h = absurd (cc)
 
-below-less : (a b : ℕ) → nat_lt a b ≡ true → nat_cmp a b ≡ Less
+pub below-less : (a b : ℕ) → nat_lt a b ≡ true → nat_cmp a b ≡ Less
 below-less a b h = ap (λ t. cond t Less (cond (a == b) Equal Greater)) h
 
 module _ {V : Type 0} (m : BTreeMap ℕ (List V)) where

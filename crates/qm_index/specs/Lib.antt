@@ -6,3 +6,6 @@ pub mod Neighbours
 pub mod NeighbourRows
 pub mod Indexed
 pub mod Places
+pub mod Partitioned
+pub mod PartitionOrder
+pub mod Ways

@@ -4,7 +4,7 @@ use Rattle.std.specs.Ordering.{is_lt, ordering_then, nat_cmp}
 use Rattle.std.specs.Cmp.{ranked}
 use Rattle.std.specs.Cmp.Lexicographic.{slice_cmp}
 use Rattle.std.proofs.lemmas.List.Elements.{All-head, All-tail}
-use Rattle.std.proofs.Math.Nat.{pow-suc, mul-le-mul_right}
+use Rattle.std.proofs.Math.Nat.{pow-suc, pow-le-pow_right, mul-le-mul_right}
 use Rattle.qm_model.specs.Keys.{key_lt}
 use Rattle.qm_index.specs.Translated.{first_bytes, capped, IsMonotone}
 use Rattle.qm_model.specs.Operations.{AreBytes}
@@ -59,3 +59,7 @@ capped-monotone (suc n) (x ∷ xs) (y ∷ ys) are were before =
         let rest : capped n xs ≤ capped n ys = next later in
         omega (arith, capped-cons x xs n, capped-cons y ys n, rows, rest)
     by_first Greater e later next = absurd (true≢false (sym later))
+
+-- so few bytes are below 2^64
+pub capped-small : (width : ℕ) → width ≤ 8 → (key : List ℕ) → AreBytes key → capped width key < 2 ^ 64
+capped-small width few key bytes = let below = capped-below width key bytes in let most : 256 ^ width ≤ 256 ^ 8 = pow-le-pow_right (omega arith) few in omega (arith, below, most)

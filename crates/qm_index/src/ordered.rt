@@ -67,6 +67,8 @@ impl<T, V> Model for Index<T, V> {
 impl<T: OrderedTranslator, V: IndexValue> Factory for Index<T, V> {
     type Translator = T;
 
+    ghost made_from = { λ index_key. index_key };
+
     ghost translated = { refl };
 
     fn new(alloc: Global, translator: T) -> Self {

@@ -2,7 +2,9 @@
 
 ghost use Rattle.std.specs.Prelude.{◌≡◌, ◌≤◌, ◌<◌, ◌+◌, ◌*◌, ◌^◌, ℕ, suc, List, true};
 ghost use Rattle.qm_index.specs.Translated.{capped, IsMonotone};
-ghost use Rattle.qm_index.specs.Monotone.{capped-monotone};
+ghost use Rattle.std.proofs.Common.{arith};
+ghost use Rattle.qm_model.specs.Operations.{Bytes, AreBytes};
+ghost use Rattle.qm_index.specs.Monotone.{capped-monotone, capped-small};
 
 /// What makes a short index key of a key of any length. Several keys may have the same index key.
 pub trait Translator: Send + Sync + Drop {
@@ -16,6 +18,9 @@ pub trait Translator: Send + Sync + Drop {
 /// A translator that keeps the order of keys, in which a prefix comes before what it begins.
 pub trait OrderedTranslator: Translator {
     ghost monotone: { IsMonotone Self.index_key };
+
+    /// An index key is below 2^64.
+    ghost small: { (key : Bytes) → AreBytes key → Self.index_key key < 2 ^ 64 };
 }
 
 /// The first byte of a key.
@@ -36,9 +41,10 @@ pub struct EightCap;
 
 // The number of the first bytes, so many, with zeros after a shorter key.
 #[inline(always)]
-fn capped(key: &[u8], width: u32) -> u64
+pub(crate) fn capped(key: &[u8], width: u32) -> u64
     requires { width ≤ 8 }
-    ensures { result ≡ capped width key.now }
+    ensures value { result ≡ capped width key.now }
+    ensures below { result < 256 ^ width }
 {
     let mut number = 0;
     let mut rest = key;
@@ -97,16 +103,24 @@ impl Translator for EightCap {
 
 impl OrderedTranslator for OneCap {
     ghost monotone = { capped-monotone 1 };
+
+    ghost small = { capped-small 1 (Prim.omega arith) };
 }
 
 impl OrderedTranslator for TwoCap {
     ghost monotone = { capped-monotone 2 };
+
+    ghost small = { capped-small 2 (Prim.omega arith) };
 }
 
 impl OrderedTranslator for FourCap {
     ghost monotone = { capped-monotone 4 };
+
+    ghost small = { capped-small 4 (Prim.omega arith) };
 }
 
 impl OrderedTranslator for EightCap {
     ghost monotone = { capped-monotone 8 };
+
+    ghost small = { capped-small 8 (Prim.omega arith) };
 }

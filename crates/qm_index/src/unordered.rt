@@ -61,12 +61,15 @@ pub trait Unordered {
 pub trait Factory: Unordered {
     type Translator: Translator;
 
+    /// What makes an index key of a key, by what the translator makes of bytes.
+    ghost made_from: { (List ℕ → ℕ) → List ℕ → ℕ };
+
     /// An index without buckets. It takes no memory yet.
     fn new(alloc: Global, translator: Self::Translator) -> Self
         ensures { Self.entries result ≡ [] };
 
-    /// An index key is the translator's.
-    ghost translated: { Self.index_key ≡ Self.Translator.index_key };
+    /// An index key is made from the translator's.
+    ghost translated: { Self.index_key ≡ made_from Self.Translator.index_key };
 }
 
 /// An index by hash. It keeps an index key and the values for each bucket, and no key.
@@ -90,6 +93,8 @@ impl<T, V> Model for Index<T, V> {
 
 impl<T: Translator, V: IndexValue> Factory for Index<T, V> {
     type Translator = T;
+
+    ghost made_from = { λ index_key. index_key };
 
     ghost translated = { refl };
 

@@ -1,4 +1,4 @@
-use Rattle.std.proofs.Common.{None, IfOk, ◌≡◌, ◌≤◌, ◌∙◌, ap, map, arith, refl, inl, subst, sym}
+use Rattle.std.proofs.Common.{None, IfOk, ◌≡◌, ◌≤◌, ◌∙◌, ap, map, arith, refl, inl, inr, subst, sym}
 use Rattle.std.proofs.lemmas.Result.{IfOk-from_err, err_from_is_err_and}
 use Rattle.qm_base.specs.declared.error.Error.TheVariants as errors
 use Rattle.qm_model.specs.Operations.{fresh}
@@ -12,12 +12,14 @@ use Rattle.qm_store.proofs.Exits.{either, later-cause, undamaged}
 use Rattle.qm_any.proofs.Lasting.{turns-behind}
 use Rattle.qm_any.proofs.Openings.{fresh-back, plain-due, plain-refusal}
 use Rattle.qm_store.proofs.Told.{unchanged-appended-part}
-use Rattle.qm_any.proofs.Taking.{given-stable, given-unchanged, reads-grown}
+use Rattle.qm_offer.specs.Crashing.{FailsOpening, FailsSettling}
+use Rattle.qm_any.proofs.Taking.{fails-grown, given-settling, given-stable, given-unchanged, reads-grown, turns-weaker}
 use Rattle.qm_any.proofs.Unapplied.{memory-cause}
 use Rattle.qm_open.proofs.Checking.{each-known, known-at, on-ok}
 use Rattle.qm_any.proofs.Restoring.{nothing-accepted, nothing-due, refused-none}
 use Rattle.qm_any.specs.Databases.{IsDatabase}
-use Rattle.qm_any.specs.Layouts.{layout_of}
+use Rattle.qm_any.specs.Layouts.{hashing_of, layout_of}
+use Rattle.qm_any.specs.Offered.{scheme_of}
 use Rattle.qm_open.proofs.Unopened.{fresh-unfinished, plain-unfinished}
 use Rattle.qm_any.proofs.fresh.begin.Goals as goal
 
@@ -29,6 +31,7 @@ returns-in-Err-clause-opens g c =
       opened = each-known told (λ s is list same. tt);
       became = tt;
       left = leaves-now told told (HasAppended (map (spelling g.U.Update.form) fresh)) (λ s. IsImage (appended (map (spelling g.U.Update.form) fresh) s)) (unchanged-appended-part g.C.Store store store (map (spelling g.U.Update.form) fresh) (record { start = refl; told = refl })).told;
+      failed = fails-grown (scheme_of g.H.Digest.Digest.SIZE (hashing_of g.H.Digest.Digest.bytes g.H.Hasher g.F.Family g.U.Update)) told told (unchanged-appended-part g.C.Store store store (map (spelling g.U.Update.form) fresh) (record { start = refl; told = refl })).told;
       unopened = each-known told (λ s is some. record { start = refl; told = refl });
       pruned = tt;
       start = tt;
@@ -58,6 +61,9 @@ returns-in-Err-empty_log-clause-opens g c =
       opened = each-known told (λ s is list same. tt);
       became = tt;
       left = subst (λ given. Turns told (g.C.Store.told (store_given (λ db. db.log.store) given)) (HasAppended own)) (sym back.1) (leaves-now told (g.C.Store.told back.0) (HasAppended own) (λ s. IsImage (appended own s)) (unchanged-appended-part g.C.Store store back.0 own (record { start = back.2.start; told = back.2.told })).told);
+      failed =
+          let m = scheme_of g.H.Digest.Digest.SIZE (hashing_of g.H.Digest.Digest.bytes g.H.Hasher g.F.Family g.U.Update) in
+          subst (λ given. Turns told (g.C.Store.told (store_given (λ db. db.log.store) given)) (FailsOpening m 0)) (sym back.1) (fails-grown m told (g.C.Store.told back.0) (unchanged-appended-part g.C.Store store back.0 own (record { start = back.2.start; told = back.2.told })).told);
       unopened = each-known told (λ s is some. given-unchanged g.C.Store (λ db. db.log.store) refusal.given store back.0 back.1 back.2);
       pruned = tt;
       start = tt;
@@ -85,6 +91,9 @@ returns-in_err-begun-in-Ok-empty_log-clause-opens g c =
       opened = each-known (told store) (λ s is list same. IfOk-from_err c.from_residual.result _ c.from_residual.ensures.0);
       became = IfOk-from_err c.from_residual.result _ c.from_residual.ensures.0;
       left = rw (exit.1, exit.2) (subst (λ o. Turns o (told given) (HasAppended own)) kept.told (leaves-now (told log.store) (told given) (HasAppended own) (λ s. IsImage (appended own s)) refused.part.told));
+      failed =
+          let m = scheme_of g.H.Digest.Digest.SIZE (hashing_of g.H.Digest.Digest.bytes g.H.Hasher g.F.Family g.U.Update) in
+          rw (exit.1, exit.2) (subst (λ o. Turns o (told given) (FailsOpening m 0)) kept.told (fails-grown m (told log.store) (told given) refused.part.told));
       unopened =
           let peaks = peaks-none g.F.Family.shape g.F.Family.births g.met.F.Family.numbered g.met.F.Family.peaked in
           rw (exit.1, exit.2) (each-known (told store) (λ s is some.
@@ -127,6 +136,11 @@ returns-in_ok-begun-in-Ok-empty_log-clause-opens g c =
           err-then c.commit.result c.commit.ensures.refused
           (λ r up. given-stable g.C.Store (λ db. db.log.store) (told store) c.in_ok-begun-in-Ok-empty_log.field-0.log.store r (appended own) (HasAppended own) grown
           (λ s t is reads. reads-grown own s t (known-at _ (told store) s is (g.met.C.Store.told_end store) ∙ c.requires.empty) reads) up);
+      failed =
+          let m = scheme_of g.H.Digest.Digest.SIZE (hashing_of g.H.Digest.Digest.bytes g.H.Hasher g.F.Family g.U.Update) in
+          err-then c.commit.result c.commit.ensures.refused
+          (λ r up. turns-weaker (told store) (told (store_given (λ db. db.log.store) r.given)) (λ s. FailsSettling (appended own s)) (FailsOpening m 0) (λ s t is failed. inr failed)
+          (given-settling g.C.Store (λ db. db.log.store) (told store) c.in_ok-begun-in-Ok-empty_log.field-0.log.store r (appended own) grown up));
       unopened =
           err-then c.commit.result c.commit.ensures.refused
           (λ r up. each-known (told store) (λ s is some.

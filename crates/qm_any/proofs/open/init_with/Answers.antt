@@ -11,7 +11,8 @@ use Rattle.qm_any.specs.Offered.{scheme_of}
 use Rattle.qm_any.specs.Opening.{pruned_view}
 use Rattle.qm_any.proofs.Opened.{opens-behind}
 use Rattle.qm_any.proofs.Restoring.{accepted-at, few-seen, selects-same, threshold-seen, so-pruned, none-pruned, told_chunks}
-use Rattle.qm_any.proofs.Taking.{leaves-whole, turns-kept}
+use Rattle.qm_offer.specs.Crashing.{FailsOpening}
+use Rattle.qm_any.proofs.Taking.{fails-whole, leaves-whole, turns-kept}
 use Rattle.qm_any.proofs.open.init_with.Goals as goal
 
 pub select_commit-requires : goal.select_commit-requires
@@ -81,6 +82,9 @@ returns-in-Err-clause-opens g c =
       left =
           turns-kept told (g.C.Store.told c.select_commit.new.store) (λ s new. LeavesOpening m (selected_size m c.args.max_size s) s new) kept.told
           (λ s is. leaves-whole m (selected_size m c.args.max_size s) s (known-at _ told s is c.bounds.ensures.stable).1);
+      failed =
+          turns-kept told (g.C.Store.told c.select_commit.new.store) (λ s. FailsOpening m (selected_size m c.args.max_size s) s) kept.told
+          (λ s is. fails-whole m (selected_size m c.args.max_size s) s (known-at _ told s is c.bounds.ensures.stable).1);
       start = tt;
       later = tt;
       back = (c.select_commit.new.store, refl, kept.start, (λ some. kept), record { later = cause.later; failed = λ same. cause.failed (c.in-Err.is ∙ ap Err same) });

@@ -1,7 +1,8 @@
 use Rattle.std.proofs.Common.{Some, ◌≡◌, ◌∙◌, ◌≤◌, min, ap, sym, subst, arith}
 use Rattle.std.proofs.lemmas.Result.{IfOk-from_err, err_from_is_err_and}
 use Rattle.qm_model.proofs.Results.{ok-then, err-then}
-use Rattle.qm_model.specs.StoreModel.{end_of, rewound, settled, RewindLeaves, ReadsAs, Turns, Becomes}
+use Rattle.qm_model.specs.StoreModel.{end_of, rewound, settled, RewindLeaves, ReadsAs, Turns, Becomes, Leaves}
+use Rattle.qm_model.proofs.Stores.{leaves-now}
 use Rattle.qm_model.specs.Taken.{taken, LeavesOpening}
 use Rattle.qm_store.specs.Given.{store_given}
 use Rattle.qm_store.proofs.Exits.{later-cause}
@@ -11,7 +12,8 @@ use Rattle.qm_any.specs.Offered.{scheme_of}
 use Rattle.qm_any.proofs.Lasting.{turns-behind}
 use Rattle.qm_any.proofs.Openings.{plain-due, plain-refusal}
 use Rattle.qm_any.proofs.Restoring.{refused-none, told-floor}
-use Rattle.qm_any.proofs.Taking.{leaves-some, leaves-whole, list-some, taken-some, turns-weaker, reads-rewound, given-kept, given-stable, given-unchanged}
+use Rattle.qm_offer.specs.Crashing.{FailsOpening, FailsSettling}
+use Rattle.qm_any.proofs.Taking.{fails-cut, fails-settled, fails-whole, given-settling, leaves-some, leaves-whole, list-some, taken-some, turns-weaker, reads-rewound, given-kept, given-stable, given-unchanged}
 use Rattle.qm_open.specs.Selecting.{selected_view}
 use Rattle.qm_open.proofs.Unopened.{plain-unfinished}
 use Rattle.qm_any.proofs.open.open_list.Goals as goal
@@ -52,6 +54,15 @@ returns-clause-opens g c =
           err-then c.commit.result c.commit.ensures.refused
           (λ r up. given-stable g.C.Store (λ db. db.log.store) (told c.args.store) c.in_ok-settled.field-0.log.store r (rewound size) (λ s t. LeavesOpening m size s t) became
           (λ s t is reads. leaves-some m size s t (omega (arith, below)) (reads-rewound size s t reads)) up);
+      failed =
+          let told = g.C.Store.told in
+          let size = c.args.selected.size in
+          let m = scheme_of g.H.Digest.Digest.SIZE (hashing_of g.H.Digest.Digest.bytes g.H.Hasher g.F.Family g.U.Update) in
+          let below = c.requires.floor in
+          let became = subst (λ o. Becomes o (told c.in_ok-settled.field-0.log.store) (rewound size)) c.in_ok-opened.ensures.made.kept.told c.in_ok-settled.ensures.became in
+          err-then c.commit.result c.commit.ensures.refused
+          (λ r up. turns-weaker (told c.args.store) (told (store_given (λ db. db.log.store) r.given)) (λ s. FailsSettling (rewound size s)) (λ s. FailsOpening m size s) (λ s t is failed. fails-settled m size s t (omega (arith, below)) failed)
+          (given-settling g.C.Store (λ db. db.log.store) (told c.args.store) c.in_ok-settled.field-0.log.store r (rewound size) became up));
       unopened =
           let told = g.C.Store.told c.args.store in
           err-then c.commit.result c.commit.ensures.refused
@@ -93,6 +104,13 @@ returns-in_err-opened-clause-opens g c =
           let back = c.in_err-opened.ensures.judged.back in
           rw (exit.1, exit.2) (given-kept g.C.Store (λ db. db.log.store) c.in_err-opened.field-0.0.given store back.0 (λ s t. LeavesOpening m c.args.selected.size s t) back.1 back.2.told
           (λ s is. leaves-whole m c.args.selected.size s (known-at (λ s. s.stable ≤ end_of s) told s is c.requires.stable)));
+      failed =
+          let store = c.args.store in
+          let told = g.C.Store.told store in
+          let m = scheme_of g.H.Digest.Digest.SIZE (hashing_of g.H.Digest.Digest.bytes g.H.Hasher g.F.Family g.U.Update) in
+          let back = c.in_err-opened.ensures.judged.back in
+          rw (exit.1, exit.2) (given-kept g.C.Store (λ db. db.log.store) c.in_err-opened.field-0.0.given store back.0 (λ s. FailsOpening m c.args.selected.size s) back.1 back.2.told
+          (λ s is. fails-whole m c.args.selected.size s (known-at (λ s. s.stable ≤ end_of s) told s is c.requires.stable)));
       unopened =
           let store = c.args.store in
           let back = c.in_err-opened.ensures.judged.back in
@@ -121,7 +139,14 @@ returns-in_err-settled-clause-opens g c =
           let below = c.requires.floor in
           let given = g.C.Store.told (store_given (λ db. db.log.store) c.in_err-settled.field-0.0.given) in
           rw (exit.1, exit.2) (turns-weaker (g.C.Store.told c.args.store) given (λ s. ReadsAs (min s.stable size) (RewindLeaves size s)) (λ s t. LeavesOpening m size s t) (λ s t is. leaves-some m size s t (omega (arith, below)))
-          (subst (λ o. Turns o given (λ s. ReadsAs (min s.stable size) (RewindLeaves size s))) c.in_ok-opened.ensures.made.kept.told c.in_err-settled.ensures.left));
+          (subst (λ o. Turns o given (λ s. ReadsAs (min s.stable size) (RewindLeaves size s))) c.in_ok-opened.ensures.made.kept.told (leaves-now (g.C.Store.told c.in_ok-opened.opened.log.store) given _ _ c.in_err-settled.ensures.left)));
+      failed =
+          let size = c.args.selected.size in
+          let m = scheme_of g.H.Digest.Digest.SIZE (hashing_of g.H.Digest.Digest.bytes g.H.Hasher g.F.Family g.U.Update) in
+          let below = c.requires.floor in
+          let given = g.C.Store.told (store_given (λ db. db.log.store) c.in_err-settled.field-0.0.given) in
+          rw (exit.1, exit.2) (turns-weaker (g.C.Store.told c.args.store) given _ (λ s. FailsOpening m size s) (λ s t is failed. fails-cut m size s t (omega (arith, below)) failed)
+          (subst (λ o. Leaves o given (λ s. ReadsAs (min s.stable size) (RewindLeaves size s))) c.in_ok-opened.ensures.made.kept.told c.in_err-settled.ensures.left));
       unopened =
           let told = g.C.Store.told c.args.store in
           rw (exit.1, exit.2) (each-known told (λ s is some. absurd (refused-none _ (known-at _ told s is c.in_ok-opened.ensures.judged.accepted) some)));

@@ -3,8 +3,8 @@ use Rattle.qm_model.specs.Causes.{IsCause}
 use Rattle.qm_base.specs.declared.error.Error.TheVariants as errors
 use Rattle.qm_base.specs.declared.error.JournalError.TheVariants as journal
 use Rattle.qm_model.specs.Forms.{spelling}
-use Rattle.qm_model.specs.StoreModel.{end_of, rewound, Becomes, RewindLeaves, ReadsAs, Turns, Leaves}
-use Rattle.qm_model.proofs.Stores.{leaves-now}
+use Rattle.qm_model.specs.StoreModel.{end_of, rewound, Becomes, RewindLeaves, ReadsAs, Leaves}
+use Rattle.qm_model.proofs.Stores.{fails-unmoved}
 use Rattle.qm_store.specs.Log.{store_given}
 use Rattle.qm_any.specs.Layouts.{layout_of}
 use Rattle.qm_any.proofs.Lasting.{still-told}
@@ -47,9 +47,8 @@ returns-in-Err g c =
           let old = c.args.opened.log in
           let size = c.args.selected.size in
           let left = given-store members _ old c.in-Err.refusal.given c.in-Err.refusal.error c.in-Err.ensures.refused c.in-Err.ensures.given in
-          let there = leaves-now (members.told old.store) (members.told (store_given c.in-Err.refusal.given)) (λ s. ReadsAs (min s.stable size) (RewindLeaves size s)) (λ s. ReadsAs (min s.stable size) (RewindLeaves size s))
-          (subst (λ n. Leaves (members.told old.store) (members.told (store_given c.in-Err.refusal.given)) (λ s. ReadsAs (min s.stable n) (RewindLeaves n s))) c.requires.size left.told) in
-          subst (λ s. Turns (members.told old.store) (members.told s) (λ s. ReadsAs (min s.stable size) (RewindLeaves size s))) (sym c.store_of.ensures) there;
+          let there = subst (λ n. Leaves (members.told old.store) (members.told (store_given c.in-Err.refusal.given)) (λ s. ReadsAs (min s.stable n) (RewindLeaves n s))) c.requires.size left.told in
+          subst (λ s. Leaves (members.told old.store) (members.told s) (λ s. ReadsAs (min s.stable size) (RewindLeaves size s))) (sym c.store_of.ensures) there;
       activity = tt;
       start = tt;
       later = tt;
@@ -74,7 +73,7 @@ returns-in_default g c =
       left =
           let told = g.C.Store.told in
           let old = c.args.opened.log.store in
-          turns-kept (told old) (told c.close.result) _ (ap told c.close.ensures) (λ s is. reads-whole c.args.selected.size s (known-at (λ s. s.stable ≤ end_of s) (told old) s is c.requires.stable));
+          turns-kept (told old) (told c.close.result) _ (ap told c.close.ensures) (λ s is. fails-unmoved _ _ s (reads-whole c.args.selected.size s (known-at (λ s. s.stable ≤ end_of s) (told old) s is c.requires.stable)));
       activity = tt;
       start = tt;
       later = tt;

@@ -7,6 +7,7 @@ use Rattle.qm_any.specs.Databases.{IsDatabase}
 use Rattle.qm_any.specs.Layouts.{layout_of, hashing_of}
 use Rattle.qm_any.specs.Lasting.{HasLasted, HasLeftStable, IsGivenUp}
 use Rattle.qm_any.proofs.Lasting.{ok-three, still-told, ok-over, err-over, relogged, lasted, given-up}
+use Rattle.qm_any.proofs.Crashing.{settled-safe}
 use Rattle.qm_any.proofs.db.Db.sync.Goals as goal
 
 pub returns-clause-stands : goal.returns-clause-stands
@@ -35,3 +36,7 @@ returns-clause-refused g c =
     err-over g.C.Store state c.sync.result c.over.result (IsGivenUp g.C.Store (HasLeftStable g.C.Store) c.args.self.log.store) c.over.ensures
     (err-both c.sync.result c.sync.ensures.refused c.sync.ensures.given
     (λ r refused never. given-up g.C.Store (HasLeftStable g.C.Store) c.args.self state old r c.into_parts-log.ensures.whole refused never))
+
+pub returns-clause-crashes : goal.returns-clause-crashes
+returns-clause-crashes g c = λ rules log.
+    settled-safe g.C.Store (hashing_of g.H.Digest.Digest.bytes g.H.Hasher g.F.Family g.U.Update) g.H.Digest.Digest.SIZE rules log c.args.self c.over.result (returns-clause-synced g c) (returns-clause-refused g c)

@@ -1,0 +1,10 @@
+use Rattle.std.proofs.Common.{Some, sym, subst}
+use Rattle.qm_index.specs.Ways.{Down, FirstIs}
+use Rattle.qm_index.proofs.TreeWays.{tree-last}
+use Rattle.qm_index.proofs.tree_table.TreeTableOrderedTable.last.Goals as goal
+
+pub returns-in-Some : goal.returns-in-Some
+returns-in-Some g c =
+    subst (λ b. FirstIs Down c.args.self.now (Some b)) (sym c.values.ensures.value)
+    (subst (λ es. FirstIs Down es (Some c.in-Some.bucket.now)) c.self.view_is
+    (tree-last c.self.inside.buckets c.in-Some.field-0-0.now c.in-Some.bucket.now c.in-Some.ensures.value c.in-Some.ensures.greatest))

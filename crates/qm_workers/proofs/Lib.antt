@@ -1,0 +1,7 @@
+pub mod Knowing
+pub mod Seeking
+pub mod Doing
+pub mod Turns
+pub mod Asking
+pub mod Crews
+pub mod Answering
