@@ -39,9 +39,11 @@ module _ {C : Type 0} (members : store.Ghosts C) where
       pub part : IfErr result (λ r. AppendedPart members (store_in old) (store_given store_in r.given) (if can_apply old batch then lacked form old list else []))
 
     -- Why a batch was not applied: it is stale, and the database is given back; or memory was short, and the database or its store is; or
-    -- the store failed, by which its count rose. A database that is given back is as it was; a store was called.
+    -- the store failed, by which its count rose. That a batch is stale is told first. A database that is given back is as it was; a store
+    -- was called.
     pub record IsUnapplied (refusal : Refusal (Database C D) C) : Type 0 where
       pub stale : refusal.error ≡ StaleBatch → (refusal.given ≡ given.Database old) × (can_apply old batch ≡ false)
+      pub first : can_apply old batch ≡ false → (refusal.error ≡ StaleBatch) ⊎ (refusal.error ≡ Memory)
       pub back : (x : Database C D) → refusal.given ≡ given.Database x → (x ≡ old) × ((refusal.error ≡ StaleBatch) ⊎ (refusal.error ≡ Memory))
       pub causes : (refusal.error ≡ StaleBatch) ⊎ ((refusal.error ≡ Memory) ⊎ (refusal.error ≡ Journal journal.Store))
       pub called : (s : C) → refusal.given ≡ given.Store s → Rose (members.calls (store_in old)) (members.calls s)

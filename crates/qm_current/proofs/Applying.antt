@@ -96,6 +96,7 @@ module _ {C D : Type 0} (members : store.Ghosts C) (old : anys.Database C D) (ba
           let after = ap (store_given anys_applying.store_in) store_is in
           record {
             stale = λ stale. absurd (cc (memory, stale));
+            first = λ stale. inr memory;
             back = λ x back. absurd (cc (store_is, back));
             causes = inr (inl memory);
             called = λ s given. let same : next.log.store ≡ s = cc (store_is, given) in subst (λ t. Rose (members.calls old.log.store) (members.calls t)) same counted;

@@ -71,6 +71,10 @@ returns-in-Ok g c =
           };
       unapplied = err-four c.moved.result c.moved.ensures.causes c.moved.ensures.back c.moved.ensures.cause c.moved.ensures.called (λ r causes back cause called. record {
         stale = λ stale. never-stale r.error causes stale;
+        first = λ stale.
+            let bounds = c.args.batch.now.bounds in
+            let fits : can_apply c.args.self c.args.batch.now ≡ true = subst (λ k. is_at k bounds.db bounds.ancestors ≡ true) (ap (λ db. db.commitment) c.self.view_is) c.in-Ok.ensures.fits in
+            absurd (cc (stale, fits));
         back = λ x given.
             let was = back x given in
             (was.0, inr was.1);
@@ -101,6 +105,7 @@ returns-in-Err g c =
           refl,
           subst (λ k. is_at k bounds.db bounds.ancestors ≡ false) (ap (λ db. db.commitment) c.self.view_is) (stale-told error why stale),
         );
+        first = λ stale. stale-or error why;
         back = λ x given. (cc given, stale-or error why);
         causes = stale-causes error why;
         called = λ s given. absurd (cc given);
