@@ -591,6 +591,51 @@ for words in KINDS:
         said = ''.join(x + '\n' for x in lines)
         if len(said) <= 1800: modelled('delayed script %d, %s' % (seed, words[4:]), said, words=words, stage=DELAYED)
 
+# ---- checks of proofs
+CLIENT = qmdb.stage_number('client')
+def exports(kind, lines, keys):
+    """the canonical root of a database after these lines, and what it exports of keys"""
+    asked = 'open\n' + lines + 'root\n' + ''.join('export %s\n' % key for key in keys)
+    _, text = qmdb.run_program(('run ' + kind).split(' '), asked.encode(), model.Store(), CLIENT)
+    said = text.decode().split('\n')[:-1][-len(keys) - 1:]
+    return said[0].split(' ')[1], [x.split(' ')[2] for x in said[1:]]
+def checked(name, words, data, said=(), answer=None, begin='case'):
+    """what the model answers to a check; answer: text and status where a port fails"""
+    status, text = qmdb.run_program(words.split(' '), data, model.Store(), CLIENT)
+    if answer is None: answer = text.decode(), status
+    put(name, ['words ' + words] + lines_of(data) + list(said), answer[0], answer[1], 0, 0, begin=begin)
+    return answer[0]
+TWO = 'batch\nput 1 61 01\nput 1 63 03\nmerkleize 1 hold aa\napply 1\n'
+section('Checks of proofs: the worked rows, over either family, and each byte of a proof changed in turn.')
+for trees in ('mmr', 'mmb'):
+    ROOT, (HELD_61, ABSENT_62) = exports('current ordered ' + trees, TWO, ('61', '62'))
+    for what, claim, spelled, answer in (
+        ('held', 'held 61 01', HELD_61 + '\n', 'yes'), ('held, no line feed', 'held 61 01', HELD_61, 'yes'), ('held, capitals', 'held 61 01', HELD_61.upper(), 'yes'), ('wrong value', 'held 61 02', HELD_61, 'no'), ('wrong key', 'held 62 01', HELD_61, 'no'),
+        ('other kind', 'absent 62', HELD_61, 'no'), ('absent', 'absent 62', ABSENT_62, 'yes'), ('absent, the other kind', 'held 61 01', ABSENT_62, 'no'), ('a live key is not absent', 'absent 61', ABSENT_62, 'no'), ('absent, outside the span', 'absent 64', ABSENT_62, 'no'),
+        ('empty input', 'held 61 01', '', 'no proof'), ('a byte more', 'held 61 01', HELD_61 + '00', 'no proof'), ('a byte less', 'held 61 01', HELD_61[:-2], 'no proof'), ('two line feeds', 'held 61 01', HELD_61 + '\n\n', 'no proof'), ('an odd digit', 'held 61 01', '0', 'no proof'), ('no digit', 'held 61 01', HELD_61[:-1] + 'g', 'no proof')):
+        assert checked('check %s: %s' % (trees, what), 'check %s %s %s' % (trees, ROOT, claim), spelled.encode()) == answer + '\n'
+    other = 'check %s %s held 61 01' % ('mmb' if trees == 'mmr' else 'mmr', ROOT)
+    checked('check %s: by the other family' % trees, other, HELD_61.encode())
+    for name, digits, claim in (('held', HELD_61, 'held 61 01'), ('absent', ABSENT_62, 'absent 62')):
+        for at in range(0, len(digits) // 2, 3):
+            wrong = digits[:2 * at] + '%02x' % (int(digits[2 * at:2 * at + 2], 16) ^ 1 << at % 8) + digits[2 * at + 2:]
+            assert checked('check %s: %s, byte %d' % (trees, name, at), 'check %s %s %s' % (trees, ROOT, claim), wrong.encode()) != 'yes\n'
+    LONE, (HELD, ) = exports('current unordered ' + trees, TWO, ('63', ))
+    assert checked('check %s: of an unordered database' % trees, 'check %s %s held 63 03' % (trees, LONE), HELD.encode()) == 'yes\n'
+    EMPTY, (NONE, ) = exports('current ordered ' + trees, '', ('61', ))
+    assert checked('check %s: absent from an empty database' % trees, 'check %s %s absent 61' % (trees, EMPTY), NONE.encode()) == 'yes\n'
+section('Words that are those of no check, and ports that fail.')
+ROOT, (HELD_61, ) = exports('current ordered mmr', TWO, ('61', ))
+for words in ('check', 'check mmr', 'check mmr ' + ROOT, 'check mmr %s held' % ROOT, 'check mmr %s held 61' % ROOT, 'check mmr %s held 61 01 01' % ROOT, 'check mmr %s absent' % ROOT, 'check mmr %s absent 61 01' % ROOT, 'check mms %s absent 61' % ROOT, 'check mmr %s absent 6' % ROOT,
+    'check mmr %s absent 6g' % ROOT, 'check mmr %s absent %s' % (ROOT, '61' * 33), 'check mmr %s held 61 %s' % (ROOT, '61' * 65), 'check mmr %s absent -' % ROOT, 'check mmr %s Absent 61' % ROOT, 'check mmr %s absent 61' % ROOT[2:], 'check mmr %s00 absent 61' % ROOT, 'mmr %s absent 61' % ROOT):
+    checked('words: ' + words, words, b'')
+WORDS_61 = 'check mmr %s held 61 01' % ROOT
+for name, words in (('a value of no bytes', 'check mmr %s held 61 -' % ROOT), ('the longest key and value', 'check mmr %s held %s %s' % (ROOT, '61' * 32, '01' * 64)), ('capitals', 'check mmr %s held 61 01' % ROOT.upper())):
+    checked('check: ' + name, words, HELD_61.encode())
+checked('check: source call 0 fails', WORDS_61, HELD_61.encode(), ['fail source 0'], ('', 3))
+checked('check: sink call 0 fails', WORDS_61, HELD_61.encode(), ['fail sink 0'], ('', 4))
+checked('check: a store that would fail', WORDS_61, HELD_61.encode(), ['fail store 0'], ('yes\n', 0))
+
 # each worked row of these stands above
 for row in check_rows.load_rows():
     first, last = check_rows.stages_of(row)

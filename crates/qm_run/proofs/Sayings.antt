@@ -1,7 +1,8 @@
 -- What each status says, from what the lines' answering gave.
 use Rattle.std.proofs.Common.{◌≡◌, ◌⊎◌, ◌+◌, ◌<◌, ◌≤◌, ◌==◌, Bool, true, false, cond, ℕ, List, [], ◌++◌, length, take, Option, Some, None, arith, refl, sym, ◌∙◌, ap, subst, inl, inr, append-nil, IfSome}
-use Rattle.std.specs.Prelude.{option_map, IsSome, nat_lt, bytes_eq, codes, ◌∷◌, ◌||◌}
+use Rattle.std.specs.Prelude.{option_map, is_some, IsSome, nat_lt, bytes_eq, codes, ◌∷◌, ◌||◌}
 use Rattle.std.specs.Option.{option_and_then}
+use Rattle.std.proofs.lemmas.Bool.{false≢true}
 use Rattle.std.proofs.lemmas.Bool.Decides.{nat_tests}
 use Rattle.std.proofs.lemmas.List.{take_all}
 use Rattle.std.proofs.lemmas.Slice.Eq.{bytes_eq-Decides}
@@ -14,9 +15,10 @@ use Rattle.qm_machine.specs.Grammar.{commands_in, bad_in}
 use Rattle.qm_model.specs.Schemes.{Scheme, chunks_of, engine_of}
 use Rattle.qm_engine.specs.Answered.{IsAnswered}
 use Rattle.qm_filling.specs.Says.{fault_text}
-use Rattle.qm_run.specs.Program.{count, state, model_text, IsApart, IsOwnAt, bad_text, IsPartial, SaysOver, Says, machine_of, machine_asked, kind_of_four, kind_of_words, kind_of_databases, fill_words}
+use Rattle.qm_run.specs.Program.{count, state, model_text, IsApart, IsOwnAt, bad_text, IsPartial, SaysOver, Says, machine_of, machine_asked, kind_of_four, kind_of_words, kind_of_databases, fill_words, check_words}
 use Rattle.qm_fill.specs.declared.words.Fill.{Fill}
 use Rattle.qm_fill.specs.Words.{fill_of, fill_named}
+use Rattle.qm_checking.specs.Checking.{Asked, asked_of}
 use Rattle.qm_run.specs.declared.kind.Named.{Named}
 use Rattle.qm_run.specs.Endings.{tail_text, tail_status}
 use Rattle.qm_engine.specs.declared.answers.Ending.{Ending}
@@ -256,3 +258,47 @@ filled-good (inl e) write store = inl e
 filled-good (inr (inl e)) write store = absurd (write e)
 filled-good (inr (inr (inl e))) write store = inr e
 filled-good (inr (inr (inr e))) write store = absurd (store e)
+
+-- words of a check are none of a run, and none of a fill
+pub no_other : (ws : List Bytes) (asked : Asked) → check_words ws ≡ Some asked → (kind_of_words ws ≡ None) × (fill_words ws ≡ None)
+no_other [] asked is = (refl, refl)
+no_other (name ∷ ws) asked is = subst (λ (w : Bytes). (kind_of_words (w ∷ ws) ≡ None) × (fill_words (w ∷ ws) ≡ None)) (sym ((bytes_eq-Decides name (codes "check")).0 named)) (others ws)
+  where
+    nothing : None ≡ Some asked → ⊥
+    nothing e = cc
+
+    by : (t : Bool) → bytes_eq name (codes "check") ≡ t → t ≡ true
+    by true e = refl
+    by false e = absurd (nothing (sym (ap (λ (t : Bool). cond t (asked_of 32 ws) None) e) ∙ is))
+
+    named : bytes_eq name (codes "check") ≡ true
+    named = by (bytes_eq name (codes "check")) refl
+
+    others : (ws : List Bytes) → (kind_of_words (codes "check" ∷ ws) ≡ None) × (fill_words (codes "check" ∷ ws) ≡ None)
+    others [] = (refl, refl)
+    others (b ∷ []) = (refl, refl)
+    others (b ∷ c ∷ []) = (refl, refl)
+    others (b ∷ c ∷ d ∷ []) = (refl, refl)
+    others (b ∷ c ∷ d ∷ e ∷ ws) = (refl, refl)
+
+pub or_first : (a b : Bool) → (a || b) ≡ false → a ≡ false
+or_first true b is = is
+or_first false b is = refl
+
+-- a test whether something is there
+pub there : {A : Type 0} (o : Option A) → is_some o ≡ true → (x : A) × (o ≡ Some x)
+there None is = absurd (false≢true is)
+there (Some x) is = (x, refl)
+
+pub not_there : {A : Type 0} (o : Option A) → is_some o ≡ false → o ≡ None
+not_there None is = refl
+not_there (Some x) is = absurd (false≢true (sym is))
+
+-- the statuses of a check
+pub checked-numbers : {s : ℕ} → (s ≡ 0) ⊎ ((s ≡ 2) ⊎ ((s ≡ 3) ⊎ ((s ≡ 4) ⊎ ((s ≡ 5) ⊎ (s ≡ 7))))) → (s ≤ 7) × (s ≡ 1 → ⊥) × (s ≡ 6 → ⊥)
+checked-numbers (inl e) = (omega (arith, e), λ one. omega (arith, e, one), λ six. omega (arith, e, six))
+checked-numbers (inr (inl e)) = (omega (arith, e), λ one. omega (arith, e, one), λ six. omega (arith, e, six))
+checked-numbers (inr (inr (inl e))) = (omega (arith, e), λ one. omega (arith, e, one), λ six. omega (arith, e, six))
+checked-numbers (inr (inr (inr (inl e)))) = (omega (arith, e), λ one. omega (arith, e, one), λ six. omega (arith, e, six))
+checked-numbers (inr (inr (inr (inr (inl e))))) = (omega (arith, e), λ one. omega (arith, e, one), λ six. omega (arith, e, six))
+checked-numbers (inr (inr (inr (inr (inr e))))) = (omega (arith, e), λ one. omega (arith, e, one), λ six. omega (arith, e, six))

@@ -20,6 +20,7 @@ use Rattle.qm_engine.specs.Runs.{after, IsOwnStore, IsOwnLeft}
 use Rattle.qm_fill.specs.declared.words.Fill.{Fill}
 use Rattle.qm_fill.specs.Words.{fill_of_words}
 use Rattle.qm_filling.specs.Says.{IsPartOf, fault_text}
+use Rattle.qm_checking.specs.Checking.{Asked, asked_of_words}
 use Rattle.qm_run.specs.declared.kind.Named.{Named}
 use Rattle.qm_run.specs.Schemes.{current, form_of, scheme}
 
@@ -70,8 +71,18 @@ is_run ws = is_some (kind_of_words ws)
 abbrev pub is_fill : List Bytes → Bool
 is_fill ws = is_some (fill_words ws)
 
+abbrev pub runs_or_fills : List Bytes → Bool
+runs_or_fills ws = is_run ws || is_fill ws
+
+-- the words of a check, by a root of 32 bytes
+abbrev pub check_words : List Bytes → Option Asked
+check_words ws = asked_of_words 32 ws
+
+abbrev pub is_check : List Bytes → Bool
+is_check ws = is_some (check_words ws)
+
 abbrev pub are_words : List Bytes → Bool
-are_words ws = is_run ws || is_fill ws
+are_words ws = runs_or_fills ws || is_check ws
 
 -- the machine of current databases or of any ones, ordered or unordered, over trees of this shape
 abbrev pub machine_over : Shape → Bool → Bool → Scheme

@@ -2,6 +2,7 @@
 #![tactic(auto)]
 
 mod any;
+mod checks;
 mod commands;
 mod current_mmb;
 mod current_mmr;
@@ -9,7 +10,7 @@ mod fills;
 mod kind;
 mod program;
 
+pub use checks::{are_words, qmdb_main};
 pub use commands::{Replies, run_commands};
 pub use kind::Named;
-pub use program::{are_words, qmdb_main};
 pub use qm_engine::End;

@@ -13,7 +13,7 @@ ghost use Rattle.qm_model.specs.Schemes.{chunks_of};
 ghost use Rattle.qm_model.specs.Mmb as delayed;
 ghost use Rattle.qm_model.specs.Mmr as ranges;
 ghost use Rattle.qm_run.specs.Schemes.{current, scheme};
-ghost use Rattle.qm_run.specs.Program.{are_words, is_run, is_fill, family_word, order_word, tree_word, kind_named, kind_of_four, kind_of_words, kind_of_databases, fill_words, machine_of, machine_over, scheme_of, chunks_named, MayDestroy, Says, bad_text};
+ghost use Rattle.qm_run.specs.Program.{runs_or_fills, is_run, is_fill, family_word, order_word, tree_word, kind_named, kind_of_four, kind_of_words, kind_of_databases, fill_words, machine_of, machine_over, scheme_of, chunks_named, MayDestroy, Says, bad_text};
 ghost use Rattle.qm_filling.specs.Says as filled;
 ghost use Rattle.qm_run.specs.Endings.{tail_text, tail_status};
 
@@ -122,13 +122,6 @@ fn fill_from(words: &[String]) -> Option<(Fill, Named)>
     let (fill, databases) = parse_words(words)?;
     let named = databases_from(databases)?;
     Some((fill, named))
-}
-
-/// Whether the words after the program's name are those of a run or of a fill.
-pub fn are_words(words: &[String]) -> bool
-    ensures { result ≡ are_words (map string_bytes words.now) }
-{
-    kind_from(words).is_some() || fill_from(words).is_some()
 }
 
 fn bad_line_text(alloc: Global, number: u64) -> Result<String, AllocError>
@@ -429,15 +422,15 @@ fn run<C: Store + Drop, K: Sink, G: Gate>(
     }
 }
 
-/// The program. The words are those after its name: `run`, then `any` or `current`, then `unordered` or `ordered`, then `mmr` or `mmb`. It reads
-/// the source to its end, runs the commands of its lines over the store, up to the first line that is not a command, and writes
-/// the replies, one line each. Or they are `fill`, a seed and a count of rounds, and then those that follow `run`: it runs the commands
-/// of that fill, and writes its summary; it does not read the source. It answers a status and the store.
-///
-/// The statuses: 0, every line or command has its reply; 1, the words are no such ones; 2, a line is not a command, and after the
-/// replies before it `bad line` and its number were written; 3, the source failed; 4, the sink failed; 5, want of memory; 6, the
-/// store failed, and after the replies so far `store fault` was written, alone by a fill; 7, more than 16,777,216 bytes of input.
-pub fn qmdb_main<C: Store + Drop, S: Source, K: Sink, G: Gate>(
+/// Whether the words after the program's name are those of a run or of a fill.
+pub(crate) fn runs_or_fills(words: &[String]) -> bool
+    ensures { result ≡ runs_or_fills (map string_bytes words.now) }
+{
+    kind_from(words).is_some() || fill_from(words).is_some()
+}
+
+/// Runs or fills: what the program does whose words are not those of a check. Its contract is `qmdb_main`'s.
+pub(crate) fn run_or_fill<C: Store + Drop, S: Source, K: Sink, G: Gate>(
     alloc: Global,
     words: &[String],
     store: C,
@@ -471,7 +464,7 @@ pub fn qmdb_main<C: Store + Drop, S: Source, K: Sink, G: Gate>(
         (MayDestroy (map string_bytes words.now) (S.left source.old)) choices) }
 
     // When each status comes.
-    ensures usage { (result.0 ≡ 1) ↔ (are_words (map string_bytes words.now) ≡ false) }
+    ensures usage { (result.0 ≡ 1) ↔ (runs_or_fills (map string_bytes words.now) ≡ false) }
     ensures read { result.0 ≡ 3 → Rose (S.faults source.old) (S.faults source.new) }
     ensures steady { result.0 ≢ 3 → S.faults source.new ≡ S.faults source.old }
     ensures write { result.0 ≡ 4 → Rose (K.faults sink.old) (K.faults sink.new) }

@@ -1,5 +1,6 @@
 //! `qmdb run (any|current) (unordered|ordered) (mmr|mmb)`: the lines of standard input over the files of a folder, the replies on standard
 //! output. `qmdb fill seed n` and then the words that follow `run`: a large run that is computed from a number, and its summary.
+//! `qmdb check (mmr|mmb) root (held key value|absent key)`: whether the proof on standard input shows that.
 #![tactic(auto)]
 
 ghost use Rattle.std.specs.Prelude.{◌≡◌, ◌⊎◌, IfErr};
@@ -17,6 +18,7 @@ use std::{env, fs, io};
 
 const HELP: &str = "usage: qmdb run (any|current) (unordered|ordered) (mmr|mmb)
        qmdb fill seed n (any|current) (unordered|ordered) (mmr|mmb)
+       qmdb check (mmr|mmb) root (held key value|absent key)
        qmdb --help | --version
 
 Run reads the commands of standard input, one a line, runs them over the store in the folder qmdb-data, and writes a reply line for each.
@@ -24,6 +26,9 @@ Run reads the commands of standard input, one a line, runs them over the store i
 Fill reads no input. It runs n rounds over that store, each a batch of eight puts and dels that are computed from the seed, then
 makes the store last, opens it again and destroys it. It writes how many commands there were and how many were refused, and then the
 replies to info and to root. seed is a number up to 4294967295, n one from 1 to 10000.
+
+Check reads a proof in hexadecimal digits from standard input, and writes whether it shows that key has value, or that it has none, in
+a current database with this root, over trees mmr or mmb: yes, no, or no proof. It needs no store.
 
 line, reply, and an example: a line and what it was answered
   open [max=n]                         open i start size                      open => open 1 0 1
@@ -70,7 +75,7 @@ or key=none. policy is prop, hold, bounded:entries:skips, or rule:entries:skips 
 next, prev, span, all, range and keys are lines of ordered databases, proof h of any ones, held, chunks and witness of current ones, absent of
 those that are ordered too: each makes a proof and checks it against the root, and a verdict is yes or no.
 A refused command is answered with refused and why.
-Statuses: 0 all answered, 1 other words, 2 a bad line (of a run), 3 and 4 the input or the output failed, 5 no memory, 6 the store failed, 7 too long.";
+Statuses: 0 all answered, 1 other words, 2 a bad line (of a run) or no proof (for a check), 3 and 4 the input or the output failed, 5 no memory, 6 the store failed, 7 too long.";
 
 const VERSION: &str = "qmdb 0.1.0";
 
@@ -111,8 +116,8 @@ fn answer(words: &[String]) -> Option<&'static str> {
 fn reason(status: u8) -> &'static str {
     match status {
         OTHER_WORDS =>
-            "unknown arguments; usage: qmdb (run|fill seed n) (any|current) (unordered|ordered) (mmr|mmb)",
-        2 => "bad line; the last line of the output has its number",
+            "unknown arguments; qmdb --help tells which there are",
+        2 => "bad line, whose number the last line of the output has, or no proof",
         NOT_READ => "the input cannot be read",
         NOT_WRITTEN => "the output cannot be written",
         NO_MEMORY => "out of memory",
@@ -121,9 +126,9 @@ fn reason(status: u8) -> &'static str {
     }
 }
 
-// Whether such words are those of a run, which reads standard input.
+// Whether such words are those of a run or of a check, which read standard input.
 fn reads_input(words: &[String]) -> bool {
-    !words.is_empty() && words[0].as_str() == "run"
+    !words.is_empty() && (words[0].as_str() == "run" || words[0].as_str() == "check")
 }
 
 // What stands in the place of a standard stream that is closed, so that no file of the store does, and the status to end with where

@@ -15,7 +15,7 @@ use Rattle.qm_engine.proofs.LastingStores.{turns-self, turns-looser}
 use Rattle.qm_engine.proofs.Loops.{each}
 use Rattle.qm_run.proofs.Sayings.{says_nothing, says_unstarted, unchanged, each_input, each_more, both, at_none, at_kind, named-chunks, filled-chunks, if_none, if_some, not_run, or_left, or_right, or_none, differ, no_four, at_most_seven, not_both, served-not_early, served-few, served-good, served-bad, filled-served, filled-not_bad, filled-good}
 use Rattle.qm_filling.specs.Says as filled
-use Rattle.qm_run.proofs.program.qmdb_main.Goals as goal
+use Rattle.qm_run.proofs.program.run_or_fill.Goals as goal
 
 pub returns-in_default-kind_from : goal.returns-in_default-kind_from
 returns-in_default-kind_from g c =
