@@ -35,12 +35,7 @@ pub fn are_words(words: &[String]) -> bool
 }
 
 // Checks what the words of a check ask. It answers a status.
-fn check<S: Source, K: Sink>(
-    alloc: Global,
-    words: &[String],
-    source: &mut S,
-    sink: &mut K,
-) -> u8
+fn check<S: Source, K: Sink>(alloc: Global, words: &[String], source: &mut S, sink: &mut K) -> u8
     ensures checked { IfSome (check_words (map string_bytes words.now)) (λ asked.
         IsChecked sha256 (grafting 32) 32 32 asked result (S.left source.old) (S.left source.new)
         (S.faults source.old) (S.faults source.new) (K.text sink.old) (K.text sink.new)

@@ -3,7 +3,8 @@
 ghost use Rattle.std.specs.Prelude.{◌≡◌, None, refl};
 
 use qm_base::{ByteKey, ByteString, ByteValue, Location, VariableValue};
-use qm_index::{FourCap, ordered, unordered};
+use qm_index::partitioned::{ordered, unordered};
+use qm_index::{FourCap, P256};
 use qm_merkle::Family;
 use qm_operations::{Ordered, Unordered, VariableEncoding};
 use qm_step::kind::Steps;
@@ -17,11 +18,11 @@ pub struct Named {
     pub is_delayed: bool,
 }
 
-/// Where the keys of unordered databases are live, by their first four bytes.
-pub(crate) type Places<F> = unordered::Index<FourCap, Location<F>>;
+/// Where the keys of unordered databases are live: in a partition by their first byte, and there by the four bytes behind it.
+pub(crate) type Places<F> = unordered::Index<FourCap, Location<F>, P256>;
 
-/// Where the keys of ordered databases are live, by their first four bytes.
-pub(crate) type OrderedPlaces<F> = ordered::Index<FourCap, Location<F>>;
+/// Where the keys of ordered databases are live: in a partition by their first byte, and there by the four bytes behind it.
+pub(crate) type OrderedPlaces<F> = ordered::Index<FourCap, Location<F>, P256>;
 
 /// What the updates of a kind of the program's databases say, over this index. They are spelled with their lengths.
 pub(crate) trait Kind<F: Family, I: qm_index::Unordered<Value = Location<F>>>: Steps<F, I> {
