@@ -16,3 +16,4 @@ pub mod Owned
 pub mod Loops
 pub mod Answerings
 pub mod Followed
+pub mod Complete

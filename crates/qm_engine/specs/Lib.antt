@@ -8,3 +8,4 @@ pub mod Making
 pub mod Runs
 pub mod Parts
 pub mod Answered
+pub mod Complete

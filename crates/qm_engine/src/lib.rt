@@ -3,6 +3,7 @@
 
 pub mod answering;
 pub mod answers;
+pub mod laws;
 pub mod runs;
 pub mod session;
 mod table;
