@@ -1,6 +1,6 @@
 -- What a step makes of a list, and the merkleized batch of a plan on its parent.
 use Rattle.std.proofs.Common.{◌≡◌, ◌≢◌, ◌∙◌, le_refl, ℕ, zero, suc, ◌+◌, ◌-◌, ◌≤◌, ◌<◌, ◌^◌, arith, ap, ap₂, sym, subst, refl, Bool, true, false, List, [], ◌∷◌, ◌++◌, length, take, drop, map, inl, inr, ⊎_elim, Option, Some, None, option_map, option_and_then}
-use Rattle.std.specs.Prelude.{All, Contains, IfSome, get_or, is_some, nat_le, filter_map, if◌then◌else◌, slice_get, ◌==◌}
+use Rattle.std.specs.Prelude.{All, Contains, IfSome, get_or, is_some, nat_le, nat_lt, filter_map, if◌then◌else◌, slice_get, ◌==◌}
 use Rattle.std.specs.List.{cons_option, AllByRecursion as Each}
 use Rattle.std.proofs.lemmas.Bool.Decides.{leb_tells}
 use Rattle.std.proofs.lemmas.List.{take-map, take-append-le, take-append-drop, length-append, length-drop, length-map, map-append}
@@ -14,7 +14,9 @@ use Rattle.qm_model.specs.Step.{Kind, IsGood, ordered, unordered, step, walk_aft
 use Rattle.qm_model.specs.Keys.{without}
 use Rattle.qm_model.specs.Walk.{Rules, Walked}
 use Rattle.qm_model.specs.Writes.{Write, write_of, last_writes, operation_of, made_inactive, rewrite_of, create_of, unordered_writes}
+use Rattle.qm_model.specs.Refusals.{max_spelling, too_long}
 use Rattle.qm_model.proofs.OrderedLists.{Each-append}
+use Rattle.qm_model.proofs.Proving.{less_tells}
 use Rattle.qm_model.proofs.OrderedSteps.{ordered-good, ordered-within, step-ring}
 use Rattle.qm_model.proofs.Steps.{step-good, step-within}
 use Rattle.qm_model.proofs.Walks.{Walks, walks, walks_within}
@@ -495,10 +497,21 @@ pub too_long-kept : (spelt : List Bytes) (size : ℕ) (e : Error) → IsTooLong 
 too_long-kept spelt size e (inl long) n pruned = absurd (cc (long.2, pruned))
 too_long-kept spelt size e (inr many) n pruned = absurd (cc (many.2, pruned))
 
+-- the first spelling that is too long is past the bound
+too_long-past : (spelt : List Bytes) (n : ℕ) → too_long spelt ≡ Some n → max_spelling < n
+too_long-past [] n none = absurd (cc none)
+too_long-past (first ∷ rest) n told = by (nat_lt max_spelling (length first)) refl
+  where
+    by : (is_long : Bool) → nat_lt max_spelling (length first) ≡ is_long → max_spelling < n
+    by true long =
+        let same : length first ≡ n = cc (subst (λ b. (if b then Some (length first) else too_long rest) ≡ Some n) long told) in
+        subst (λ k. max_spelling < k) same (less_tells max_spelling (length first) long)
+    by false short = too_long-past rest n (subst (λ b. (if b then Some (length first) else too_long rest) ≡ Some n) short told)
+
 -- it is one of a size
 pub too_long-size : (spelt : List Bytes) (size : ℕ) (e : Error) → IsTooLong spelt size e → IsSizeError e
-too_long-size spelt size e (inl long) = inl (long.0, long.2)
-too_long-size spelt size e (inr many) = inr (size, many.2)
+too_long-size spelt size e (inl long) = inl (long.0, too_long-past spelt long.0 long.1, long.2)
+too_long-size spelt size e (inr many) = inr (size, many.1, many.2)
 
 -- an error that tells what is too long of the operations of a plan tells it of the own operations of its list
 pub plan-refused : (form : Form) (plan : Plan) (base tip : List Operation) (items : List Bytes) (size : ℕ) (e : Error) {evicted : List (Bytes × Bytes)} → IsPlan plan base tip evicted → items ≡ map (spelling form) plan.operations → size ≡ length base + length plan.operations

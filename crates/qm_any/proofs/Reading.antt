@@ -1,6 +1,6 @@
 -- What reads leave of a database, and what they find.
-use Rattle.std.proofs.Common.{◌≡◌, ◌≤◌, ◌∙◌, arith, ap, sym, subst, refl, ℕ, List, [], Option, None, Some}
-use Rattle.std.specs.Prelude.{IsSome, Result, option_map, option_and_then}
+use Rattle.std.proofs.Common.{◌≡◌, ◌≤◌, ◌∙◌, arith, ap, sym, subst, refl, inl, inr, ℕ, Bool, List, [], Option, None, Some}
+use Rattle.std.specs.Prelude.{IfErr, IsSome, Result, Ok, Err, option_map, option_and_then}
 use Rattle.std.proofs.lemmas.List.Elements.{All-weaker}
 use Rattle.qm_model.specs.Operations.{Bytes, Operation}
 use Rattle.qm_model.specs.Live.{Live, floor, live, live_of, value_of}
@@ -8,6 +8,7 @@ use Rattle.qm_model.specs.Step.{IsGood}
 use Rattle.qm_model.proofs.Chains.{Contains-first}
 use Rattle.qm_operations.specs.Parts as parts
 use Rattle.qm_base.specs.declared.error.Error.{Error}
+use Rattle.qm_chain.specs.Bounds.{Bounds, knows}
 use Rattle.qm_store.specs.declared.Store as store
 use Rattle.qm_step.specs.Changes.{update_of, located}
 use Rattle.qm_step.specs.Layers.{Layer, LeadOver}
@@ -18,7 +19,7 @@ use Rattle.qm_store.proofs.Reading.{read-none, read-then, error-then}
 use Rattle.qm_step.proofs.Reading.{lent-then}
 use Rattle.qm_any.specs.Layouts.{Hashing, Layout}
 use Rattle.qm_any.specs.Databases.{Database, IsDatabase, IsLeft}
-use Rattle.qm_any.specs.Reading.{Reads}
+use Rattle.qm_any.specs.Reading.{IsFault, IsFaultThrough, IsOfKeptItem, IsThroughError, Reads, ReadsThrough}
 
 module _ {C D : Type 0} (members : store.Ghosts C) (hashing : Hashing D) where
   -- no read leaves a database as it was
@@ -81,3 +82,24 @@ lent-reads members layout old lent log result same did =
       whole = λ list is. did.whole (record { list = list; lent = is.lent; none = good-none lent.log.tree.start list is.good is.low });
       left = record { rest = refl; read = did.left };
     })
+
+-- of a database that stands for a list, a read that is not at an item below the start fails for memory or by the store
+fails-kept : {C D : Type 0} (members : store.Ghosts C) (old new : Log C D) (e : Error) → IsOfKeptItem e → IsReadError members old new e → IsFault members old new e
+fails-kept members old new e kept (inl memory) = inl memory
+fails-kept members old new e kept (inr (inl fault)) = inr fault
+fails-kept members old new e kept (inr (inr (n, below, pruned))) = absurd (kept n pruned)
+
+fails-kept-through : {C D : Type 0} (members : store.Ghosts C) (known : Bool) (old new : Log C D) (e : Error) → IsOfKeptItem e → IsThroughError members known old new e → IsFaultThrough members known old new e
+fails-kept-through members known old new e kept (inl stale) = inl stale
+fails-kept-through members known old new e kept (inr (inl memory)) = inr (inl memory)
+fails-kept-through members known old new e kept (inr (inr (is, failed))) = inr (inr (is, fails-kept members old new e kept failed))
+
+pub fails-alone : {C D A : Type 0} (members : store.Ghosts C) (layout : Layout D) (old new : Database C D) (list : List Operation) (result : Result A Error) → IsDatabase members layout old list → Reads members layout old new result
+    → IfErr result (IsFault members old.log new.log)
+fails-alone members layout old new list (Ok a) is reads = tt
+fails-alone members layout old new list (Err e) is reads = fails-kept members old.log new.log e (reads.whole list is) reads.error
+
+pub fails-through : {C D A : Type 0} (members : store.Ghosts C) (layout : Layout D) (old new : Database C D) (list : List Operation) (bounds : Bounds) (result : Result A Error) → IsDatabase members layout old list
+    → ReadsThrough members layout old new result bounds → IfErr result (IsFaultThrough members (knows bounds old.commitment) old.log new.log)
+fails-through members layout old new list bounds (Ok a) is reads = tt
+fails-through members layout old new list bounds (Err e) is reads = fails-kept-through members (knows bounds old.commitment) old.log new.log e (reads.whole list is) reads.error

@@ -1,9 +1,11 @@
 -- What a call says that reads a database, alone or through a batch.
 use Rattle.std.specs.Prelude.{◌≡◌, ◌⊎◌, Bool, true, false, List, Result, IfErr, OnOk}
 use Rattle.qm_model.specs.Batches.{Chain, IsKnown, IsOnChain}
+use Rattle.qm_model.specs.Causes.{Rose}
 use Rattle.qm_model.specs.Operations.{Operation}
 use Rattle.qm_base.specs.declared.error.Error.{Error}
 use Rattle.qm_base.specs.declared.error.Error.TheVariants as errors
+use Rattle.qm_base.specs.declared.error.JournalError.TheVariants as journal
 pub use Rattle.qm_base.specs.Reads.{IsOfKeptItem}
 use Rattle.qm_chain.specs.Bounds.{Bounds, knows}
 use Rattle.qm_store.specs.declared.Store as store
@@ -15,6 +17,14 @@ use Rattle.qm_any.specs.Databases.{Database, Begun, Made, Staged, IsBegun, IsDat
 -- why a read through a batch failed, which is known or not: it is stale, or memory was short, or the log's read failed
 abbrev pub IsThroughError : {C D : Type 0} → store.Ghosts C → Bool → Log C D → Log C D → Error → Type 0
 IsThroughError members known old new e = ((e ≡ errors.StaleRead) × (known ≡ false)) ⊎ ((e ≡ errors.Memory) ⊎ ((known ≡ true) × IsReadError members old new e))
+
+-- why a read of a database that stands for a list failed: memory was short, or the store failed, by which its count of faults rose
+abbrev pub IsFault : {C D : Type 0} → store.Ghosts C → Log C D → Log C D → Error → Type 0
+IsFault members old new e = (e ≡ errors.Memory) ⊎ ((e ≡ errors.Journal journal.Store) × Rose (members.faults old.store) (members.faults new.store))
+
+-- the same of a read through a batch, which is known or not: it may be stale too
+abbrev pub IsFaultThrough : {C D : Type 0} → store.Ghosts C → Bool → Log C D → Log C D → Error → Type 0
+IsFaultThrough members known old new e = ((e ≡ errors.StaleRead) × (known ≡ false)) ⊎ ((e ≡ errors.Memory) ⊎ ((known ≡ true) × IsFault members old new e))
 
 module _ {C D : Type 0} (members : store.Ghosts C) (layout : Layout D) where
   -- of each list that the database stands for

@@ -1,6 +1,7 @@
 -- Why calls of a database refuse, whatever its store tells.
-use Rattle.std.specs.Prelude.{◌≡◌, ◌≢◌, ◌⊎◌, ◌≤◌, ℕ, Bool, true, false, List, Option}
+use Rattle.std.specs.Prelude.{◌≡◌, ◌≢◌, ◌⊎◌, ◌≤◌, ◌<◌, ◌^◌, ℕ, Bool, true, false, List, Option}
 use Rattle.qm_model.specs.Causes.{Rose}
+use Rattle.qm_model.specs.Refusals.{max_spelling}
 use Rattle.qm_model.specs.Refused.{Refused}
 use Rattle.qm_model.specs.Trees.{Shape, peak_positions}
 use Rattle.qm_base.specs.declared.error.Error.{Error}
@@ -13,9 +14,11 @@ use Rattle.qm_store.specs.Log.{Log, IsLacked}
 use Rattle.qm_store.specs.Reads.{IsReadError}
 use Rattle.qm_store.specs.Refusals.{IsAmong}
 
--- a spelling is too long, or a list is
+-- a spelling is too long, or a list is: what is told is past its bound
 abbrev pub IsSizeError : Error → Type 0
-IsSizeError e = ((n : ℕ) × (e ≡ errors.Journal (journal.ItemTooLarge n))) ⊎ ((n : ℕ) × (e ≡ errors.Merkle (refused.LocationOverflow n)))
+IsSizeError e =
+    ((n : ℕ) × (max_spelling < n) × (e ≡ errors.Journal (journal.ItemTooLarge n)))
+    ⊎ ((n : ℕ) × (2 ^ 62 < n) × (e ≡ errors.Merkle (refused.LocationOverflow n)))
 
 -- why a list was not made: a read failed, or it is too large
 abbrev pub IsMakingError : {C D : Type 0} → store.Ghosts C → Log C D → Log C D → Error → Type 0

@@ -1,5 +1,5 @@
 -- When the list of a batch is taken, and why it is refused.
-use Rattle.std.specs.Prelude.{◌≡◌, ◌⊎◌, ◌≤◌, ◌<◌, ◌^◌, ◌+◌, ◌∷◌, ℕ, List, length, map, drop, true, false, None, Some, IfSome, All}
+use Rattle.std.specs.Prelude.{◌≡◌, ◌⊎◌, ◌≤◌, ◌<◌, ◌^◌, ◌+◌, ◌∷◌, ℕ, List, [], length, map, drop, true, false, None, Some, IfSome, All}
 use Rattle.qm_operations.specs.Parts.{floor_of}
 use Rattle.qm_base.specs.declared.error.Error.{Error}
 use Rattle.qm_base.specs.declared.error.Error.TheVariants as errors
@@ -13,6 +13,7 @@ use Rattle.qm_model.specs.Live.{floor}
 use Rattle.qm_merkle.specs.Batches.{stops, stops_since}
 use Rattle.qm_chain.specs.Bounds.{is_at}
 use Rattle.qm_store.specs.KeptTrees.{KeptTree, IsKeptTree}
+use Rattle.qm_step.specs.Layers.{Layer}
 use Rattle.qm_any.specs.Layouts.{Hashing, list_root, spellings}
 use Rattle.qm_any.specs.Databases.{Made, child_boundary, child_tips}
 
@@ -27,6 +28,18 @@ own_spellings form base tip = map (spelling form) (drop (length base) tip)
 -- no own spelling is too long, and there are not too many operations
 abbrev pub IsTaken : Form → List Operation → List Operation → Type 0
 IsTaken form base tip = (too_long (own_spellings form base tip) ≡ None) × (length tip ≤ 2 ^ 62)
+
+-- the own operations of a merkleized batch: what its last step appends
+abbrev pub own_of : {D : Type 0} → Made D → List Operation
+own_of made = own_in made.layers
+  where
+    own_in : List Layer → List Operation
+    own_in [] = []
+    own_in (own ∷ older) = own.operations
+
+-- nothing of a merkleized batch is too large: no spelling of its own operations, nor its list
+abbrev pub IsShort : {D : Type 0} → Form → Made D → Type 0
+IsShort form made = (too_long (map (spelling form) (own_of made)) ≡ None) × (made.bounds.tip.size ≤ 2 ^ 62)
 
 -- the error tells the size of the first spelling that is too long or, if none is, the list's size
 abbrev pub IsTooLong : List Bytes → ℕ → Error → Type 0

@@ -1,18 +1,21 @@
 //! What holds of every database, each as the contract of a function that does nothing.
 
-ghost use Rattle.std.specs.Prelude.{◌≡◌, ◌↔◌, ℕ, suc, ◌<◌, false, List, Option, None, Some, Result, IfOk, slice_index_or};
+ghost use Rattle.std.specs.Prelude.{◌≡◌, ◌↔◌, ℕ, suc, ◌<◌, false, List, Option, None, Some, Result, IfOk, IfErr, slice_index_or};
 ghost use Rattle.qm_model.specs.Opening.{opened_list};
 ghost use Rattle.qm_model.specs.Operations.{Operation};
 ghost use Rattle.qm_model.specs.Own.{Log, IsOwn};
 ghost use Rattle.qm_model.specs.Schemes.{engine_of};
 ghost use Rattle.qm_model.specs.StoreModel.{Stored};
 ghost use Rattle.qm_model.specs.Taken.{selected_size};
+ghost use Rattle.qm_base.specs.declared.error.Error.{Error};
+ghost use Rattle.qm_chain.specs.Bounds.{Bounds, knows};
 ghost use Rattle.qm_store.specs.declared.refusal.Refusal.{Refusal};
 ghost use Rattle.qm_bits.specs.Bitmaps.{all_bits};
 ghost use Rattle.qm_any.specs.Layouts.{Layout};
 ghost use Rattle.qm_any.specs.Databases.{Database, IsDatabase};
 ghost use Rattle.qm_any.specs.Offered.{scheme_of};
 ghost use Rattle.qm_any.specs.Opening.{OpensUpTo};
+ghost use Rattle.qm_any.specs.Reading.{IsFault, IsFaultThrough, Reads, ReadsThrough};
 
 use qm_model::laws::Ruled;
 use qm_store::Store;
@@ -44,4 +47,17 @@ pub fn an_own_store_is_opened_to_the_beginning_of_its_list<C: Store, D, P: Ruled
         → OpensUpTo C.Store layout digest_size None bound old result
         → IfOk result (λ db.
         IsDatabase C.Store layout db (opened_list (selected_size m bound s) log.list)) }
+{}
+
+/// Of a database that stands for a list: a read fails for want of memory, or by the store, whose count of faults rose; one through a batch also
+/// because the batch does not know the database's state. Nothing else refuses it.
+pub fn a_read_of_a_list_fails_for_memory_or_its_store<C: Store, D, A>()
+    ensures alone { (layout : Layout D) (old new : Database C D) (list : List Operation)
+        (result : Result A Error) → IsDatabase C.Store layout old list
+        → Reads C.Store layout old new result
+        → IfErr result (IsFault C.Store old.log new.log) }
+    ensures through { (layout : Layout D) (old new : Database C D) (list : List Operation)
+        (bounds : Bounds) (result : Result A Error) → IsDatabase C.Store layout old list
+        → ReadsThrough C.Store layout old new result bounds
+        → IfErr result (IsFaultThrough C.Store (knows bounds old.commitment) old.log new.log) }
 {}

@@ -7,6 +7,7 @@ ghost use Rattle.qm_model.specs.Writes.{read_through};
 ghost use Rattle.qm_step.specs.Views.{reads_view};
 ghost use Rattle.qm_any.specs.Databases.{IsChild, IsMadeWith, IsLeft, IsStaged, is_on, staged_keys};
 ghost use Rattle.qm_any.specs.Making.{IsMaking, IsUnmade, making_of};
+ghost use Rattle.qm_any.specs.Tips.{IsShort};
 ghost use Rattle.qm_any.specs.Reading.{IsOfKeptItem, ReadsThrough, AtBegun, AtList, AtStaged, OnBegun, OnStaged};
 
 use crate::batch::{MerkleizedBatch, UnmerkleizedBatch, sealed};
@@ -107,6 +108,7 @@ impl<F: Family, D: Digest, U: Update> UnmerkleizedBatch<F, D, U> {
             (making_of P.rules policy.old self.writes (option_map U.Value.bytes metadata)) chain
             policy.new db.old.log db.new.log result
             (λ b. IsMadeWith ⟦<Db<F, C, I, H, U, N> as LaidOut>⟧.layout.hashing b.value chain)) }
+        ensures short { IfOk result (λ b. IsShort U.form b.value) }
         ensures child { IfOk result (λ b. IsChild self.parent self.keep b.value) }
         ensures unmade { IfErr result (IsUnmade C.Store (is_on db.old.commitment self) db.old.log
             db.new.log) }
@@ -219,6 +221,7 @@ impl<F: Family, D: Digest, U: Update> Staged<F, D, U> {
             (write_views U.Key.bytes U.Value.bytes others.now)) (option_map U.Value.bytes metadata))
             chain policy.new db.old.log db.new.log result
             (λ b. IsMadeWith ⟦<Db<F, C, I, H, U, N> as LaidOut>⟧.layout.hashing b.value chain)) }
+        ensures short { IfOk result (λ b. IsShort U.form b.value) }
         ensures child { IfOk result (λ b.
             IsChild self.batch.parent self.batch.keep b.value) }
         ensures unmade { IfErr result (IsUnmade C.Store (is_on db.old.commitment self.batch)

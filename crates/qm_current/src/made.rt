@@ -6,6 +6,7 @@ ghost use Rattle.qm_model.specs.Operations.{Operation};
 ghost use Rattle.qm_any.specs.Applying.{can_apply};
 ghost use Rattle.qm_any.specs.Databases as anys;
 ghost use Rattle.qm_any.specs.Making.{IsMaking, IsUnmade, making_of};
+ghost use Rattle.qm_any.specs.Tips.{IsShort};
 ghost use Rattle.qm_any.specs.Reading as readings;
 ghost use Rattle.qm_any.specs.Reading.{AtList, IsOfKeptItem};
 ghost use Rattle.qm_roots.specs.Kept.{IsKept};
@@ -53,6 +54,7 @@ impl<F: Graftable, D: Digest, U: Update, N: Chunks> UnmerkleizedBatch<F, D, U, N
             (making_of P.rules policy.old self.any.writes (option_map U.Value.bytes metadata)) chain
             policy.new db.old.any.log db.new.any.log result (λ b.
             IsMadeWith ⟦<AnyDb<F, C, I, H, U, N> as LaidOut>⟧.layout.hashing N.LEN b.value chain)) }
+        ensures short { IfOk result (λ b. IsShort U.form b.value.any) }
         ensures numbered { IfOk result (λ b. b.value.instance ≡ self.instance) }
         ensures child { IfOk result (λ b.
             anys.IsChild self.any.parent self.any.keep b.value.any) }

@@ -7,6 +7,7 @@ ghost use Rattle.qm_model.specs.Writes.{read_through};
 ghost use Rattle.qm_any.specs.Databases as anys;
 ghost use Rattle.qm_any.specs.Databases.{staged_keys};
 ghost use Rattle.qm_any.specs.Making.{IsMaking, IsUnmade, making_of};
+ghost use Rattle.qm_any.specs.Tips.{IsShort};
 ghost use Rattle.qm_any.specs.Reading as readings;
 ghost use Rattle.qm_any.specs.Reading.{AtList, IsOfKeptItem, ReadsThrough, AtBegun, AtStaged};
 ghost use Rattle.qm_current.specs.Databases.{IsMadeWith, begun_of};
@@ -153,6 +154,7 @@ impl<F: Graftable, D: Digest, U: Update, N: Chunks> Staged<F, D, U, N> {
             (option_map U.Value.bytes metadata)) chain
             policy.new db.old.any.log db.new.any.log result (λ b.
             IsMadeWith ⟦<AnyDb<F, C, I, H, U, N> as LaidOut>⟧.layout.hashing N.LEN b.value chain)) }
+        ensures short { IfOk result (λ b. IsShort U.form b.value.any) }
         ensures child { IfOk result (λ b. (b.value.instance ≡ self.instance)
             × anys.IsChild self.any.batch.parent self.any.batch.keep b.value.any) }
         ensures unmade { IfErr result

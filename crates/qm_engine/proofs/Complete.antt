@@ -1,6 +1,6 @@
 -- That calls which nothing refuses and in which no fault is told answer, or want memory.
 use Rattle.std.specs.Prelude.{◌≡◌, ◌≢◌, ◌⊎◌, ◌<◌, ◌≤◌, ℕ, Bool, true, false, List, Option, Some, None, Result, Ok, Err, IfSome, IfErr, refl, inl, inr}
-use Rattle.std.proofs.Common.{sym, subst, ap, ◌∙◌, arith, tt}
+use Rattle.std.proofs.Common.{sym, subst, ap, ◌∙◌, arith}
 use Rattle.qm_model.specs.Causes.{Rose, IsCause}
 use Rattle.qm_model.specs.Refused as refusals
 use Rattle.qm_base.specs.declared.error.Error.{Error}

@@ -18,6 +18,7 @@ returns g c =
       makes = λ list chain above is begun on.
           subst (λ ws. IsMaking g.C.Store form (making_of g.P.Policy.rules c.args.policy.now ws meta) chain c.merkleize.new.policy c.args.db.now.log c.merkleize.new.db.log c.merkleize.result (λ b. IsMadeWith hashing b.value chain)) writes
           (c.merkleize.ensures.makes list chain above is (record { begun = begun; reads = staged-none g.U.Update.view key chain.base _ c.new.ensures.items }) on);
+      short = c.merkleize.ensures.short;
       child = c.merkleize.ensures.child;
       unmade = c.merkleize.ensures.unmade;
       whole = λ list chain above is begun on. c.merkleize.ensures.whole list chain above is (record { begun = begun; reads = staged-none g.U.Update.view key chain.base _ c.new.ensures.items }) on;

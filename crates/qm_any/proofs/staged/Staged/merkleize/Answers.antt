@@ -16,7 +16,7 @@ use Rattle.qm_store.specs.KeptTrees.{KeptTree, IsKeptTree}
 use Rattle.qm_step.specs.Views.{IsPlan, evicted_after, left_after, stepped}
 use Rattle.qm_any.specs.Layouts.{hashing_with, list_root, spellings}
 use Rattle.qm_any.specs.Databases.{IsLeft, IsMade, IsTree, bases_of, is_on, kept_by}
-use Rattle.qm_any.specs.Tips.{IsSpelled, IsTooLong, IsTreeAfter}
+use Rattle.qm_any.specs.Tips.{IsShort, IsSpelled, IsTooLong, IsTreeAfter}
 use Rattle.qm_any.proofs.Agreed.{child-above, child-reached}
 use Rattle.qm_any.proofs.Reading.{left-database, left-none}
 use Rattle.qm_any.proofs.Reasons.{on-ok}
@@ -42,6 +42,7 @@ returns-in_err-child g c =
         next = IfOk-from_err c.from_residual.result _ c.from_residual.ensures.0;
         refused = rw (exit.1, exit.2) (inl (unplaced-refused g.U.Update.form chain.base _ (is_on c.args.db.now.commitment c.args.self.batch) e refusal));
       };
+      short = IfOk-from_err c.from_residual.result _ c.from_residual.ensures.0;
       child = IfOk-from_err c.from_residual.result _ c.from_residual.ensures.0;
       unmade = rw (exit.1, exit.2) unmade;
       whole = λ list chain above is staged on. rw (exit.1, exit.2) (unplaced-kept (is_on c.args.db.now.commitment c.args.self.batch) e refusal);
@@ -65,6 +66,7 @@ returns-in_err-plan g c =
         next = IfOk-from_err c.from_residual-in_err-plan.result _ c.from_residual-in_err-plan.ensures.0;
         refused = rw (exit.1, exit.2) (inr failed);
       };
+      short = IfOk-from_err c.from_residual-in_err-plan.result _ c.from_residual-in_err-plan.ensures.0;
       child = IfOk-from_err c.from_residual-in_err-plan.result _ c.from_residual-in_err-plan.ensures.0;
       unmade = rw (exit.1, exit.2) unmade;
       whole = λ list chain above is staged on.
@@ -112,6 +114,7 @@ returns-in_err-tree g c =
             (sym (length-map c.deref-2.result.now (operation_view view key value)) ∙ ap length given) in
             rw (exit.1, exit.2) (inl (unspelled-refused form c.in_ok-plan.plan chain.base _ size e plan count refusal));
       };
+      short = IfOk-from_err c.from_residual-in_err-tree.result _ c.from_residual-in_err-tree.ensures.0;
       child = IfOk-from_err c.from_residual-in_err-tree.result _ c.from_residual-in_err-tree.ensures.0;
       unmade = rw (exit.1, exit.2) unmade;
       whole = λ list chain above is staged on. rw (exit.1, exit.2) (unspelled-kept (map (spelling g.U.Update.form) c.in_ok-plan.plan.operations) size e refusal);
@@ -207,6 +210,10 @@ returns g c =
             next = on-ok c.sealed.result (subst (λ ws. c.plan.new.policy ≡ left_after form g.P.Policy.rules chain.base ws c.args.policy.now) writes planned.1);
             refused = err-then c.sealed.result c.sealed.ensures.memory (λ e memory. inl (inl memory));
           };
+      short =
+          let given = ap (operation_views g.U.Update.view g.U.Key.ByteString.bytes g.U.Value.ByteString.bytes) c.deref-2.ensures.value ∙ ap (λ p. p.operations) c.plan-2.view_is in
+          let spelt = subst (λ ops. IsSpelled g.U.Update.form ops c.in_ok-tree.tree.leaves) given (c.in_ok-tree.ensures.after).spelled in
+          ok-then c.sealed.result c.sealed.ensures.value (λ b made. subst (IsShort g.U.Update.form) (sym made) (spelt.short, spelt.few));
       child = ok-four c.sealed.result c.sealed.ensures.value c.sealed.ensures.above c.sealed.ensures.value c.sealed.ensures.above (λ b made above _ _.
           child-of c.args.self.batch c.parts-keep.result.0.now c.parts-keep.result.1 _ _ _ _ b.value (c.parts-keep.ensures.parent ∙ ap (λ b. b.parent) batch) (c.parts-keep.ensures.keep ∙ ap (λ b. b.keep) batch) made above);
       unmade = err-then c.sealed.result c.sealed.ensures.memory (λ e memory. unsealed g.C.Store (is_on c.args.db.now.commitment c.args.self.batch) c.args.db.now.log c.grown.new.self.log e here memory);

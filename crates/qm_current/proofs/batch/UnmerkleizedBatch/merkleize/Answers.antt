@@ -12,7 +12,7 @@ use Rattle.qm_any.specs.Layouts.{hashing_of, layout_of}
 use Rattle.qm_store.specs.Reads.{IsReadError}
 use Rattle.qm_any.specs.Reading.{AtList}
 use Rattle.qm_any.specs.Making.{IsMaking, IsUnmade, list_made, making_of}
-use Rattle.qm_any.specs.Tips.{IsRefused}
+use Rattle.qm_any.specs.Tips.{IsRefused, IsShort}
 use Rattle.qm_any.proofs.Reading.{left-database}
 use Rattle.qm_any.proofs.Telling.{three}
 use Rattle.qm_any.proofs.Unmade.{unsealed}
@@ -94,6 +94,7 @@ returns-in-Ok g c =
             refused = err-then r c.finished.ensures.memory (λ e memory. inl (inl memory));
           };
       numbered = ok-then r c.finished.ensures.value (λ b value. value.1 ∙ parent_instance);
+      short = ok-then r c.finished.ensures.value (λ b value. subst (IsShort form) (sym value.0) c.in-Ok.ensures.short);
       child = ok-then r c.finished.ensures.value (λ b value. two (λ (p : anys.Begun g.row.D.Denot) (m : anys.Made g.row.D.Denot). anys.IsChild p.parent p.keep m) self_any (sym value.0) c.in-Ok.ensures.child);
       unmade = err-then r c.finished.ensures.memory (λ e memory. unsealed members (can_make c.args.db.now c.args.self) c.args.db.now.any.log c.finished.new.db.log e can memory);
       whole = λ list chain above stands begun on. err-then r c.finished.ensures.memory (λ e memory n pruned. absurd (cc (memory, pruned)));
@@ -127,6 +128,7 @@ returns g c =
           self_any db_any (c.in-Err.ensures.makes list chain above old from on).refused in
           record { made = tt; taken = tt; next = tt; refused = refused };
       numbered = tt;
+      short = tt;
       child = tt;
       unmade = subst (λ t. IsUnmade members t c.args.db.now.any.log new.log e) can
           (two (λ (b : anys.Begun g.row.D.Denot) (d : anys.Database g.row.C.Denot g.row.D.Denot). IsUnmade members (anys.is_on d.commitment b) d.log new.log e) self_any db_any c.in-Err.ensures.unmade);

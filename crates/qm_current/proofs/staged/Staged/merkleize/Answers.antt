@@ -14,7 +14,7 @@ use Rattle.qm_any.specs.Layouts.{hashing_of, layout_of}
 use Rattle.qm_store.specs.Reads.{IsReadError}
 use Rattle.qm_any.specs.Reading.{AtList}
 use Rattle.qm_any.specs.Making.{IsMaking, IsUnmade, list_made, making_of}
-use Rattle.qm_any.specs.Tips.{IsRefused}
+use Rattle.qm_any.specs.Tips.{IsRefused, IsShort}
 use Rattle.qm_any.proofs.Reading.{left-database}
 use Rattle.qm_any.proofs.Telling.{three}
 use Rattle.qm_any.proofs.Unmade.{unsealed}
@@ -104,6 +104,7 @@ returns-in-Ok g c =
             next = on-ok r m.next;
             refused = err-then r c.finished.ensures.memory (λ e memory. inl (inl memory));
           };
+      short = ok-then r c.finished.ensures.value (λ b value. subst (IsShort form) (sym value.0) c.in-Ok.ensures.short);
       child = ok-then r c.finished.ensures.value (λ b value. (
         value.1 ∙ parent_instance,
         two (λ (p : anys.Staged g.row.D.Denot) (m : anys.Made g.row.D.Denot). anys.IsChild p.batch.parent p.batch.keep m) self_any (sym value.0) c.in-Ok.ensures.child,
@@ -140,6 +141,7 @@ returns g c =
           IsRefused form chain.base (list_made form (making_of g.P.Policy.rules c.args.policy.now (writes b) meta) chain.base) e ⊎ IsReadError members d.log new.log e)
           self_any db_any (c.in-Err.ensures.makes list chain above old from on).refused in
           record { made = tt; taken = tt; next = tt; refused = refused };
+      short = tt;
       child = tt;
       unmade = subst (λ t. IsUnmade members t c.args.db.now.any.log new.log e) can
           (two (λ (b : anys.Staged g.row.D.Denot) (d : anys.Database g.row.C.Denot g.row.D.Denot). IsUnmade members (anys.is_on d.commitment b.batch) d.log new.log e) self_any db_any c.in-Err.ensures.unmade);
