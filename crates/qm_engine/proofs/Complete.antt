@@ -1,7 +1,7 @@
 -- That calls which nothing refuses and in which no fault is told answer, or want memory.
-use Rattle.std.specs.Prelude.{◌≡◌, ◌≢◌, ◌⊎◌, ◌<◌, ◌≤◌, ℕ, Bool, true, false, List, Option, Some, None, Result, Ok, Err, IfSome, IfErr, refl, inl, inr}
-use Rattle.std.proofs.Common.{sym, subst, ap, ◌∙◌, arith}
-use Rattle.qm_model.specs.Causes.{Rose, IsCause}
+use Rattle.std.specs.Prelude.{◌≡◌, ◌≢◌, ◌⊎◌, ◌≤◌, ℕ, true, List, Option, Some, None, Result, Ok, Err, IfSome, IfErr, refl}
+use Rattle.std.proofs.Common.{inl, inr, sym, subst, ap, arith}
+use Rattle.qm_model.specs.Causes.{Rose}
 use Rattle.qm_model.specs.Refused as refusals
 use Rattle.qm_base.specs.declared.error.Error.{Error}
 use Rattle.qm_base.specs.declared.error.Error.TheVariants as errors
@@ -131,8 +131,8 @@ module _ {X C B S M : Type 0} (members : store.Ghosts C) (means : meaning.Ghosts
       by (inr fresh) = wants r.error (members.faults (means.inside old)) (members.faults (store_given means.inside r.given)) (applies.refused fresh) applies.cause
 
   -- of a call that only read
-  read-wants : (old new : X) {A : Type 0} (e : Error) → ReadsOnly means members old new {A} (Err e) → refusal_of e ≡ None → ¬ Rose (members.faults (means.inside old)) (members.faults (means.inside new)) → e ≡ errors.Memory
-  read-wants old new e reads none = wants e (members.faults (means.inside old)) (members.faults (means.inside new)) none reads.faults.failed
+  read-wants : (old new : X) {A : Type 0} (e : Error) → ReadsOnly means members old new {A = A} (Err e) → refusal_of e ≡ None → ¬ Rose (members.faults (means.inside old)) (members.faults (means.inside new)) → e ≡ errors.Memory
+  read-wants old new e reads none = wants e (members.faults (means.inside old)) (members.faults (means.inside new)) none (λ fault. reads.faults.failed (ap Err fault))
 
   pub make-complete : (old new : X) (result : Result M Error) (n : ℕ) (list : List Operation) (chain : Chain) (tip : List Operation) (evicted : List (Bytes × Bytes)) → means.numbered old n → takes means.scheme.grafts n chain.instance ≡ true
       → IsOnChain list chain → tip_refusal means.scheme.form chain tip ≡ None → Makes means members old list chain tip evicted result → ReadsOnly means members old new result → IsComplete members (means.inside old) (means.inside new) result
@@ -141,12 +141,12 @@ module _ {X C B S M : Type 0} (members : store.Ghosts C) (means : meaning.Ghosts
     where
       by : (e ≡ errors.StaleBatch) ⊎ (e ≢ errors.StaleBatch) → e ≡ errors.Memory
       by (inl stale) = absurd (makes.stale stale n numbered taken on)
-      by (inr fresh) = read-wants old new {M} e reads (no_such e _ (makes.refused fresh) (λ r due. let told = due.2 on in absurd (cc (none, told)))) not
+      by (inr fresh) = read-wants old new {A = M} e reads (no_such e _ (makes.refused fresh) (λ r due. let told = due.2 on in absurd (cc (none, told)))) not
 
   pub read-complete : {A : Type 0} (old new : X) (result : Result A Error) (list : List Operation) → means.stands old list → IfErr result (λ e. (list : List Operation) → means.stands old list → refusal_of e ≡ None)
       → ReadsOnly means members old new result → IsComplete members (means.inside old) (means.inside new) result
   read-complete old new (Ok a) list stands none reads not = tt
-  read-complete {A} old new (Err e) list stands none reads not = read-wants old new {A} e reads (none list stands) not
+  read-complete {A} old new (Err e) list stands none reads not = read-wants old new {A = A} e reads (none list stands) not
 
   pub through-complete : {A : Type 0} (old new : X) (result : Result A Error) (list : List Operation) (chain : Chain) (tip : List Operation) → IsKnown list chain tip → IfErr result (IsReadFailure means list chain tip)
       → ReadsOnly means members old new result → IsComplete members (means.inside old) (means.inside new) result
@@ -155,13 +155,13 @@ module _ {X C B S M : Type 0} (members : store.Ghosts C) (means : meaning.Ghosts
     where
       by : (e ≡ errors.StaleRead) ⊎ (e ≢ errors.StaleRead) → e ≡ errors.Memory
       by (inl stale) = absurd (failure.stale stale known)
-      by (inr fresh) = read-wants old new {A} e reads (failure.refused fresh known) not
+      by (inr fresh) = read-wants old new {A = A} e reads (failure.refused fresh known) not
 
   pub prove-complete : {A : Type 0} (old new : X) (result : Result A Error) (size start : ℕ) (list : List Operation) → means.stands old list → proof_refusal (members.start (means.inside old)) list size start ≡ None
       → IfErr result (λ e. (list : List Operation) → means.stands old list → IsDue e (proof_refusal (members.start (means.inside old)) list size start)) → ReadsOnly means members old new result
       → IsComplete members (means.inside old) (means.inside new) result
   prove-complete old new (Ok a) size start list stands none due reads not = tt
-  prove-complete {A} old new (Err e) size start list stands none due reads not = read-wants old new {A} e reads (undue e _ none (due list stands)) not
+  prove-complete {A} old new (Err e) size start list stands none due reads not = read-wants old new {A = A} e reads (undue e _ none (due list stands)) not
 
 -- what calls no store, and refuses for no reason, wants memory
 unread-wants : (e : Error) → refusal_of e ≡ None → (e ≢ errors.StaleBatch) × (e ≢ errors.Journal journal.Store) → e ≡ errors.Memory
