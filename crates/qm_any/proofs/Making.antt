@@ -500,13 +500,13 @@ too_long-kept spelt size e (inr many) n pruned = absurd (cc (many.2, pruned))
 -- the first spelling that is too long is past the bound
 too_long-past : (spelt : List Bytes) (n : ℕ) → too_long spelt ≡ Some n → max_spelling < n
 too_long-past [] n none = absurd (cc none)
-too_long-past (first ∷ rest) n told = by (nat_lt max_spelling (length first)) refl
+too_long-past (first ∷ rest) n told = by (too_long-past rest n) (nat_lt max_spelling (length first)) refl
   where
-    by : (is_long : Bool) → nat_lt max_spelling (length first) ≡ is_long → max_spelling < n
-    by true long =
+    by : (too_long rest ≡ Some n → max_spelling < n) → (is_long : Bool) → nat_lt max_spelling (length first) ≡ is_long → max_spelling < n
+    by later true long =
         let same : length first ≡ n = cc (subst (λ b. (if b then Some (length first) else too_long rest) ≡ Some n) long told) in
         subst (λ k. max_spelling < k) same (less_tells max_spelling (length first) long)
-    by false short = too_long-past rest n (subst (λ b. (if b then Some (length first) else too_long rest) ≡ Some n) short told)
+    by later false short = later (subst (λ b. (if b then Some (length first) else too_long rest) ≡ Some n) short told)
 
 -- it is one of a size
 pub too_long-size : (spelt : List Bytes) (size : ℕ) (e : Error) → IsTooLong spelt size e → IsSizeError e
