@@ -413,6 +413,15 @@ long_replies = text.splitlines(keepends=True)
 for call, replies, start, count in ((1065, 1064, 0, 796), (1066, 1065, 0, 799), (1067, 1065, 0, 799), (1069, 1067, 768, 31), (1070, 1067, 768, 31), (1068, 1065, 0, 799)):
     put('current, pruned, store call %d fails' % call, ['fail store %d' % call], ''.join(long_replies[:replies]) + 'store fault\n', 6, start, count, begin='again')
 put('current, opened after store call 1068 failed', ['keep', 'words ' + CURRENT, '| open', '| info'], 'open 1 0 799\ninfo 0 799 797 768 live\n', 0, 0, 799)
+section('A prune of a current database that a crash follows: whole, or stopped at the metadata (call 1067) or at the log (call 1068). The list was committed before, so the root is the same.')
+CRASHED = LONG + 'root\nprune 768\nroot\ncrash 0\nopen\nroot\n'
+for words in (CURRENT, CURRENT_ORDERED):
+    text, _, _ = modelled('pruned and crashed, ' + words[4:], CRASHED, words=words)
+    pruned_replies = text.splitlines(keepends=True)
+    assert pruned_replies[1065] == pruned_replies[1067] == pruned_replies[1070] and pruned_replies[1069] == 'open 2 768 799\n'
+    for call in (1067, 1068):
+        put('%s, pruned, store call %d fails, before a crash' % (words[4:], call), ['words ' + words] + lines_of((LONG + 'root\nprune 768\n').encode()) + ['fail store %d' % call], ''.join(pruned_replies[:1066]) + 'store fault\n', 6, 0, 799)
+        put('%s, crashed after store call %d failed' % (words[4:], call), ['keep', 'words ' + words, '| crash 0', '| open', '| root', '| get 6b'], 'ok\nopen 1 0 799\n' + pruned_replies[1065] + 'read 0a\n', 0, 0, 799)
 section('A prune of an any database, its commit (call 1065) and the prune of its log (call 1066) failing: what is left is opened, as it is, and after a crash where the list was committed.')
 text, status, store = modelled('pruned', LONG + 'root\nprune 768\nroot\ncrash 0\nopen\nroot\n')
 long_replies = text.splitlines(keepends=True)
