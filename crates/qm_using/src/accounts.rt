@@ -1,9 +1,11 @@
 //! Accounts that outlive the program: a current database over any store, as one over the files of a folder.
 
-use crate::generic::kept;
-use qm_base::{ByteKey, ByteString, ByteValue, Digest, Error, Hasher, Sha256, Sha256Digest};
+use crate::expiry::Expiry;
+use qm_base::{ByteKey, ByteValue, Digest, Error, Hasher, Sha256, Sha256Digest};
 use qm_bits::Chunk32;
-use qm_databases::any::traits::DbAny;
+use qm_chain::Proportional;
+use qm_current::MerkleizedBatch;
+use qm_databases::any::unordered::variable::Update;
 use qm_databases::current::VariableConfig;
 use qm_databases::current::unordered::variable::{Db, init};
 use qm_index::FourCap;
@@ -11,18 +13,27 @@ use qm_keyproofs::OperationProof;
 use qm_keyproofs::unordered::verify_key_value_proof;
 use qm_merkle::{StandardHasher, mmr};
 use qm_operations::VariableEncoding;
-use qm_store::Store;
+use qm_store::{Refusal, Store};
 use std::alloc::{AllocError, Global};
 use std::num::NonZeroUsize;
+use std::rc::Rc;
 
 /// The database: over mountain ranges and SHA-256, with keys and values of any length, and chunks of 32 bytes under its root.
 pub type Accounts<C> = Db<mmr::Family, C, ByteKey, ByteValue, Sha256, FourCap, Chunk32>;
 
-/// What a block writes.
-pub type Pairs = Vec<(ByteKey, ByteValue)>;
+/// A batch whose list is made, and whose root is known.
+pub type Block = MerkleizedBatch<mmr::Family, Sha256Digest, Update<ByteKey, ByteValue>, Chunk32>;
 
 /// What a light client is given of a key.
 pub type Proof = OperationProof<mmr::Family, Chunk32, Sha256Digest>;
+
+/// What a call answers, or why it was refused. The database, or the store, that a refusal gives back is let go here.
+pub fn kept<T: Drop, X: Drop, C: Drop>(done: Result<T, Refusal<X, C>>) -> Result<T, Error> {
+    match done {
+        Ok(answer) => Ok(answer),
+        Err(refusal) => Err(refusal.error),
+    }
+}
 
 /// The key of a name. Others choose names, so they are hashed first.
 pub fn key_of(alloc: Global, name: &str) -> Result<ByteKey, AllocError> {
@@ -38,26 +49,6 @@ pub fn value_of(alloc: Global, until: u8, amount: u8) -> Result<ByteValue, Alloc
     Ok(ByteValue::new(vec![in alloc; until, amount]?))
 }
 
-/// What gives a name an amount: a pair of its key and the value.
-pub fn account(alloc: Global, name: &str, amount: u8) -> Result<Pairs, AllocError> {
-    let mut pairs = Vec::new(alloc);
-    pairs.push((key_of(alloc, name)?, value_of(alloc, 9, amount)?))?;
-    Ok(pairs)
-}
-
-/// The amount of a name, if it has one.
-pub fn amount_of<D: DbAny<mmr::Family, Key = ByteKey, Value = ByteValue>>(
-    alloc: Global,
-    db: &mut D,
-    name: &str,
-) -> Result<Option<u8>, Error> {
-    let key = key_of(alloc, name)?;
-    match db.get(alloc, &key)? {
-        Some(value) => Ok(value.as_bytes().get(1).copied()),
-        None => Ok(None),
-    }
-}
-
 /// Opens the accounts that a store keeps; an empty store becomes a fresh database. Give each database that you open a number of its own.
 pub fn open<C: Store + Drop>(alloc: Global, store: C, number: u64) -> Result<Accounts<C>, Error> {
     let config = VariableConfig {
@@ -68,6 +59,32 @@ pub fn open<C: Store + Drop>(alloc: Global, store: C, number: u64) -> Result<Acc
         instance: number,
     };
     kept(init(alloc, store, Sha256::new(), config, None))
+}
+
+/// The block that gives a name an amount, on the accounts as they are. They have not changed yet.
+pub fn block_of<C: Store + Drop>(
+    alloc: Global,
+    accounts: &mut Accounts<C>,
+    name: &str,
+    amount: u8,
+) -> Result<Rc<Block>, Error> {
+    let (key, value) = (key_of(alloc, name)?, value_of(alloc, 9, amount)?);
+    let batch = accounts.new_batch(alloc)?.write(key, Some(value))?;
+    batch.merkleize(alloc, accounts, None, &mut Proportional)
+}
+
+/// Two blocks on the same accounts, of which the first is applied: the other is stale then.
+pub fn fork<C: Store + Drop>(
+    alloc: Global,
+    accounts: Accounts<C>,
+    name: &str,
+) -> Result<(Accounts<C>, bool), Error> {
+    let mut accounts = accounts;
+    let first = block_of(alloc, &mut accounts, name, 1)?;
+    let other = block_of(alloc, &mut accounts, name, 2)?;
+    let accounts = kept(accounts.apply_batch(alloc, &first))?;
+    let is_stale = accounts.validate_batch(&other).is_err();
+    Ok((accounts, is_stale))
 }
 
 /// The proof of what a name has now.
@@ -97,4 +114,24 @@ pub fn is_shown(
         proof,
         root,
     ))
+}
+
+/// A block that drops the accounts whose last block is before this one, and how many it dropped.
+pub fn expire<C: Store + Drop>(
+    alloc: Global,
+    accounts: Accounts<C>,
+    block: u8,
+) -> Result<(Accounts<C>, usize), Error> {
+    let mut accounts = accounts;
+    let batch = accounts.new_batch(alloc)?;
+    let made = batch.merkleize(alloc, &mut accounts, None, &mut Expiry { block })?;
+    let accounts = kept(accounts.apply_batch(alloc, &made))?;
+    Ok((accounts, made.evicted().len()))
+}
+
+/// Takes away what no later block needs, and makes the rest last, with the count of chunks that went.
+pub fn settle<C: Store + Drop>(alloc: Global, accounts: Accounts<C>) -> Result<Accounts<C>, Error> {
+    let boundary = accounts.sync_boundary();
+    let accounts = kept(accounts.prune(alloc, boundary))?;
+    kept(accounts.sync(alloc))
 }

@@ -1,4 +1,4 @@
-//! What is done to databases, whatever they are: any and current, ordered and unordered, over any family, store and hasher.
+//! A caller that is generic over databases: of both kinds, any and current, ordered and unordered, over any family, store and hasher.
 
 ghost use Rattle.std.specs.Prelude.{◌≡◌, ◌≢◌, ◌++◌, ℕ, List, None, map, IfOk, IfErr};
 ghost use Rattle.qm_model.specs.Batches.{Chain, begun_on};
@@ -7,19 +7,11 @@ ghost use Rattle.qm_model.specs.Writes.{Write};
 ghost use Rattle.qm_databases.specs.Words.{put_of, tip_of};
 
 use qm_base::Error;
-use qm_chain::{Policy, Proportional};
+use qm_chain::Policy;
 use qm_databases::any::traits::{BatchableDb, DbAny, UnmerkleizedBatch};
 use qm_merkle::Family;
 use qm_store::{Given, Refusal};
 use std::alloc::{AllocError, Global};
-
-/// What a call answers, or why it was refused. The database, or the store, that a refusal gives back is let go here.
-pub fn kept<T: Drop, X: Drop, C: Drop>(done: Result<T, Refusal<X, C>>) -> Result<T, Error> {
-    match done {
-        Ok(answer) => Ok(answer),
-        Err(refusal) => Err(refusal.error),
-    }
-}
 
 // A batch with these pairs put after what it has.
 fn with_pairs<F: Family, D: DbAny<F>>(
@@ -38,8 +30,8 @@ fn with_pairs<F: Family, D: DbAny<F>>(
     Ok(batch)
 }
 
-/// The block of these pairs, on a database as it is. It has not changed yet.
-pub fn block_of<F: Family, D: DbAny<F>, P: Policy<F, D::Key, D::Value>>(
+// The list of a batch of these pairs on the database as it is, which stays what it is.
+fn block_of<F: Family, D: DbAny<F>, P: Policy<F, D::Key, D::Value>>(
     alloc: Global,
     db: &mut D,
     pairs: Vec<(D::Key, D::Value)>,
@@ -81,34 +73,4 @@ pub fn record<F: Family, D: DbAny<F>, P: Policy<F, D::Key, D::Value>>(
             error,
         }),
     }
-}
-
-/// Two blocks on the same database, of which the first is applied: the other is stale then, and refused.
-pub fn fork<F: Family, D: DbAny<F>>(
-    alloc: Global,
-    db: D,
-    first: Vec<(D::Key, D::Value)>,
-    other: Vec<(D::Key, D::Value)>,
-) -> Result<(D, bool), Error> {
-    let mut db = db;
-    let first = block_of::<F, D, Proportional>(alloc, &mut db, first, &mut Proportional)?;
-    let other = block_of::<F, D, Proportional>(alloc, &mut db, other, &mut Proportional)?;
-    let db = kept(db.apply_batch(alloc, &first))?;
-    match db.apply_batch(alloc, &other) {
-        Ok(db) => Ok((db, false)),
-        Err(
-            Refusal {
-                given: Given::Database(db),
-                error: Error::StaleBatch,
-            },
-        ) => Ok((db, true)),
-        Err(refusal) => Err(refusal.error),
-    }
-}
-
-/// Takes away what no later block needs, and makes the rest last, with the count of chunks that went.
-pub fn settle<F: Family, D: DbAny<F>>(alloc: Global, db: D) -> Result<D, Error> {
-    let boundary = db.sync_boundary();
-    let db = kept(db.prune(alloc, boundary))?;
-    kept(db.sync(alloc))
 }
