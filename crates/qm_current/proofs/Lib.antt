@@ -1,6 +1,7 @@
 pub mod Applying
 pub mod Checking
 pub mod Children
+pub mod Crashing
 pub mod Lasting
 pub mod LastingOffered
 pub mod Making
