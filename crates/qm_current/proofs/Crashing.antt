@@ -22,6 +22,7 @@ use Rattle.qm_model.specs.Walk.{Rules}
 use Rattle.qm_model.proofs.Chains.{Begins-length}
 use Rattle.qm_model.proofs.Crashes.{counted-metadata, ordered-counted, settled-in, settled-own, unordered-counted, with_chunks}
 use Rattle.qm_model.proofs.Metadata.{metadata-counted}
+use Rattle.qm_model.proofs.MmbFamily.{log_least}
 use Rattle.qm_model.proofs.Openings.{all_pass, ended-whole, not_when, ordered-keeps, unordered-keeps}
 use Rattle.qm_model.proofs.Speaking.{peaks_few}
 use Rattle.qm_model.specs.Refused.{CountNotValid, CountTooLarge, MissingPin, InvalidPin}
@@ -49,6 +50,10 @@ use Rattle.qm_current.proofs.Applying.{store-given}
 -- a family's trees have places
 pub places-of : (shape : Shape) (births : Births) → IsFamily shape births → HasPeaks shape → HasPlaces shape births
 places-of shape births family peaked = record { family = family; peaked = peaked; bare = peaks-none shape births family peaked }
+
+-- a chunk has a byte or more of bits
+pub enough-of : (size : ℕ) → 32 ≤ size → 3 ≤ grafting size
+enough-of size least = log_least (8 * size) 3 (omega (arith, least)) (omega (arith, least))
 
 -- readable metadata counts no more locations than a list may have
 counted-low : {P : Type 0} (e : Engine P) (c : Chunks) (log : Log) (entries : List Entry) → e.layout.chunks ≡ Some c → own.IsCounted e c log entries → log.chunks * 2 ^ c.height ≤ 2 ^ 62

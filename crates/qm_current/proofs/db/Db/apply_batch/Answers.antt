@@ -15,8 +15,7 @@ use Rattle.qm_any.specs.Applying.{Appends, IsUnapplied, KeepsRest, can_apply}
 use Rattle.qm_current.specs.Databases.{Database, Made, IsJoined}
 use Rattle.qm_current.specs.Applying.{any_answer, any_given}
 use Rattle.qm_current.proofs.Applying.{counted-beside, joined-appends, joined-back, joined-rest, joined-unapplied, list-among, on-ok, sized-among, store-given}
-use Rattle.qm_graft.proofs.Fitting.{grafting-some}
-use Rattle.qm_current.proofs.Crashing.{applied-safe, places-of}
+use Rattle.qm_current.proofs.Crashing.{applied-safe, enough-of, places-of}
 use Rattle.qm_current.proofs.db.Db.apply_batch.Goals as goal
 
 pub joined-requires-clause-among : goal.joined-requires-clause-among
@@ -99,7 +98,7 @@ returns-in-Ok g c =
       crashes = λ rules log chain more stands made kept.
           let places = places-of g.F.Family.shape g.F.Family.births g.met.F.Family.numbered g.met.F.Family.peaked in
           let long = ap (λ (k : Commitment). k.size) stands.any.commitment in
-          applied-safe layout g.H.Digest.Digest.SIZE c.args.self.name rules g.F.Family.births places (grafting-some g.N.Chunks.LEN g.met.N.Chunks.least) members c.args.self log more batch long kept r
+          applied-safe layout g.H.Digest.Digest.SIZE c.args.self.name rules g.F.Family.births places (enough-of g.N.Chunks.LEN g.met.N.Chunks.least) members c.args.self log more batch long kept r
           (appends chain (log.list ++ more) made);
     }
 
@@ -135,6 +134,6 @@ returns-in-Err g c =
       crashes = λ rules log chain more stands made kept.
           let places = places-of g.F.Family.shape g.F.Family.births g.met.F.Family.numbered g.met.F.Family.peaked in
           let long = ap (λ (k : Commitment). k.size) stands.any.commitment in
-          applied-safe (layout_of g.N.Chunks.LEN g.H.Digest.Digest.bytes g.H.Hasher g.F.Family g.U.Update g.I.Unordered) g.H.Digest.Digest.SIZE c.args.self.name rules g.F.Family.births places (grafting-some g.N.Chunks.LEN g.met.N.Chunks.least) members c.args.self log more batch long kept (Err (record { given = c.given_back.result; error = error }))
+          applied-safe (layout_of g.N.Chunks.LEN g.H.Digest.Digest.bytes g.H.Hasher g.F.Family g.U.Update g.I.Unordered) g.H.Digest.Digest.SIZE c.args.self.name rules g.F.Family.births places (enough-of g.N.Chunks.LEN g.met.N.Chunks.least) members c.args.self log more batch long kept (Err (record { given = c.given_back.result; error = error }))
           (appends chain (log.list ++ more) made);
     }

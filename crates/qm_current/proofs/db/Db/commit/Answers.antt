@@ -4,9 +4,8 @@ use Rattle.qm_model.proofs.Results.{ok-then}
 use Rattle.qm_any.specs.Lasting.{HasLeftStable}
 use Rattle.qm_any.specs.Layouts.{hashing_of, layout_of}
 use Rattle.qm_current.proofs.Lasting.{lasted-counted, lasted-joined, of, over-lasted, over-refused, over-stands}
-use Rattle.qm_graft.proofs.Fitting.{grafting-some}
 use Rattle.qm_current.specs.Applying.{store_in}
-use Rattle.qm_current.proofs.Crashing.{e, laws, places-of, settled-safe}
+use Rattle.qm_current.proofs.Crashing.{e, enough-of, laws, places-of, settled-safe}
 use Rattle.qm_current.proofs.db.Db.commit.Goals as goal
 
 pub over-requires : goal.over-requires
@@ -31,6 +30,6 @@ returns g c =
       crashes = λ rules log.
           let places = places-of g.F.Family.shape g.F.Family.births g.met.F.Family.numbered g.met.F.Family.peaked in
           let name = c.args.self.name in
-          settled-safe members store_in (e layout g.H.Digest.Digest.SIZE name rules g.F.Family.births places (grafting-some g.N.Chunks.LEN g.met.N.Chunks.least)) (laws layout g.H.Digest.Digest.SIZE name rules g.F.Family.births places (grafting-some g.N.Chunks.LEN g.met.N.Chunks.least)) log c.args.self.any.log.store c.over.result
+          settled-safe members store_in (e layout g.H.Digest.Digest.SIZE name rules g.F.Family.births places (enough-of g.N.Chunks.LEN g.met.N.Chunks.least)) (laws layout g.H.Digest.Digest.SIZE name rules g.F.Family.births places (enough-of g.N.Chunks.LEN g.met.N.Chunks.least)) log c.args.self.any.log.store c.over.result
           (ok-then c.over.result last (λ db left. left.any.store.told)) given;
     }

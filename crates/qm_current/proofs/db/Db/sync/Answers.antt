@@ -5,8 +5,7 @@ use Rattle.qm_any.specs.Lasting.{HasLeftStable}
 use Rattle.qm_any.specs.Layouts.{layout_of}
 use Rattle.qm_current.specs.Lasting.{HasLeftUncounted}
 use Rattle.qm_current.proofs.Lasting.{cause-behind, counted-behind, left-more, pruned-same, uncounted-behind}
-use Rattle.qm_graft.proofs.Fitting.{grafting-some}
-use Rattle.qm_current.proofs.Crashing.{places-of, synced-safe}
+use Rattle.qm_current.proofs.Crashing.{enough-of, places-of, synced-safe}
 use Rattle.qm_current.proofs.db.Db.sync.Goals as goal
 
 pub returns-in-Ok : goal.returns-in-Ok
@@ -26,7 +25,7 @@ returns-in-Ok g c =
       synced = synced;
       refused = refused;
       crashes = λ rules log is counted.
-          synced-safe layout g.H.Digest.Digest.SIZE self.name rules g.F.Family.births (places-of g.F.Family.shape g.F.Family.births g.met.F.Family.numbered g.met.F.Family.peaked) (grafting-some g.N.Chunks.LEN g.met.N.Chunks.least) members self refl log is counted g.met.H.Hasher.sized
+          synced-safe layout g.H.Digest.Digest.SIZE self.name rules g.F.Family.births (places-of g.F.Family.shape g.F.Family.births g.met.F.Family.numbered g.met.F.Family.peaked) (enough-of g.N.Chunks.LEN g.met.N.Chunks.least) members self refl log is counted g.met.H.Hasher.sized
           c.count_pruned.result synced refused;
     }
 
@@ -42,6 +41,6 @@ returns-in-Err g c =
       synced = tt;
       refused = refused;
       crashes = λ rules log is counted.
-          synced-safe layout g.H.Digest.Digest.SIZE self.name rules g.F.Family.births (places-of g.F.Family.shape g.F.Family.births g.met.F.Family.numbered g.met.F.Family.peaked) (grafting-some g.N.Chunks.LEN g.met.N.Chunks.least) members self refl log is counted g.met.H.Hasher.sized
+          synced-safe layout g.H.Digest.Digest.SIZE self.name rules g.F.Family.births (places-of g.F.Family.shape g.F.Family.births g.met.F.Family.numbered g.met.F.Family.peaked) (enough-of g.N.Chunks.LEN g.met.N.Chunks.least) members self refl log is counted g.met.H.Hasher.sized
           (Err c.in-Err.refusal) tt refused;
     }
