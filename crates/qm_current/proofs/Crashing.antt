@@ -144,7 +144,7 @@ module _ {D : Type 0} (layout : Layout D) (size : ℕ) (name : Bytes) {P : Type 
           all = let stays = is.stays.0 in let most = Begins-length (settled_list log) log.list (settled-in log) in omega (arith, stays, most, ap length whole)
 
       module _ (s : Stored) (told : members.told old.any.log.store ≡ Some s) (is : IsOwn e log s) where
-        own_settled : IsOwn e settled_log (settled s)
+        pub own_settled : IsOwn e settled_log (settled s)
         own_settled = by form.ordered is
           where
             by : (b : Bool) → IsOwn (record { kind = if b then ordered else unordered; rules = rules; hash = layout.hashing.hash; layout = layout_of m }) log s
@@ -154,7 +154,7 @@ module _ {D : Type 0} (layout : Layout D) (size : ℕ) (name : Bytes) {P : Type 
             by false is = settled-own (unordered-keeps rules) layout.hashing.hash (with_chunks form layout.hashing.shape size (record { height = grafting layout.chunk; name = name }))
                 (counted-metadata (unordered-keeps rules) layout.hashing.hash form layout.hashing.shape size (record { height = grafting layout.chunk; name = name }) births trees enough) log s is
 
-        same : old.any.activity.pruned ≡ log.chunks
+        pub same : old.any.activity.pruned ≡ log.chunks
         same = sym (subst (λ o. IfSome o (λ s. count_in (metadata_in s.metadata old.name) ≡ old.any.activity.pruned)) told is_counted) ∙ ap (λ n. count_in (metadata_in s.metadata n)) named ∙ is.stored.metadata.count
 
         counts : (entries : List Entry) → AreEntries layout old.canonical old.any.activity.pruned entries → own.MetadataIs e e.layout.chunks settled_log (with_metadata name entries (settled s))

@@ -165,7 +165,14 @@ impl<
             (chunks_after N.LEN loc self) self new
             ⊎ HasLeftPruned C.Store ⟦<any::Db<F, C, I, H, U, N> as LaidOut>⟧.layout settled loc self
             new)) self.any.log.store r) }
+        ensures crashes { (rules : Rules Policy) (log : Log)
+            → IsDatabase C.Store ⟦<any::Db<F, C, I, H, U, N> as LaidOut>⟧.layout self log.list
+            → IsCounted C.Store self → IsSafe C.Store
+            (engine_of (scheme_of H.Digest.SIZE ⟦<any::Db<F, C, I, H, U, N> as LaidOut>⟧.layout
+            self.name) rules) log log self.any.log.store (store_after store_in result) }
     {
+        // its clauses say that the log starts where the store does, and that there are at most 2^62 operations
+        self.any.bounds();
         let boundary = self.sync_boundary().get();
         if loc.get() > boundary {
             let error = Error::PruneBeyondMinRequired(loc.get(), boundary);
