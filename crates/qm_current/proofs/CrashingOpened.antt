@@ -1,6 +1,7 @@
 -- What crashes leave of a current database's store that come inside an opening.
 use Rattle.std.proofs.Common.{◌≡◌, ◌⊎◌, inl, inr, ◌++◌, ◌-◌, ◌<◌, ◌≤◌, ◌*◌, ◌/◌, ◌^◌, ℕ, zero, suc, Bool, true, false, List, [], ◌∷◌, length, take, drop, map, min, Option, Some, None, IfSome, Result, Ok, Err, ap, ◌∙◌, sym, subst, refl, arith, append_assoc, Contains}
 use Rattle.std.specs.Prelude.{IsSome, if◌then◌else◌}
+use Rattle.std.proofs.lemmas.List.{take-append-le}
 use Rattle.std.proofs.lemmas.List.Elements.{Contains-append_cases}
 use Rattle.qm_model.specs.Batches.{Begins}
 use Rattle.qm_model.specs.Families.{Births, IsFamily, HasPeaks}
@@ -16,7 +17,7 @@ use Rattle.qm_model.specs.StoreModel.{Stored, rest_of, appended, lowered, rewoun
 use Rattle.qm_model.specs.Taken.{selected_size, taken}
 use Rattle.qm_model.specs.Walk.{Rules}
 use Rattle.qm_model.proofs.Chains.{Begins-length}
-use Rattle.qm_model.proofs.Crashes.{appended-own, counted-metadata, crash-laws, settled-in}
+use Rattle.qm_model.proofs.Crashes.{MetadataStays, appended-own, counted-metadata, crash-laws, settled-in}
 use Rattle.qm_model.proofs.Openings.{start-stable, start-within}
 use Rattle.qm_model.proofs.Stores.{found-image, reads-image}
 use Rattle.qm_graft.specs.Grafting.{grafting}
@@ -84,8 +85,7 @@ module _ {D : Type 0} (layout : Layout D) (size : ℕ) (name : Bytes) {P : Type 
   abbrev e : Engine P
   e = engine_of m rules
 
-  stays : (low log other : Log) (s t : Stored) → own.IsKept e low → low.chunks ≡ log.chunks → other.chunks ≡ log.chunks → Begins (settled_list low) log.list → Begins (settled_list low) other.list → t.metadata ≡ s.metadata
-      → own.MetadataIs e e.layout.chunks log s → own.MetadataIs e e.layout.chunks other t
+  stays : MetadataStays e
   stays = counted-metadata (keeps m rules bounds) m.hash m.form m.shape size (record { height = grafting layout.chunk; name = name }) bounds.over.births bounds.over.trees bounds.over.enough
 
   laws : CrashLaws e
@@ -111,9 +111,7 @@ module _ {D : Type 0} (layout : Layout D) (size : ℕ) (name : Bytes) {P : Type 
 
       -- nothing of it is settled, with the fresh list or without it
       same : settled_list longer ≡ settled_list log
-      same =
-          let few : log.stable ≡ 0 = let within = is.kept.stable in omega (arith, within, ap length none) in
-          ap (λ n. own.ended_part (take n (log.list ++ fresh))) few ∙ sym (ap (λ n. own.ended_part (take n log.list)) few)
+      same = ap own.ended_part (take-append-le log.stable log.list fresh is.kept.stable)
 
       longer-kept : own.IsKept e longer
       longer-kept = record {

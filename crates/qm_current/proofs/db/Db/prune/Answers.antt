@@ -1,4 +1,4 @@
-use Rattle.std.proofs.Common.{◌⊎◌, ◌∙◌, ◌≤◌, Err, arith, ap, ap₂, inl, inr, refl, subst, sym}
+use Rattle.std.proofs.Common.{◌≡◌, ◌⊎◌, ◌∙◌, ◌≤◌, ◌^◌, Err, arith, ap, ap₂, inl, inr, refl, subst, sym}
 use Rattle.qm_graft.proofs.Fitting.{grafting-span}
 use Rattle.qm_model.proofs.Results.{err-then, ok-then}
 use Rattle.qm_model.specs.StoreModel.{settled}
@@ -6,6 +6,7 @@ use Rattle.qm_any.specs.Databases as anys
 use Rattle.qm_any.specs.Lasting.{HasLeftStable, IsGivenUp}
 use Rattle.qm_any.specs.Layouts.{layout_of}
 use Rattle.qm_any.proofs.Lasting.{all-stable}
+use Rattle.qm_current.specs.Databases.{Database}
 use Rattle.qm_current.specs.Lasting.{boundary_from, boundary_of, chunks_after, HasLeftPruned, HasLeftUncounted, HasPruned}
 use Rattle.qm_current.proofs.Applying.{on-ok}
 use Rattle.qm_current.proofs.Crashing.{enough-of, places-of}
@@ -52,7 +53,8 @@ returns-in-Ok g c =
       refused = err-then c.cut.result refused (λ r given within. given);
       crashes = λ rules log is counted.
           pruned-safe layout g.H.Digest.Digest.SIZE self.name rules g.F.Family.births (places-of g.F.Family.shape g.F.Family.births g.met.F.Family.numbered g.met.F.Family.peaked) (enough-of size g.met.N.Chunks.least) members self refl log is counted g.met.H.Hasher.sized
-          c.bounds.ensures.first c.bounds.ensures.few (g.met.C.Store.told_start self.any.log.store) (let power = g.met.N.Chunks.power in grafting-span size power.0 power.1) c.args.loc
+          (subst (λ (d : Database g.row.C.Denot g.row.H-Digest.Denot). members.start d.any.log.store ≡ d.any.log.tree.start) c.self.view_is c.bounds.ensures.first)
+          (subst (λ (d : Database g.row.C.Denot g.row.H-Digest.Denot). d.any.commitment.size ≤ 2 ^ 62) c.self.view_is c.bounds.ensures.few) (g.met.C.Store.told_start self.any.log.store) (let power = g.met.N.Chunks.power in grafting-span size power.0 power.1) c.args.loc
           (omega (arith, low, c.sync_boundary.ensures.exact, c.sync_boundary.ensures.list log.list is)) c.cut.result pruned refused;
     }
 
@@ -77,7 +79,8 @@ returns-in-Err g c =
       refused = λ within. refused;
       crashes = λ rules log is counted.
           pruned-safe layout g.H.Digest.Digest.SIZE self.name rules g.F.Family.births (places-of g.F.Family.shape g.F.Family.births g.met.F.Family.numbered g.met.F.Family.peaked) (enough-of size g.met.N.Chunks.least) members self refl log is counted g.met.H.Hasher.sized
-          c.bounds.ensures.first c.bounds.ensures.few (g.met.C.Store.told_start self.any.log.store) (let power = g.met.N.Chunks.power in grafting-span size power.0 power.1) to
+          (subst (λ (d : Database g.row.C.Denot g.row.H-Digest.Denot). members.start d.any.log.store ≡ d.any.log.tree.start) c.self.view_is c.bounds.ensures.first)
+          (subst (λ (d : Database g.row.C.Denot g.row.H-Digest.Denot). d.any.commitment.size ≤ 2 ^ 62) c.self.view_is c.bounds.ensures.few) (g.met.C.Store.told_start self.any.log.store) (let power = g.met.N.Chunks.power in grafting-span size power.0 power.1) to
           (omega (arith, low, c.sync_boundary.ensures.exact, c.sync_boundary.ensures.list log.list is)) (Err c.in-Err.refusal) tt refused;
     }
 
