@@ -27,7 +27,7 @@ use Rattle.qm_any.proofs.Lasting.{turns-behind}
 use Rattle.qm_any.proofs.Unapplied.{memory-cause}
 use Rattle.qm_current.specs.Applying.{store_in}
 use Rattle.qm_current.specs.Databases.{Database, IsCounted, IsDatabase, IsJoined}
-use Rattle.qm_current.specs.Lasting.{given_up, over_any, AreEntries, HasCounted, HasLasted, HasLeftUncounted}
+use Rattle.qm_current.specs.Lasting.{given_up, over_any, AreEntries, FailsPut, HasCounted, HasLasted, HasLeftUncounted}
 
 -- a count that was written is read
 pub count-written : (count : ℕ) (back : List Entry) → count < 2 ^ 64 → count_in (record { key = metadata_key 1 0; value = eight_bytes count } ∷ back) ≡ count
@@ -132,7 +132,7 @@ module _ {C D : Type 0} (members : store.Ghosts C) where
       within = left.within;
       entries = entries;
       counts = counts;
-      told = leaves-now (members.told self.any.log.store) (members.told new) (λ s. ReadsAs s.stable (IsOldOrNew (with_metadata self.name entries) s)) (λ s. ReadsAs s.stable (IsOldOrNew (with_metadata self.name entries) s)) left.told;
+      told = left.told;
     })
 
     -- and if memory lacked before
@@ -235,8 +235,8 @@ module _ {C D : Type 0} (members : store.Ghosts C) where
       within = omega (arith, left.within, last.any.store.«end»);
       entries = left.entries;
       counts = entries-behind f count now left.entries old middle last same left.counts;
-      told = subst (λ n. Turns (members.told (store_in old)) (members.told new) (λ s. ReadsAs (f s).stable (IsOldOrNew (with_metadata n left.entries) (f s)))) (name-same f old middle last)
-          (turns-behind (members.told (store_in old)) (members.told (store_in middle)) (members.told new) f (λ s. ReadsAs s.stable (IsOldOrNew (with_metadata middle.name left.entries) s)) last.any.store.told left.told);
+      told = subst (λ n. Turns (members.told (store_in old)) (members.told new) (λ s. FailsPut n left.entries (f s))) (name-same f old middle last)
+          (turns-behind (members.told (store_in old)) (members.told (store_in middle)) (members.told new) f (FailsPut middle.name left.entries) last.any.store.told left.told);
     })
 
     -- a refusal after a call

@@ -16,7 +16,7 @@ use Rattle.qm_any.proofs.Lasting.{reads-itself}
 use Rattle.qm_current.specs.Applying.{store_in}
 use Rattle.qm_current.specs.Databases.{Database, IsCounted, IsDatabase}
 use Rattle.qm_current.specs.Lasting as lasts
-use Rattle.qm_current.specs.Lasting.{AreEntries, HasLeftPruned, HasLeftUncounted}
+use Rattle.qm_current.specs.Lasting.{AreEntries, FailsPut, HasLeftPruned, HasLeftUncounted}
 use Rattle.qm_current.specs.Offered.{IsOffered, offered_name, scheme_of}
 
 -- what is so of what a store tells turns with it
@@ -96,7 +96,8 @@ module _ {D : Type 0} (size : ℕ) (layout : Layout D) where
     uncounted-beside count (inl made) = settled-beside (members.told (store_in old)) (members.told new) made.told
     uncounted-beside count (inr left) =
         old-new-beside (members.told (store_in old)) (members.told new) left.entries
-        (subst (λ n. Turns (members.told (store_in old)) (members.told new) (λ s. ReadsAs (end_of s) (IsOldOrNew (with_metadata n left.entries) (settled s)))) named left.told)
+        (subst (λ n. Turns (members.told (store_in old)) (members.told new) (λ s. ReadsAs (end_of s) (IsOldOrNew (with_metadata n left.entries) (settled s)))) named
+        (turned-each (members.told (store_in old)) (members.told new) (λ s. FailsPut old.name left.entries (settled s)) (λ s. ReadsAs (end_of s) (IsOldOrNew (with_metadata old.name left.entries) (settled s))) (λ s t failed. failed.now) left.told))
 
     pub unpruned-beside : (to : ℕ) → HasLeftPruned members layout settled to old new → Turns (members.told (store_in old)) (members.told new) (StaysBeside m)
     unpruned-beside to left =
@@ -131,9 +132,9 @@ module _ {D : Type 0} (size : ℕ) (layout : Layout D) where
         turned-each (members.told (store_in old)) (members.told new) (λ s t. t ≡ settled s) (λ s. ReadsAs (end_of s) (IsOldOrNew (with_count m list (more (counted_in m s))) (settled s)))
         (λ s t e. subst (λ x. ReadsAs (end_of s) (IsOldOrNew (with_count m list (more (counted_in m s))) (settled s)) x) (sym e) (reads-itself (with_count m list (more (counted_in m s))) (settled s) refl)) made.told
     uncounted-told more new (inr left) =
-        turned-with (members.told (store_in old)) (members.told new) (λ s. counted_in m s ≡ old.any.activity.pruned) (λ s. ReadsAs (end_of s) (IsOldOrNew (with_metadata old.name left.entries) (settled s)))
+        turned-with (members.told (store_in old)) (members.told new) (λ s. counted_in m s ≡ old.any.activity.pruned) (λ s. FailsPut old.name left.entries (settled s))
         (λ s. ReadsAs (end_of s) (IsOldOrNew (with_count m list (more (counted_in m s))) (settled s))) counts
-        (λ s t counted r. record { image = r.image; left = either s r.image counted r.left; reads = r.reads; least_stable = r.least_stable; within = r.within }) left.told
+        (λ s t counted failed. let r = failed.now in record { image = r.image; left = either s r.image counted r.left; reads = r.reads; least_stable = r.least_stable; within = r.within }) left.told
       where
         either : (s image : Stored) → counted_in m s ≡ old.any.activity.pruned → IsOldOrNew (with_metadata old.name left.entries) (settled s) image → IsOldOrNew (with_count m list (more (counted_in m s))) (settled s) image
         either s image counted (inl i) = inl i

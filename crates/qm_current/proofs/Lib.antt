@@ -1,6 +1,9 @@
 pub mod Applying
 pub mod Checking
 pub mod Children
+pub mod Crashing
+pub mod CrashingOpened
+pub mod CrashingPruned
 pub mod Lasting
 pub mod LastingOffered
 pub mod Making

@@ -15,11 +15,11 @@ use Rattle.qm_model.specs.Opening as model
 use Rattle.qm_model.specs.Operations.{Bytes, Operation, update, delete, commit, fresh}
 use Rattle.qm_model.specs.Refused.{Corrupt, DataCorrupted, HistoricalFloorPruned, InvalidInitializationBound, PrunedPastBits}
 use Rattle.qm_model.specs.Schemes.{Scheme, layout_of}
-use Rattle.qm_model.specs.StoreModel.{Entry, Stored, Turns, appended, end_of, left_at, metadata_in, rewound, settled, IsImage, ReadsAs}
+use Rattle.qm_model.specs.StoreModel.{Entry, Stored, Turns, appended, end_of, left_at, metadata_in, rest_of, rewound, settled, IsImage, ReadsAs}
 use Rattle.qm_model.specs.Taken.{IsTaken, selected_size, taken, LeavesOpening}
 use Rattle.qm_model.specs.Trees.{Shape, peaks}
 use Rattle.qm_model.proofs.Results.{err-then}
-use Rattle.qm_model.proofs.Stores.{cut-whole, end-appended, image-whole}
+use Rattle.qm_model.proofs.Stores.{cut-whole, end-appended, found-image, image-whole}
 use Rattle.qm_base.specs.declared.error.Error.{Error}
 use Rattle.qm_base.specs.declared.error.Error.TheVariants as errors
 use Rattle.qm_base.specs.declared.error.JournalError.TheVariants as journal
@@ -35,6 +35,7 @@ use Rattle.qm_store.specs.Log.{IsKept}
 use Rattle.qm_store.specs.Refusals.{IsDue}
 use Rattle.qm_pinned.specs.Metadata.{TellsWhy}
 use Rattle.qm_pinned.proofs.Finding.{same-pins}
+use Rattle.qm_offer.specs.Crashing.{FailsOpening, FailsSettling}
 use Rattle.qm_open.specs.Selecting as selecting
 use Rattle.qm_open.proofs.Checking.{each-known, known-at}
 use Rattle.qm_any.specs.Applying as anys_applying
@@ -43,7 +44,7 @@ use Rattle.qm_any.specs.Layouts.{Layout}
 use Rattle.qm_any.specs.Offered as anys_offered
 use Rattle.qm_any.specs.Opening.{OpensUpTo, pruned_view}
 use Rattle.qm_any.proofs.Restoring.{refused-none}
-use Rattle.qm_any.proofs.Taking.{leaves-whole, reads-rewound, turns-kept, turns-weaker, unchanged-behind}
+use Rattle.qm_any.proofs.Taking.{fails-whole, leaves-whole, reads-rewound, turns-kept, turns-weaker, unchanged-behind}
 use Rattle.qm_roots.specs.Canonical.{IsCanonical}
 use Rattle.qm_current.specs.Applying.{store_in}
 use Rattle.qm_current.specs.Databases.{Database}
@@ -192,6 +193,31 @@ leaves-taken m zero s within =
 leaves-taken m (suc n) s within =
     reads-rewound (suc n) s (settled (rewound (suc n) s)) (reads-settled (rewound (suc n) s) (omega (arith, within, length-take (suc n - s.start) s.items)))
 
+-- what a commit leaves that came off, it may leave if it failed
+fails-settled : (s : Stored) → s.stable ≤ end_of s → FailsSettling s (settled s)
+fails-settled s within = record {
+  now = reads-settled s within;
+  notes = rest_of s ∷ [];
+  past = refl;
+  each = λ image may.
+      let i = found-image s image may in
+      let high = i.may.within in
+      let low = i.may.stable in
+      let stable = ap (λ (x : Stored). x.stable) i.same in
+      record {
+        image = record image { ends = s.ends };
+        left = i;
+        reads = refl;
+        least_stable = omega (arith, low, stable);
+        within = omega (arith, stable, high, ap (λ (x : Stored). x.start) i.same, ap (λ (x : Stored). length x.items) i.same, length-take (i.to - s.start) s.items);
+      };
+}
+
+-- and so does an opening, whatever comes of it after the commit
+pub fails-taken : (m : Scheme) (n : ℕ) (s : Stored) → s.stable ≤ end_of s → FailsOpening m n s (taken m n s)
+fails-taken m zero s within = inr (fails-settled (appended (map (spelling m.form) fresh) s) (let more = end-appended (map (spelling m.form) fresh) s in omega (arith, within, more)))
+fails-taken m (suc n) s within = inr (fails-settled (rewound (suc n) s) (omega (arith, within, length-take (suc n - s.start) s.items)))
+
 module _ {D : Type 0} (layout : Layout D) (digest_size : ℕ) (name : Bytes) where
   abbrev current : Scheme
   current = scheme_of digest_size layout name
@@ -215,6 +241,10 @@ module _ {D : Type 0} (layout : Layout D) (digest_size : ℕ) (name : Bytes) whe
   pub leaves-same : (n : ℕ) (s new : Stored) → LeavesOpening plain n s new → LeavesOpening current n s new
   leaves-same zero s new left = left
   leaves-same (suc n) s new left = left
+
+  pub fails-same : (n : ℕ) (s new : Stored) → FailsOpening plain n s new → FailsOpening current n s new
+  fails-same zero s new failed = failed
+  fails-same (suc n) s new failed = failed
 
   pub list-same : (n : ℕ) (s : Stored) (list : List Operation) → IsTaken current s n list → IsTaken plain s n list
   list-same zero s list is = is
@@ -280,6 +310,7 @@ module _ {C D : Type 0} (members : store.Ghosts C) (layout : Layout D) (digest_s
     refused = due;
     unopened = each-known (members.told old) (λ s told some. record { start = kept.start; told = kept.told });
     left = turns-kept (members.told old) (members.told new) (λ s t. LeavesOpening ours (selected_size ours bound s) s t) kept.told (λ s told. leaves-whole ours (selected_size ours bound s) s (known-at (λ s. s.stable ≤ end_of s) (members.told old) s told stable));
+    failed = turns-kept (members.told old) (members.told new) (λ s. FailsOpening ours (selected_size ours bound s) s) kept.told (λ s told. fails-whole ours (selected_size ours bound s) s (known-at (λ s. s.stable ≤ end_of s) (members.told old) s told stable));
     start = kept.start;
     cause = cause.failed;
     later = cause.later;
@@ -298,6 +329,7 @@ module _ {C D : Type 0} (members : store.Ghosts C) (layout : Layout D) (digest_s
     refused = each-known (members.told first) (λ s told. known-at _ (members.told middle) s (kept.told ∙ told) is.refused);
     unopened = err-then r is.unopened (λ e unopened. each-known (members.told first) (λ s told some. unchanged-behind members first middle (store_given store_in e.given) kept (known-at _ (members.told middle) s (kept.told ∙ told) unopened some)));
     left = subst (λ o. IfErr r (λ e. Turns o (members.told (store_given store_in e.given)) (λ s new. LeavesOpening ours (selected_size ours bound s) s new))) kept.told is.left;
+    failed = subst (λ o. IfErr r (λ e. Turns o (members.told (store_given store_in e.given)) (λ s. FailsOpening ours (selected_size ours bound s) s))) kept.told is.failed;
     start = is.start ∙ kept.start;
     cause = err-then r is.cause (λ e rose fault. rose-later (members.faults first) (members.faults middle) (members.faults (store_given store_in e.given)) later (rose fault));
     later = le_trans later is.later;
@@ -331,6 +363,9 @@ module _ {C D : Type 0} (members : store.Ghosts C) (layout : Layout D) (digest_s
           left = subst (λ x. Turns (members.told old) (members.told x) (λ s new. LeavesOpening ours (selected_size ours bound s) s new)) (sym same)
               (turns-weaker (members.told old) (members.told (store_given anys_applying.store_in r.given)) (λ s t. LeavesOpening theirs (selected_size theirs bound s) s t) (λ s t. LeavesOpening ours (selected_size ours bound s) s t)
               (λ s t told left. subst (λ n. LeavesOpening ours n s t) (sym (size-same layout digest_size name bound s)) (leaves-same layout digest_size name (selected_size theirs bound s) s t left)) is.left);
+          failed = subst (λ x. Turns (members.told old) (members.told x) (λ s. FailsOpening ours (selected_size ours bound s) s)) (sym same)
+              (turns-weaker (members.told old) (members.told (store_given anys_applying.store_in r.given)) (λ s. FailsOpening theirs (selected_size theirs bound s) s) (λ s. FailsOpening ours (selected_size ours bound s) s)
+              (λ s t told failed. subst (λ n. FailsOpening ours n s t) (sym (size-same layout digest_size name bound s)) (fails-same layout digest_size name (selected_size theirs bound s) s t failed)) is.failed);
           start = ap members.start back_is ∙ back.2;
           cause = λ fault. subst (λ x. Rose (members.faults old) (members.faults x)) (sym back_is) (back.4.failed fault);
           later = subst (λ x. members.faults old ≤ members.faults x) (sym back_is) back.4.later;
@@ -392,6 +427,7 @@ module _ {C D : Type 0} (members : store.Ghosts C) (layout : Layout D) (digest_s
         refused = each-known (members.told old) (λ s told. tt);
         unopened = tt;
         left = tt;
+        failed = tt;
         start = ap (λ (d : anys.Database C D). members.start d.log.store) by.0 ∙ is.start;
         cause = tt;
         later = subst (λ (d : anys.Database C D). members.faults old ≤ members.faults d.log.store) (sym by.0) is.later;
@@ -409,6 +445,9 @@ module _ {C D : Type 0} (members : store.Ghosts C) (layout : Layout D) (digest_s
         left = subst (λ g. Turns (members.told old) (members.told (store_given store_in g)) (λ s new. LeavesOpening ours (selected_size ours bound s) s new)) (sym gone.0)
             (turns-weaker (members.told old) (members.told any.log.store) (λ s t. t ≡ taken theirs (selected_size theirs bound s) s) (λ s t. LeavesOpening ours (selected_size ours bound s) s t)
             (λ s t told is. subst (LeavesOpening ours (selected_size ours bound s) s) (sym (made s t is)) (leaves-taken ours (selected_size ours bound s) s (known-at (λ s. s.stable ≤ end_of s) (members.told old) s told stable))) is.became);
+        failed = subst (λ g. Turns (members.told old) (members.told (store_given store_in g)) (λ s. FailsOpening ours (selected_size ours bound s) s)) (sym gone.0)
+            (turns-weaker (members.told old) (members.told any.log.store) (λ s t. t ≡ taken theirs (selected_size theirs bound s) s) (λ s. FailsOpening ours (selected_size ours bound s) s)
+            (λ s t told is. subst (FailsOpening ours (selected_size ours bound s) s) (sym (made s t is)) (fails-taken ours (selected_size ours bound s) s (known-at (λ s. s.stable ≤ end_of s) (members.told old) s told stable))) is.became);
         start = ap (λ g. members.start (store_given store_in g)) gone.0 ∙ is.start;
         cause = λ fault. no-fault fault gone.1;
         later = subst (λ g. members.faults old ≤ members.faults (store_given store_in g)) (sym gone.0) is.later;

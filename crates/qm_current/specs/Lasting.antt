@@ -4,7 +4,7 @@ use Rattle.qm_model.specs.Operations.{Bytes, Operation}
 use Rattle.qm_model.specs.Trees.{Shape}
 use Rattle.qm_model.specs.Grafted.{metadata, sync_boundary}
 use Rattle.qm_model.specs.Opening.{count_in, entries_of}
-use Rattle.qm_model.specs.StoreModel.{Entry, Stored, with_metadata, IsOldOrNew, ReadsAs, Turns}
+use Rattle.qm_model.specs.StoreModel.{Entry, Stored, with_metadata, Fails, IsOldOrNew, ReadsAs, Turns}
 use Rattle.qm_graft.specs.Grafting.{grafting}
 use Rattle.qm_store.specs.declared.Store as store
 use Rattle.qm_store.specs.declared.refusal.Given.TheVariants.{Store}
@@ -46,6 +46,10 @@ pub record AreEntries {D : Type 0} (layout : Layout D) (own : Canonical D) (coun
   pub pins : (list : List Operation) → IsCanonical layout.hashing.bytes layout.hashing.hash layout.hashing.shape layout.chunk layout.hashing.form own list
       → entries ≡ entries_of (metadata layout.hashing.hash layout.hashing.shape (grafting layout.chunk) layout.hashing.form list count)
 
+-- a call failed that puts metadata, and a crash inside it would have left the same
+abbrev pub FailsPut : Bytes → List Entry → Stored → Stored → Type 0
+FailsPut name entries = Fails (λ s. ReadsAs s.stable (IsOldOrNew (with_metadata name entries) s)) (λ s. ReadsAs s.stable (IsOldOrNew (with_metadata name entries) s))
+
 -- Stores that were made something first.
 module _ {C D : Type 0} (members : store.Ghosts C) (layout : Layout D) (f : Stored → Stored) where
   -- the database has what it had, but that its store was made this
@@ -69,13 +73,13 @@ module _ {C D : Type 0} (members : store.Ghosts C) (layout : Layout D) (f : Stor
     pub forgotten : new.canonical.tree.start ≡ chunks_after layout.chunk to old
     pub rest : new ≡ record old { any = new.any; canonical = record old.canonical { tree = new.canonical.tree } }
 
-  -- a call failed that puts metadata which counts so many chunks: it is there or not
+  -- a call failed that puts metadata which counts so many chunks: it is there or not, and a crash inside it would have left the same
   pub record HasLeftCounted (count : ℕ) (old : Database C D) (new : C) : Type 0 where
     pub start : members.start new ≡ members.start (store_in old)
     pub within : members.«end» new ≤ members.«end» (store_in old)
     pub entries : List Entry
     pub counts : AreEntries layout old.canonical count entries
-    pub told : Turns (members.told (store_in old)) (members.told new) (λ s. let t = f s in ReadsAs t.stable (IsOldOrNew (with_metadata old.name entries) t))
+    pub told : Turns (members.told (store_in old)) (members.told new) (λ s. FailsPut old.name entries (f s))
 
   -- or none was put
   abbrev pub HasLeftUncounted : ℕ → Database C D → C → Type 0

@@ -23,6 +23,7 @@ use Rattle.qm_store.specs.declared.refusal.Given.TheVariants as given
 use Rattle.qm_store.specs.declared.refusal.Refusal.{Refusal}
 use Rattle.qm_store.specs.Given.{store_given, store_after, IsUnchanged}
 use Rattle.qm_store.specs.Refusals.{IsDue}
+use Rattle.qm_offer.specs.Crashing.{FailsOpening}
 use Rattle.qm_open.specs.Unopened as any
 use Rattle.qm_open.specs.Unopened.{IsFailure}
 use Rattle.qm_any.specs.Layouts.{Layout}
@@ -86,6 +87,7 @@ module _ {C D : Type 0} (members : store.Ghosts C) (layout : Layout D) (digest_s
     pub refused : IfSome (members.told old) (λ s. IfErr result (λ r. IsDue r.error (refusal_up_to (layout_of (scheme_of digest_size layout name)) bound s)))
     pub unopened : IfErr result (λ r. IfSome (members.told old) (λ s. IsSome (refusal_up_to (layout_of (scheme_of digest_size layout name)) bound s) → IsUnchanged members old (store_given store_in r.given)))
     pub left : IfErr result (λ r. Turns (members.told old) (members.told (store_given store_in r.given)) (λ s new. LeavesOpening (scheme_of digest_size layout name) (selected_size (scheme_of digest_size layout name) bound s) s new))
+    pub failed : IfErr result (λ r. Turns (members.told old) (members.told (store_given store_in r.given)) (λ s. FailsOpening (scheme_of digest_size layout name) (selected_size (scheme_of digest_size layout name) bound s) s))
     pub start : members.start (store_after store_in result) ≡ members.start old
     pub cause : IfErr result (λ r. r.error ≡ Journal journal.Store → Rose (members.faults old) (members.faults (store_given store_in r.given)))
     pub later : members.faults old ≤ members.faults (store_after store_in result)

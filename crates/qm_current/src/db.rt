@@ -1,10 +1,16 @@
 //! The database.
 
-ghost use Rattle.std.specs.Prelude.{◌≡◌, ◌<◌, ◌≤◌, ◌*◌, ◌/◌, ◌^◌, ◌∷◌, ℕ, suc, [], List, true, get_or, map, option_map, Contains, IfOk, IfErr, OnOk};
+ghost use Rattle.std.specs.Prelude.{◌≡◌, ◌++◌, ◌<◌, ◌≤◌, ◌*◌, ◌/◌, ◌^◌, ◌∷◌, ℕ, suc, [], List, true, get_or, map, option_map, Contains, IfOk, IfErr, OnOk};
 ghost use Rattle.qm_model.specs.Batches.{Chain, IsOnChain, begun_on};
 ghost use Rattle.qm_model.specs.Grafted as grafts;
 ghost use Rattle.qm_model.specs.Live as lives;
 ghost use Rattle.qm_model.specs.Operations.{Operation};
+ghost use Rattle.qm_model.specs.Own as own;
+ghost use Rattle.qm_model.specs.Own.{Log};
+ghost use Rattle.qm_model.specs.Policies.{Policy};
+ghost use Rattle.qm_model.specs.Schemes.{engine_of};
+ghost use Rattle.qm_model.specs.Walk.{Rules};
+ghost use Rattle.qm_offer.specs.Crashing.{IsSafe};
 ghost use Rattle.qm_any.specs.Databases as anys;
 ghost use Rattle.qm_any.specs.Applying.{Appends, IsUnapplied, KeepsRest, can_apply};
 ghost use Rattle.qm_any.specs.Reading.{AtList, Reads};
@@ -14,6 +20,7 @@ ghost use Rattle.qm_roots.specs.Canonical.{IsCanonical};
 ghost use Rattle.qm_roots.specs.Kept.{IsKept, sizes_of};
 ghost use Rattle.qm_current.specs.Databases.{Database, IsBegun, IsCounted, IsDatabase, IsJoined, IsMade};
 ghost use Rattle.qm_current.specs.Applying.{any_answer, any_given, store_in};
+ghost use Rattle.qm_current.specs.Offered.{scheme_of};
 
 use crate::batch::{MerkleizedBatch, UnmerkleizedBatch};
 use qm_any::db as any;
@@ -215,6 +222,15 @@ impl<
             (IsUnapplied C.Store self.any batch.now.any) }
         ensures back { IfErr result (λ r. (x : Database C H.Digest) → r.given ≡ Given.Database x
             → x ≡ self) }
+        ensures crashes { (rules : Rules Policy) (log : Log) (chain : Chain)
+            (more : List Operation) → let longer = record log { list = log.list ++ more } in
+            let e = engine_of (scheme_of H.Digest.SIZE ⟦<any::Db<F, C, I, H, U, N> as LaidOut>⟧.layout self.name)
+            rules in
+            IsDatabase C.Store ⟦<any::Db<F, C, I, H, U, N> as LaidOut>⟧.layout self log.list
+            → anys.IsMade ⟦<any::Db<F, C, I, H, U, N> as LaidOut>⟧.layout.hashing batch.now.any
+            chain longer.list
+            → own.IsKept e longer
+            → IsSafe C.Store e log longer self.any.log.store (store_after store_in result) }
     {
         // its clauses say that the log's tree starts where the store does
         self.any.bounds();

@@ -7,7 +7,14 @@ ghost use Rattle.qm_model.specs.Opening.{count_in, entries_of};
 ghost use Rattle.qm_model.specs.Operations.{Bytes, Operation};
 ghost use Rattle.qm_model.specs.StoreModel.{end_of, settled};
 ghost use Rattle.qm_graft.specs.Grafting.{grafting};
-ghost use Rattle.qm_store.specs.Given.{store_given};
+ghost use Rattle.qm_store.specs.Given.{store_after, store_given};
+ghost use Rattle.qm_model.specs.Own.{Log, no_log};
+ghost use Rattle.qm_model.specs.Policies.{Policy};
+ghost use Rattle.qm_model.specs.Schemes.{engine_of};
+ghost use Rattle.qm_model.specs.Walk.{Rules};
+ghost use Rattle.qm_offer.specs.Crashing.{IsSafe};
+ghost use Rattle.qm_current.specs.Applying.{store_in};
+ghost use Rattle.qm_current.specs.Offered.{scheme_of};
 ghost use Rattle.qm_roots.specs.Canonical.{IsCanonical, MayGo};
 ghost use Rattle.qm_any.specs.Applying as anys_applying;
 ghost use Rattle.qm_any.specs.Lasting.{IsDestroyed, IsGivenUp, HasLeftDestroyed, HasLeftStable};
@@ -46,6 +53,9 @@ impl<
             (HasLasted C.Store ⟦<any::Db<F, C, I, H, U, N> as LaidOut>⟧.layout settled self) }
         ensures refused { IfErr result
             (IsGivenUp C.Store (HasLeftStable C.Store) self.any.log.store) }
+        ensures crashes { (rules : Rules Policy) (log : Log) → IsSafe C.Store
+            (engine_of (scheme_of H.Digest.SIZE ⟦<any::Db<F, C, I, H, U, N> as LaidOut>⟧.layout self.name)
+            rules) log log self.any.log.store (store_after store_in result) }
     {
         let Db {
             any,
@@ -69,6 +79,12 @@ impl<
         ensures refused { IfErr result (IsGivenUp C.Store (λ old new. HasLeftStable C.Store old new
             ⊎ HasLeftUncounted C.Store ⟦<any::Db<F, C, I, H, U, N> as LaidOut>⟧.layout settled
             self.any.activity.pruned self new) self.any.log.store) }
+        ensures crashes { (rules : Rules Policy) (log : Log)
+            → IsDatabase C.Store ⟦<any::Db<F, C, I, H, U, N> as LaidOut>⟧.layout self log.list
+            → IsCounted C.Store self → IsSafe C.Store
+            (engine_of (scheme_of H.Digest.SIZE ⟦<any::Db<F, C, I, H, U, N> as LaidOut>⟧.layout
+            self.name)
+            rules) log log self.any.log.store (store_after store_in result) }
     {
         match self.all_stable() {
             Ok(db) => db.count_pruned(alloc),
@@ -149,7 +165,14 @@ impl<
             (chunks_after N.LEN loc self) self new
             ⊎ HasLeftPruned C.Store ⟦<any::Db<F, C, I, H, U, N> as LaidOut>⟧.layout settled loc self
             new)) self.any.log.store r) }
+        ensures crashes { (rules : Rules Policy) (log : Log)
+            → IsDatabase C.Store ⟦<any::Db<F, C, I, H, U, N> as LaidOut>⟧.layout self log.list
+            → IsCounted C.Store self → IsSafe C.Store
+            (engine_of (scheme_of H.Digest.SIZE ⟦<any::Db<F, C, I, H, U, N> as LaidOut>⟧.layout
+            self.name) rules) log log self.any.log.store (store_after store_in result) }
     {
+        // its clauses say that the log starts where the store does, and that there are at most 2^62 operations
+        self.any.bounds();
         let boundary = self.sync_boundary().get();
         if loc.get() > boundary {
             let error = Error::PruneBeyondMinRequired(loc.get(), boundary);
@@ -228,6 +251,13 @@ impl<
         ensures destroyed { IfOk result (IsDestroyed C.Store self.any.log.store) }
         ensures refused { IfErr result
             (IsGivenUp C.Store (HasLeftDestroyed C.Store) self.any.log.store) }
+        ensures crashes { IfOk result (λ left. (rules : Rules Policy) (log : Log) → IsSafe C.Store
+            (engine_of (scheme_of H.Digest.SIZE ⟦<any::Db<F, C, I, H, U, N> as LaidOut>⟧.layout self.name)
+            rules) log no_log self.any.log.store left) }
+        ensures crashes_failing { IfErr result (λ r. (rules : Rules Policy) (log : Log)
+            → IsSafe C.Store
+            (engine_of (scheme_of H.Digest.SIZE ⟦<any::Db<F, C, I, H, U, N> as LaidOut>⟧.layout self.name)
+            rules) log no_log self.any.log.store (store_given store_in r.given)) }
     {
         let Db { any, .. } = self;
         match any.destroy() {

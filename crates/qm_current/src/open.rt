@@ -4,16 +4,25 @@ ghost use Rattle.std.specs.Prelude.{◌≡◌, ◌==◌, ◌⊎◌, ◌≤◌, �
 ghost use Rattle.std.specs.Option.{option_map_or};
 ghost use Rattle.qm_model.specs.Causes.{IsCause};
 ghost use Rattle.qm_model.specs.Grafted as grafts;
+ghost use Rattle.qm_model.specs.Opening.{opened_list};
 ghost use Rattle.qm_model.specs.Operations.{Operation};
+ghost use Rattle.qm_model.specs.Own.{Log, taken_up};
+ghost use Rattle.qm_model.specs.Policies.{Policy};
+ghost use Rattle.qm_model.specs.Schemes.{engine_of};
 ghost use Rattle.qm_model.specs.StoreModel.{end_of};
+ghost use Rattle.qm_model.specs.Taken.{selected_size};
 ghost use Rattle.qm_model.specs.Trees as trees;
-ghost use Rattle.qm_store.specs.Given.{store_given};
+ghost use Rattle.qm_model.specs.Walk.{Rules};
+ghost use Rattle.qm_offer.specs.Crashing.{IsSafe};
+ghost use Rattle.qm_store.specs.Given.{store_after, store_given};
 ghost use Rattle.qm_store.specs.Log.{IsKept};
 ghost use Rattle.qm_store.specs.Refusals.{IsDue};
 ghost use Rattle.qm_graft.specs.Grafting.{grafting};
 ghost use Rattle.qm_roots.specs.Canonical.{IsCanonical, MayGo};
 ghost use Rattle.qm_any.specs.Applying as applying;
 ghost use Rattle.qm_any.specs.Databases as anys;
+ghost use Rattle.qm_current.specs.Applying.{store_in};
+ghost use Rattle.qm_current.specs.Offered.{scheme_of};
 ghost use Rattle.qm_current.specs.Opening.{Counts, Opens, IsUncounted, IsUnfit, IsUnopened, is_early, lies, refusal_up_to};
 
 use crate::config::Config;
@@ -61,6 +70,12 @@ pub fn init<
     ensures causes { IfErr result (λ r. IsUnopened
         (lies U.form F.shape H.Digest.SIZE N.LEN config.metadata.now) N.LEN max_size (C.start store)
         (C.end store) r.error) }
+    ensures crashes { (rules : Rules Policy) (log : Log)
+        → let m = scheme_of H.Digest.SIZE ⟦<any::Db<F, C, I, H, U, N> as LaidOut>⟧.layout
+        config.metadata.now in
+        IfSome (C.told store) (λ s. IsSafe C.Store (engine_of m rules) log
+        (taken_up (opened_list (selected_size m max_size s) log.list) log) store
+        (store_after store_in result)) }
 {
     // What is stable of it are items that it has.
     store.bounds();

@@ -1,7 +1,9 @@
 use Rattle.std.proofs.Common.{subst₂, inl, ◌∙◌, ap, Err}
 use Rattle.qm_model.proofs.Results.{err-then}
+use Rattle.qm_store.specs.declared.refusal.Given.TheVariants as given
 use Rattle.qm_open.proofs.Checking.{each-known, known-at}
 use Rattle.qm_any.specs.Layouts.{layout_of}
+use Rattle.qm_current.proofs.CrashingOpened.{bounds-of, opened-safe}
 use Rattle.qm_current.proofs.Opening.{opens-behind, opens-unread}
 use Rattle.qm_current.specs.Opening.{IsUnopened, lies}
 use Rattle.qm_current.proofs.open.init.Goals as goal
@@ -29,3 +31,17 @@ returns-in-Ok-clause-causes g c =
 
 pub returns-in-Err-clause-causes : goal.returns-in-Err-clause-causes
 returns-in-Err-clause-causes g c = inl c.in-Err.ensures.causes
+
+pub returns-in-Ok-clause-crashes : goal.returns-in-Ok-clause-crashes
+returns-in-Ok-clause-crashes g c = λ rules log.
+    let layout = layout_of g.N.Chunks.LEN g.H.Digest.Digest.bytes g.H.Hasher g.F.Family g.U.Update g.I.Unordered in
+    let name = c.args.config.metadata.now in
+    opened-safe layout g.H.Digest.Digest.SIZE name rules (bounds-of layout g.H.Digest.Digest.SIZE name g.F.Family.births g.met.F.Family.numbered g.met.F.Family.peaked g.met.F.Graftable.ready g.met.H.Hasher.sized g.met.N.Chunks.least)
+    g.C.Store c.args.max_size c.args.config.instance c.args.store log c.open_counted.result (returns-in-Ok-clause-opens g c)
+
+pub returns-in-Err-clause-crashes : goal.returns-in-Err-clause-crashes
+returns-in-Err-clause-crashes g c = λ rules log.
+    let layout = layout_of g.N.Chunks.LEN g.H.Digest.Digest.bytes g.H.Hasher g.F.Family g.U.Update g.I.Unordered in
+    let name = c.args.config.metadata.now in
+    opened-safe layout g.H.Digest.Digest.SIZE name rules (bounds-of layout g.H.Digest.Digest.SIZE name g.F.Family.births g.met.F.Family.numbered g.met.F.Family.peaked g.met.F.Graftable.ready g.met.H.Hasher.sized g.met.N.Chunks.least)
+    g.C.Store c.args.max_size c.args.config.instance c.args.store log (Err (record { given = given.Store c.counted.new.store; error = c.in-Err.error })) (returns-in-Err-clause-opens g c)

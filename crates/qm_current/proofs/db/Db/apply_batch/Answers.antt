@@ -1,6 +1,7 @@
-use Rattle.std.proofs.Common.{◌≡◌, ◌∙◌, ◌<◌, ◌*◌, suc, true, Err, Ok, ap, ap₂, subst, sym, get_or}
+use Rattle.std.proofs.Common.{◌≡◌, ◌∙◌, ◌++◌, List, ◌<◌, ◌*◌, suc, true, Err, Ok, ap, ap₂, subst, sym, get_or}
 use Rattle.std.specs.Prelude.{Contains}
-use Rattle.qm_model.specs.Batches.{Commitment}
+use Rattle.qm_model.specs.Batches.{Chain, Commitment}
+use Rattle.qm_model.specs.Operations.{Operation}
 use Rattle.qm_model.specs.Causes.{Rose}
 use Rattle.qm_model.specs.StoreModel.{except_items}
 use Rattle.qm_model.proofs.Results.{ok-four}
@@ -12,8 +13,9 @@ use Rattle.qm_any.specs.Layouts.{hashing_of, layout_of}
 use Rattle.qm_any.specs.Applying as anys_applying
 use Rattle.qm_any.specs.Applying.{Appends, IsUnapplied, KeepsRest, can_apply}
 use Rattle.qm_current.specs.Databases.{Database, Made, IsJoined}
-use Rattle.qm_current.specs.Applying.{any_given}
+use Rattle.qm_current.specs.Applying.{any_answer, any_given}
 use Rattle.qm_current.proofs.Applying.{counted-beside, joined-appends, joined-back, joined-rest, joined-unapplied, list-among, on-ok, sized-among, store-given}
+use Rattle.qm_current.proofs.Crashing.{applied-safe, enough-of, places-of}
 use Rattle.qm_current.proofs.db.Db.apply_batch.Goals as goal
 
 pub joined-requires-clause-among : goal.joined-requires-clause-among
@@ -63,6 +65,10 @@ returns-in-Ok g c =
     let rest = subst (λ (d : anys.Database g.row.C.Denot g.row.H-Digest.Denot). KeepsRest members d.log.store next.log.store) any_is c.in-Ok.ensures.rest in
     let is = c.joined.ensures.made in
     let no = c.joined.ensures.refused in
+    let appends : (chain : Chain) (tip : List Operation) → anys.IsMade hashing batch chain tip → Appends members old batch form tip (any_answer r) = λ chain tip made.
+    let making = subst (λ b. anys.IsMade hashing b chain tip) (sym batch_is) made in
+    joined-appends members old batch next r is no form tip fits
+    (subst (λ o. Appends members o batch form tip (Ok next)) any_is (subst (λ b. Appends members c.self.inside.any b form tip (Ok next)) batch_is (c.in-Ok.ensures.appends chain tip making))) in
     record {
       stands = λ list chain tip stands made on.
           let before = subst (λ d. anys.IsDatabase members layout d list) (sym any_is) stands.any in
@@ -84,14 +90,16 @@ returns-in-Ok g c =
           (ap (λ (d : anys.Database g.row.C.Denot g.row.H-Digest.Denot). d.activity.pruned) any ∙ c.in-Ok.ensures.moved.1 ∙ ap (λ (d : anys.Database g.row.C.Denot g.row.H-Digest.Denot). d.activity.pruned) any_is)
           counted);
       fits = on-ok r fits;
-      appends = λ chain tip made.
-          let making = subst (λ b. anys.IsMade hashing b chain tip) (sym batch_is) made in
-          joined-appends members old batch next r is no form tip fits
-          (subst (λ o. Appends members o batch form tip (Ok next)) any_is (subst (λ b. Appends members c.self.inside.any b form tip (Ok next)) batch_is (c.in-Ok.ensures.appends chain tip making)));
+      appends = appends;
       rest = joined-rest members old batch next r is no rest;
       unapplied = joined-unapplied members old batch next r is no rest
           (subst (λ (d : anys.Database g.row.C.Denot g.row.H-Digest.Denot). Rose (members.calls d.log.store) (members.calls next.log.store)) any_is c.in-Ok.ensures.called);
       back = joined-back members old batch next r is no c.args.self;
+      crashes = λ rules log chain more stands made kept.
+          let places = places-of g.F.Family.shape g.F.Family.births g.met.F.Family.numbered g.met.F.Family.peaked in
+          let long = ap (λ (k : Commitment). k.size) stands.any.commitment in
+          applied-safe layout g.H.Digest.Digest.SIZE c.args.self.name rules g.F.Family.births places (enough-of g.N.Chunks.LEN g.met.N.Chunks.least) members c.args.self log more batch long kept r
+          (appends chain (log.list ++ more) made);
     }
 
 pub returns-in-Err : goal.returns-in-Err
@@ -106,15 +114,16 @@ returns-in-Err g c =
     let batch_is = c.deref-2.ensures ∙ ap (λ (b : Made g.row.H-Digest.Denot). b.any) c.batch.view_is in
     let given_is = c.given_back.ensures.any in
     let store_is = store-given c.given_back.result ∙ ap (store_given anys_applying.store_in) given_is in
+    let appends : (chain : Chain) (tip : List Operation) → anys.IsMade hashing batch chain tip → Appends members old batch form tip (Err (record { given = any_given c.given_back.result; error = error })) = λ chain tip made.
+    let making = subst (λ b. anys.IsMade hashing b chain tip) (sym batch_is) made in
+    subst (λ given. Appends members old batch form tip (Err (record { given = given; error = error }))) (sym given_is)
+    (subst (λ o. Appends members o batch form tip (Err c.in-Err.field-0)) any_is (subst (λ b. Appends members c.self.inside.any b form tip (Err c.in-Err.field-0)) batch_is (c.in-Err.ensures.appends chain tip making))) in
     record {
       stands = λ list chain tip stands made on. tt;
       moved = tt;
       counted = λ counted. tt;
       fits = tt;
-      appends = λ chain tip made.
-          let making = subst (λ b. anys.IsMade hashing b chain tip) (sym batch_is) made in
-          subst (λ given. Appends members old batch form tip (Err (record { given = given; error = error }))) (sym given_is)
-          (subst (λ o. Appends members o batch form tip (Err c.in-Err.field-0)) any_is (subst (λ b. Appends members c.self.inside.any b form tip (Err c.in-Err.field-0)) batch_is (c.in-Err.ensures.appends chain tip making)));
+      appends = appends;
       rest = subst (λ s. KeepsRest members old.log.store s) (sym store_is)
           (subst (λ (d : anys.Database g.row.C.Denot g.row.H-Digest.Denot). KeepsRest members d.log.store (store_given anys_applying.store_in c.in-Err.field-0.given)) any_is c.in-Err.ensures.rest);
       unapplied = subst (λ given. IsUnapplied members old batch (record { given = given; error = error })) (sym given_is)
@@ -122,4 +131,9 @@ returns-in-Err g c =
       back = λ x given.
           let same = (c.in-Err.ensures.unapplied.back x.any (sym given_is ∙ ap any_given given)).0 in
           c.given_back.ensures.back x given ∙ ap (λ a. record { any = a; canonical = c.self.inside.canonical; instance = c.self.inside.instance; name = c.self.inside.name.now }) same ∙ c.self.view_is;
+      crashes = λ rules log chain more stands made kept.
+          let places = places-of g.F.Family.shape g.F.Family.births g.met.F.Family.numbered g.met.F.Family.peaked in
+          let long = ap (λ (k : Commitment). k.size) stands.any.commitment in
+          applied-safe (layout_of g.N.Chunks.LEN g.H.Digest.Digest.bytes g.H.Hasher g.F.Family g.U.Update g.I.Unordered) g.H.Digest.Digest.SIZE c.args.self.name rules g.F.Family.births places (enough-of g.N.Chunks.LEN g.met.N.Chunks.least) members c.args.self log more batch long kept (Err (record { given = c.given_back.result; error = error }))
+          (appends chain (log.list ++ more) made);
     }
