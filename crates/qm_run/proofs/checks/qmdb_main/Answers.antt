@@ -11,7 +11,7 @@ use Rattle.qm_run.proofs.checks.qmdb_main.Goals as goal
 pub returns-then-is_check : goal.returns-then-is_check
 returns-then-is_check g c =
     let words = map string_bytes c.args.words.now in
-    let yes = sym c.is_check.ensures ∙ c.then-is_check.true in
+    let yes = sym c.is_check.ensures ∙ c.if-is_check.true in
     let asked = there (check_words words) yes in
     let none = no_other words asked.0 asked.1 in
     let not_run = ap is_some none.0 in
@@ -47,7 +47,7 @@ returns-then-is_check g c =
 pub returns : goal.returns
 returns g c =
     let words = map string_bytes c.args.words.now in
-    let no = sym c.is_check.ensures ∙ c.else-is_check.false in
+    let no = sym c.is_check.ensures ∙ c.if-is_check.false in
     let done = c.run_or_fill.ensures in
     record {
       headline = done.headline;
