@@ -1,21 +1,20 @@
 -- What crashes leave of a current database's store that come inside its calls.
-use Rattle.std.proofs.Common.{◌≡◌, ◌∙◌, ◌⊎◌, inl, inr, ◌++◌, ◌+◌, ◌-◌, ◌*◌, ◌^◌, ◌<◌, ◌≤◌, ℕ, Bool, true, false, List, [], length, drop, map, Option, Some, None, IfSome, Result, Ok, Err, IfOk, IfErr, refl, sym, ap, subst, arith, append-nil, le_refl}
-use Rattle.std.specs.Prelude.{if◌then◌else◌, min, nat_lt, not, is_none, ◌==◌, ◌∷◌}
+use Rattle.std.proofs.Common.{◌≡◌, ◌∙◌, ◌⊎◌, inl, inr, ◌++◌, ◌*◌, ◌^◌, ◌<◌, ◌≤◌, ℕ, Bool, true, false, List, [], length, drop, map, Option, Some, None, IfSome, Result, Ok, Err, IfOk, IfErr, refl, sym, ap, subst, arith, append-nil, le_refl}
+use Rattle.std.specs.Prelude.{if◌then◌else◌, nat_lt, not, is_none, ◌==◌, ◌∷◌}
 use Rattle.std.specs.List.{list_any}
 use Rattle.std.proofs.lemmas.Bool.{ltb-false}
 use Rattle.std.proofs.lemmas.Nat.{mul-le, pow_pos}
 use Rattle.std.proofs.Math.Seq.{take-length, drop-append_seam}
-use Rattle.qm_model.specs.Batches.{Begins}
 use Rattle.qm_model.specs.Families.{Births, HasPeaks, HasPlaces, IsFamily}
 use Rattle.qm_model.specs.Forms.{Form, spelling}
 use Rattle.qm_model.specs.Grafted.{metadata}
 use Rattle.qm_model.specs.Opening.{Chunks, count_bytes, count_in, entries_of, is_wrong_size, metadata_refusal, pins_found, when}
 use Rattle.qm_model.specs.Operations.{Bytes, Operation}
-use Rattle.qm_model.specs.Own.{Engine, Log, no_log, IsOwn, IsBetween, CrashesBetween, CrashLaws, counted, ended_part, settled_list}
+use Rattle.qm_model.specs.Own.{Engine, Log, no_log, IsOwn, IsBetween, CrashesBetween, CrashLaws, ended_part, settled_list}
 use Rattle.qm_model.specs.Own as own
 use Rattle.qm_model.specs.Schemes.{Scheme, engine_of, layout_of}
 use Rattle.qm_model.specs.Step.{ordered, unordered}
-use Rattle.qm_model.specs.StoreModel.{Entry, Stored, metadata_in, rest_of, settled, with_metadata, destroyed, DestroyLeaves, Becomes, Leaves, Grows, Turns, appended}
+use Rattle.qm_model.specs.StoreModel.{Entry, Stored, metadata_in, rest_of, settled, with_metadata, destroyed, DestroyLeaves, Becomes, Leaves, Grows, appended}
 use Rattle.qm_model.specs.Trees.{Shape, peaks}
 use Rattle.qm_merkle.proofs.Standing.{peaks-none}
 use Rattle.qm_model.specs.Walk.{Rules}
@@ -26,12 +25,9 @@ use Rattle.qm_model.proofs.MmbFamily.{log_least}
 use Rattle.qm_model.proofs.Openings.{all_pass, ended-whole, not_when, ordered-keeps, unordered-keeps}
 use Rattle.qm_model.proofs.Speaking.{peaks_few}
 use Rattle.qm_model.specs.Refused.{CountNotValid, CountTooLarge, MissingPin, InvalidPin}
-use Rattle.qm_model.proofs.Results.{ok-then, err-then}
 use Rattle.qm_model.proofs.Stores.{metadata_in-same}
 use Rattle.qm_graft.specs.Grafting.{grafting}
 use Rattle.qm_store.specs.declared.Store as store
-use Rattle.qm_store.specs.declared.refusal.Given.{Given}
-use Rattle.qm_store.specs.declared.refusal.Given.TheVariants as variants
 use Rattle.qm_store.specs.declared.refusal.Refusal.{Refusal}
 use Rattle.qm_store.specs.Given.{store_after, store_given, Appended, AppendedPart}
 use Rattle.qm_offer.specs.Crashing.{IsSafe}
@@ -40,7 +36,7 @@ use Rattle.qm_any.specs.Applying.{Appends, can_apply, lacked}
 use Rattle.qm_any.specs.Databases as anys
 use Rattle.qm_any.specs.Lasting.{HasLeftStable, IsGivenUp}
 use Rattle.qm_any.specs.Layouts.{Layout}
-use Rattle.qm_any.proofs.Crashing.{Safe, commit-crashes, crashes-widened, either, failed-commit-crashes, turn-safe, unmoved-crashes}
+use Rattle.qm_any.proofs.Crashing.{Safe, commit-crashes, crashes-widened, failed-commit-crashes, turn-safe}
 use Rattle.qm_current.specs.Applying.{any_answer, any_given, store_in}
 use Rattle.qm_current.specs.Databases.{Database, IsCounted, IsDatabase}
 use Rattle.qm_current.specs.Lasting.{AreEntries, FailsPut, HasCounted, HasLeftUncounted}

@@ -1,6 +1,6 @@
 -- What crashes leave of a current database's store that come inside an opening.
-use Rattle.std.proofs.Common.{◌≡◌, ◌⊎◌, inl, inr, ◌++◌, ◌-◌, ◌<◌, ◌≤◌, ◌*◌, ◌/◌, ◌^◌, ℕ, zero, suc, Bool, true, false, List, [], ◌∷◌, length, take, drop, map, min, Option, Some, None, IfSome, Result, Ok, Err, ap, ◌∙◌, sym, subst, refl, arith, append_assoc, Contains}
-use Rattle.std.specs.Prelude.{IsSome, if◌then◌else◌}
+use Rattle.std.proofs.Common.{◌≡◌, ◌⊎◌, inl, inr, ◌++◌, ◌-◌, ◌<◌, ◌≤◌, ◌*◌, ◌/◌, ◌^◌, ℕ, zero, suc, List, [], ◌∷◌, length, take, drop, map, min, Option, Some, None, IfSome, Result, Ok, Err, ap, ◌∙◌, sym, subst, refl, arith, append_assoc, Contains}
+use Rattle.std.specs.Prelude.{IsSome}
 use Rattle.std.proofs.lemmas.List.{take-append-le}
 use Rattle.std.proofs.lemmas.List.Elements.{Contains-append_cases}
 use Rattle.qm_model.specs.Batches.{Begins}
@@ -9,7 +9,7 @@ use Rattle.qm_model.specs.Forms.{spelling}
 use Rattle.qm_model.specs.Grafted.{boundary}
 use Rattle.qm_model.specs.Opening.{found, opened_list, opening_refusal}
 use Rattle.qm_model.specs.Operations.{Bytes, Operation, fresh, IsCommitEnded}
-use Rattle.qm_model.specs.Own.{Engine, Log, no_log, taken_up, IsOwn, IsBetween, CrashesBetween, CrashLaws, settled_list}
+use Rattle.qm_model.specs.Own.{Engine, Log, taken_up, IsOwn, IsBetween, CrashesBetween, CrashLaws, settled_list}
 use Rattle.qm_model.specs.Own as own
 use Rattle.qm_model.specs.Refused.{Refused}
 use Rattle.qm_model.specs.Schemes.{HasBounds, Scheme, engine_of, layout_of}

@@ -1,5 +1,5 @@
 -- What crashes leave of a current database's store that come inside a prune.
-use Rattle.std.proofs.Common.{◌≡◌, ◌∙◌, ◌⊎◌, inl, inr, ◌++◌, ◌<◌, ◌≤◌, ◌*◌, ◌/◌, ◌^◌, ℕ, suc, ⊎_elim, Bool, true, false, List, [], ◌∷◌, length, map, Option, Some, None, IfSome, Result, Ok, Err, IfOk, IfErr, refl, sym, ap, subst, arith, append_assoc, le_refl, Contains}
+use Rattle.std.proofs.Common.{◌≡◌, ◌∙◌, ◌⊎◌, inl, inr, ◌++◌, ◌<◌, ◌≤◌, ◌*◌, ◌/◌, ◌^◌, ℕ, ⊎_elim, Bool, true, false, List, [], ◌∷◌, length, map, Option, Some, None, IfSome, Result, Ok, Err, IfOk, IfErr, refl, sym, ap, subst, arith, append_assoc, le_refl, Contains}
 use Rattle.std.specs.Prelude.{if◌then◌else◌, max, nat_lt}
 use Rattle.std.proofs.Math.Nat.{div-mul-le_self, le_trans, max-eq_left, max-eq_right}
 use Rattle.std.proofs.Math.Seq.{take-length}
@@ -15,7 +15,7 @@ use Rattle.qm_model.specs.Operations.{Bytes}
 use Rattle.qm_model.specs.Own.{Engine, Log, IsOwn, IsBetween, CrashesBetween, CrashLaws, ended_part, settled_list}
 use Rattle.qm_model.specs.Own as own
 use Rattle.qm_model.specs.Schemes.{engine_of}
-use Rattle.qm_model.specs.StoreModel.{Entry, Rest, Stored, end_of, found_by, pruned, rest_of, settled, since, with_metadata, Fails, IsCrash, IsImage, IsOldOrNew, MayBeLeft, ReadsAs}
+use Rattle.qm_model.specs.StoreModel.{Entry, Rest, Stored, end_of, found_by, pruned, rest_of, settled, since, with_metadata, Fails, IsImage, IsOldOrNew, ReadsAs}
 use Rattle.qm_model.specs.Trees.{Shape, peaks}
 use Rattle.qm_model.specs.Walk.{Rules}
 use Rattle.qm_model.proofs.Chains.{Begins-length}

@@ -9,7 +9,7 @@ use Rattle.qm_model.specs.StoreModel.{Entry, Stored, end_of, metadata_in, with_m
 use Rattle.qm_model.proofs.LastWrites.{bytes_same}
 use Rattle.qm_model.proofs.Numbers.{number_of_eight-eight_bytes}
 use Rattle.qm_model.proofs.Results.{err-then, ok-then}
-use Rattle.qm_model.proofs.Stores.{leaves-now, metadata_in-same}
+use Rattle.qm_model.proofs.Stores.{metadata_in-same}
 use Rattle.qm_base.specs.declared.error.Error.TheVariants as errors
 use Rattle.qm_bits.specs.Bitmaps.{Bitmap, bit_count}
 use Rattle.qm_store.specs.declared.Store as store
