@@ -156,6 +156,10 @@ filled-chunks kind fill asked none is = ap (λ k. option_and_then chunks_of (mac
 pub if_none : {A : Type 0} (o : Option A) (Q : A → Type 0) → o ≡ None → IfSome o Q
 if_none o Q is = subst (λ x. IfSome x Q) (sym is) tt
 
+-- what is said of what is there
+pub if_there : {A : Type 0} (o : Option A) (x : A) (Q : A → Type 0) → o ≡ Some x → IfSome o Q → Q x
+if_there o x Q is given = subst (λ y. IfSome y Q) is given
+
 pub if_some : {A : Type 0} (o : Option A) (x : A) (Q : A → Type 0) → o ≡ Some x → Q x → IfSome o Q
 if_some o x Q is given = subst (λ y. IfSome y Q) (sym is) given
 

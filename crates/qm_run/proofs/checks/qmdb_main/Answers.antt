@@ -1,11 +1,11 @@
 -- A check calls no store; of other words its clauses say nothing.
-use Rattle.std.proofs.Common.{◌≡◌, ap, sym, subst, ◌∙◌, refl, inl, inr, [], map, IfSome, ⊎_elim}
+use Rattle.std.proofs.Common.{◌≡◌, ap, sym, subst, ◌∙◌, refl, [], map, ⊎_elim}
 use Rattle.std.specs.Prelude.{is_some}
 use Rattle.std.specs.String.{string_bytes}
 use Rattle.std.proofs.lemmas.Bool.{false≢true}
 use Rattle.qm_engine.proofs.LastingStores.{turns-self}
 use Rattle.qm_run.specs.Program.{check_words, kind_of_words, fill_words, chunks_named}
-use Rattle.qm_run.proofs.Sayings.{at_none, if_none, if_some, or_none, or_right, or_first, there, not_there, no_other, checked-numbers}
+use Rattle.qm_run.proofs.Sayings.{at_none, if_none, if_there, or_none, or_right, or_first, there, not_there, no_other, checked-numbers}
 use Rattle.qm_run.proofs.checks.qmdb_main.Goals as goal
 
 pub returns-then-is_check : goal.returns-then-is_check
@@ -16,7 +16,7 @@ returns-then-is_check g c =
     let none = no_other words asked.0 asked.1 in
     let not_run = ap is_some none.0 in
     let not_fill = ap is_some none.1 in
-    let checked = subst (λ o. IfSome o _) asked.1 c.check.ensures.checked in
+    let checked = if_there (check_words words) asked.0 _ asked.1 c.check.ensures.checked in
     let few = checked-numbers checked.statuses in
     record {
       headline = at_none (kind_of_words words) _ none.0;
