@@ -115,8 +115,7 @@ fn answer(words: &[String]) -> Option<&'static str> {
 // What a status other than 0 says.
 fn reason(status: u8) -> &'static str {
     match status {
-        OTHER_WORDS =>
-            "unknown arguments; qmdb --help tells which there are",
+        OTHER_WORDS => "unknown arguments; qmdb --help tells which there are",
         2 => "bad line, whose number the last line of the output has, or no proof",
         NOT_READ => "the input cannot be read",
         NOT_WRITTEN => "the output cannot be written",
