@@ -5,3 +5,4 @@ pub mod Turns
 pub mod Asking
 pub mod Crews
 pub mod Answering
+mod Located
