@@ -6,3 +6,4 @@ pub mod Asking
 pub mod Crews
 pub mod Answering
 mod Located
+pub mod Owners
