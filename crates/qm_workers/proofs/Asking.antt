@@ -121,6 +121,7 @@ done-told index_key ops final most at key old new tells own has =
     subst (HasDone index_key ops final most) (sym tells.same) (record {
       places = has.places;
       indexed = has.indexed;
+      located = has.located;
       apart = has.apart;
       stand = has.stand;
       counted = has.counted;
@@ -131,7 +132,7 @@ done-told index_key ops final most at key old new tells own has =
     })
 
 pub within-told : (from to at : ℕ) (key : Option Bytes) (old new : Work) → IsTold at key old new → IsWithin from to old → IsWithin from to new
-within-told from to at key old new tells within = subst (IsWithin from to) (sym tells.same) (record { standing = within.standing; coming = within.coming })
+within-told from to at key old new tells within = subst (IsWithin from to) (sym tells.same) (record { standing = within.standing; located = within.located; coming = within.coming })
 
 -- An operation more to do.
 
@@ -158,6 +159,7 @@ done-last index_key ops final most w m has own =
     record {
       places = has.places;
       indexed = has.indexed;
+      located = has.located;
       apart = has.apart;
       stand = has.stand;
       counted = has.counted;
@@ -168,7 +170,7 @@ done-last index_key ops final most w m has own =
     }
 
 pub within-last : (from to : ℕ) (w : Work) (m : Move) → IsWithin from to w → (from ≤ m.at) × (m.at < to) → IsWithin from to (with_last m w)
-within-last from to w m within here = record { standing = within.standing; coming = last-of (λ n. (from ≤ n.at) × (n.at < to)) w.coming m within.coming here }
+within-last from to w m within here = record { standing = within.standing; located = within.located; coming = last-of (λ n. (from ≤ n.at) × (n.at < to)) w.coming m within.coming here }
 
 -- the key of an update is its key
 pub key-update : (op : Operation) → is_update op ≡ true → key_of op ≡ update_key op

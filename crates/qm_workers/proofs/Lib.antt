@@ -5,3 +5,5 @@ pub mod Turns
 pub mod Asking
 pub mod Crews
 pub mod Answering
+mod Located
+pub mod Owners

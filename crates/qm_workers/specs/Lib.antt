@@ -1,3 +1,4 @@
 pub mod Known
 pub mod Working
 pub mod Answering
+pub mod Sharing

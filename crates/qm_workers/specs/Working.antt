@@ -1,5 +1,5 @@
 -- What a worker is, how far it is with its operations, and what becomes of it in a turn.
-use Rattle.std.specs.Prelude.{◌≡◌, ◌≢◌, ℕ, suc, ◌+◌, ◌*◌, ◌^◌, ◌<◌, ◌≤◌, Bool, true, false, if◌then◌else◌, List, [], ◌∷◌, ◌++◌, length, map, count_by, Contains, Option, None, Some, is_none}
+use Rattle.std.specs.Prelude.{◌≡◌, ◌≢◌, ◌⊎◌, ◌↔◌, ℕ, suc, ◌+◌, ◌*◌, ◌^◌, ◌<◌, ◌≤◌, Bool, true, false, if◌then◌else◌, List, [], ◌∷◌, ◌++◌, length, map, count_by, Contains, Option, None, Some, is_none}
 use Rattle.std.specs.Bool.{then_some}
 use Rattle.qm_model.specs.Operations.{Bytes, Operation}
 use Rattle.qm_index.specs.Buckets.{bucket_at}
@@ -18,9 +18,10 @@ pub record Move : Type 0 where
   pub key : Bytes
   pub is_update : Bool
 
--- a worker: its index, what keys it knows, the operations that it has to do, how many keys are live in its index, and whether it lacked memory
+-- a worker: its index, the locations that stand in it, what keys it knows, the operations that it has to do, how many keys are live in its index, and whether it lacked memory
 pub record Work : Type 0 where
   pub entries : List (ℕ × List ℕ)
+  pub located : List ℕ
   pub known : Knowledge
   pub coming : List Move
   pub live : ℕ
@@ -30,7 +31,7 @@ abbrev pub move_of : {K : Type 0} → (K → Bytes) → Task K → Move
 move_of bytes t = record { at = t.at; key = bytes t.key; is_update = t.is_update }
 
 abbrev pub work_of : {I K : Type 0} → (I → List (ℕ × List ℕ)) → (K → Bytes) → Worker I K → Work
-work_of entries bytes w = record { entries = entries w.index; known = knowledge bytes w.keys; coming = map (move_of bytes) w.coming.items; live = w.live; failed = w.failed }
+work_of entries bytes w = record { entries = entries w.index; located = w.located.keys; known = knowledge bytes w.keys; coming = map (move_of bytes) w.coming.items; live = w.live; failed = w.failed }
 
 -- where keys stand after these operations
 abbrev pub after : Places → List Move → Places
@@ -64,6 +65,7 @@ with_last m w = record w { coming = w.coming ++ m ∷ [] }
 -- a worker that has done nothing, has nothing to do and knows no keys
 pub record IsNew (w : Work) : Type 0 where
   pub entries : w.entries ≡ []
+  pub located : w.located ≡ []
   pub coming : w.coming ≡ []
   pub live : w.live ≡ 0
   pub failed : w.failed ≡ false
@@ -77,7 +79,14 @@ pub record IsTold (at : ℕ) (key : Option Bytes) (old new : Work) : Type 0 wher
 -- all its locations, and those of its operations, are within these bounds
 pub record IsWithin (from to : ℕ) (w : Work) : Type 0 where
   pub standing : AreWithin from to w.entries
+  pub located : (at : ℕ) → Contains w.located at → (from ≤ at) × (at < to)
   pub coming : (m : Move) → Contains w.coming m → (from ≤ m.at) × (m.at < to)
+
+-- which locations stand once an update stands at this one, if it is one, in the place of that which was found
+pub record IsReplaced (found now : Option ℕ) (old new : List ℕ) : Type 0 where
+  pub there : (at : ℕ) → now ≡ Some at → Contains new at
+  pub kept : (at : ℕ) → Contains old at → found ≢ Some at → Contains new at
+  pub from : (at : ℕ) → Contains new at → (now ≡ Some at) ⊎ (Contains old at × (found ≢ Some at))
 
 -- how many of these locations have a key that is not known
 abbrev pub unknown : Knowledge → List ℕ → ℕ
@@ -110,6 +119,7 @@ module _ (index_key : Bytes → ℕ) where
   pub record HasDone (ops : List Operation) (final : Places) (most : ℕ) (w : Work) : Type 0 where
     pub places : Places
     pub indexed : HasPlaces index_key w.entries places
+    pub located : (at : ℕ) → Contains w.located at ↔ Contains (map (λ p. p.1) places) at
     pub apart : AreApart places
     pub stand : (p : Bytes × ℕ) → Contains places p → key_at ops p.1 ≡ Some p.0
     pub counted : w.live ≡ length places

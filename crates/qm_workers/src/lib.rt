@@ -4,6 +4,7 @@
 pub mod keys;
 pub mod look;
 pub mod round;
+pub mod sharing;
 #[cfg(test)]
 mod tests;
 pub mod worker;

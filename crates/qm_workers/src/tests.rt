@@ -25,6 +25,7 @@ fn a_worker_asks(rt: HostRuntime) -> Result<(), Fail> {
     // it knew its own keys of the round, and forgot them after it
     assert!(rt; worker.asked().is_none());
     assert!(rt; worker.live() == 2);
+    assert!(rt; worker.places(alloc, 0)?.as_slice() == [0, 1].as_slice());
     worker.assign(2, key(alloc, 1)?, true)?;
     worker.assign(3, key(alloc, 2)?, false)?;
     worker.turn(&OpenGate, 0);
@@ -36,6 +37,7 @@ fn a_worker_asks(rt: HostRuntime) -> Result<(), Fail> {
     worker.turn(&OpenGate, 0);
     assert!(rt; worker.asked().is_none());
     assert!(rt; worker.live() == 1);
+    assert!(rt; worker.places(alloc, 1)?.as_slice() == [1].as_slice());
     assert!(rt; !worker.is_failed());
     Ok(())
 }

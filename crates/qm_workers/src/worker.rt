@@ -1,12 +1,13 @@
 //! A worker: it does the operations of its keys, one after the other, and stops where it has to ask.
 
-ghost use Rattle.std.specs.Prelude.{◌≡◌, ◌≢◌, ◌⊎◌, ◌+◌, ◌*◌, ◌<◌, ◌^◌, ℕ, suc, Some, true, false, List, ◌∷◌, [], length, map, option_map, slice_get, IfSome, IfOk, OnOk};
+ghost use Rattle.std.specs.Prelude.{◌≡◌, ◌≢◌, ◌⊎◌, ◌+◌, ◌-◌, ◌*◌, ◌<◌, ◌^◌, ℕ, suc, Some, None, true, false, List, ◌∷◌, [], length, map, option_map, slice_get, IfSome, IfOk, OnOk};
+ghost use Rattle.std.specs.Bool.{then_some};
 ghost use Rattle.qm_model.specs.Operations as model;
 ghost use Rattle.qm_index.specs.Buckets.{bucket_at};
 ghost use Rattle.qm_index.specs.Places.{Places};
 ghost use Rattle.qm_build.specs.Building.{key_at, IsFound, counted_after};
 ghost use Rattle.qm_workers.specs.Known.{knowledge, IsTrueOf, KnowsNoMore};
-ghost use Rattle.qm_workers.specs.Working.{move_of, work_of, front_sought, asked, Goes, Stays, Does, IsFront, sought, left_of, IsNew, IsTold, with_last};
+ghost use Rattle.qm_workers.specs.Working.{move_of, work_of, front_sought, asked, Goes, Stays, Does, IsFront, sought, left_of, IsNew, IsTold, IsReplaced, with_last};
 
 use crate::keys::Keys;
 use crate::look::{Sought, seek};
@@ -15,7 +16,7 @@ use qm_build::{Found, move_key};
 use qm_crew::Turning;
 use qm_index::Unordered;
 use std::alloc::{AllocError, Global};
-use std::collections::VecDeque;
+use std::collections::{BTreeSet, VecDeque};
 
 /// An operation that a worker has to do: where it stands, its key, and whether it is an update.
 #[derive(Drop)]
@@ -29,6 +30,7 @@ pub struct Task<K> {
 #[derive(Drop)]
 pub struct Worker<I, K> {
     index: I,
+    located: BTreeSet<u64>,
     keys: Keys<K>,
     coming: VecDeque<Task<K>>,
     live: u64,
@@ -46,6 +48,7 @@ impl<F, I: Unordered<Value = Location<F>> + Drop, K: ByteString> Worker<I, K> {
         let keys = Keys::new(alloc, kept_keys)?;
         Ok(Worker {
             index,
+            located: BTreeSet::new(alloc),
             keys,
             coming: VecDeque::new(alloc),
             live: 0,
@@ -154,6 +157,7 @@ impl<F, I: Unordered<Value = Location<F>> + Drop, K: ByteString> Worker<I, K> {
         let Task { at, key, is_update } = task;
         let now = is_update.then_some(Location::new(at));
         move_key(&mut self.index, key.as_bytes(), found, now)?;
+        replace(&mut self.located, at, found, is_update)?;
         self.live = counted(self.live, found, is_update);
         let is_last = self.coming.is_empty();
         remember(&mut self.keys, at, key, found, is_update, is_last)?;
@@ -191,6 +195,18 @@ impl<F, I: Unordered<Value = Location<F>> + Drop, K: ByteString> Worker<I, K> {
         ensures { result ≡ (work_of I.entries K.bytes self.now).live }
     {
         self.live
+    }
+
+    /// The locations that stand in its index, each less the floor. Want of memory is the only error.
+    pub fn places(&self, alloc: Global, floor: u64) -> Result<Vec<u64>, AllocError>
+        ensures { IfOk result (λ places. places.items
+            ≡ map (λ at. at - floor) (work_of I.entries K.bytes self.now).located) }
+    {
+        let mut places = Vec::new(alloc);
+        for location in &self.located {
+            places.push(location.saturating_sub(floor))?;
+        }
+        Ok(places)
     }
 
     /// Its index.
@@ -231,6 +247,41 @@ fn counted(live: u64, found: Option<Found>, is_update: bool) -> u64
         (Some(_), false) => live.saturating_sub(1),
         _ => live,
     }
+}
+
+// Puts the location of an update in the place of that which was found.
+fn replace(
+    located: &mut BTreeSet<u64>,
+    at: u64,
+    found: Option<Found>,
+    is_update: bool,
+) -> Result<(), AllocError>
+    ensures { OnOk result (IsReplaced (option_map (λ f. f.location) found)
+        (then_some is_update at) located.old.keys located.new.keys) }
+{
+    take_out(located, found);
+    put_in(located, at, is_update)
+}
+
+// Takes out the location that was found.
+fn take_out(located: &mut BTreeSet<u64>, found: Option<Found>)
+    ensures { IsReplaced (option_map (λ f. f.location) found) None located.old.keys
+        located.new.keys }
+{
+    if let Some(found) = found {
+        located.remove(&found.location);
+    }
+}
+
+// Puts in the location of an update.
+fn put_in(located: &mut BTreeSet<u64>, at: u64, is_update: bool) -> Result<(), AllocError>
+    ensures { OnOk result (IsReplaced None (then_some is_update at) located.old.keys
+        located.new.keys) }
+{
+    if is_update {
+        located.insert(at)?;
+    }
+    Ok(())
 }
 
 // Forgets the key of the update that was found, and learns that of an update; after the last operation of a round what the cache has room for stays.

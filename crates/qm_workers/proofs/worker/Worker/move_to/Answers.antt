@@ -36,15 +36,17 @@ returns g c =
       coming = refl;
       failed = refl;
       within = λ from to within. within-next from to m old _ within refl (λ standing.
-          c.in_ok-move_key.ensures.within from to standing (subst (λ o. IfSome o (λ at. (from ≤ at) × (at < to))) (sym now_is) (now-within from to m old within)));
+          c.in_ok-move_key.ensures.within from to standing (subst (λ o. IfSome o (λ at. (from ≤ at) × (at < to))) (sym now_is) (now-within from to m old within)))
+          found c.in_ok-replace.ensures;
       done = λ ops final most bound has.
-          done-next index_key ops final most old m old.coming found new (knowledge bytes c.remember.new.keys) c.counted-self.result old.failed bound has
+          done-next index_key ops final most old m old.coming found new c.replace.new.located.keys (knowledge bytes c.remember.new.keys) c.counted-self.result old.failed bound has
           (front-found ops k has.known key bucket c.args.found c.requires)
           (found-contained bucket c.args.found (front-place k key bucket c.args.found c.requires))
           (λ ps apart places stands.
           subst (λ bs. HasPlaces index_key new (moved ps bs (then_some m.is_update m.at))) c.as_bytes.ensures.value
           (subst (λ o. HasPlaces index_key new (moved ps c.as_bytes.result.now o)) now_is
           (c.in_ok-move_key.ensures.moved ps apart places (ap (place_of ps) c.as_bytes.ensures.value ∙ stands))))
+          c.in_ok-replace.ensures
           c.counted-self.ensures
           (λ are own. c.in_ok-remember.ensures ops are own);
     }

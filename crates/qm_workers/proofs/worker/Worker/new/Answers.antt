@@ -5,7 +5,8 @@ use Rattle.qm_workers.proofs.worker.Worker.new.Goals as goal
 pub returns : goal.returns
 returns g c = record {
   entries = c.requires;
-  coming = ap (map (move_of g.K.ByteString.bytes)) c.new-2.ensures.items;
+  located = c.new-2.ensures.empty;
+  coming = ap (map (move_of g.K.ByteString.bytes)) c.new-3.ensures.items;
   live = refl;
   failed = refl;
   known = c.in_ok-keys.ensures;
